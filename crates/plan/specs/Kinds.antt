@@ -1,0 +1,29 @@
+-- The kinds: how many children each allows, and its border. Assumes nothing.
+use mathlib.Core.Bool.{Bool, true, false, _&&_}
+use Prim.Native.Nat.{ℕ, zero, suc}
+use lib.Dec.{leb}
+use Rattle.plan.specs.Limits.{most-children}
+use Rattle.plan.specs.declared.Lookup.{Lookup}
+use Rattle.plan.specs.declared.Lookup.the-variants.{Known, Unknown}
+
+-- 1 step, 2 run, 3 repeat, 4 choice, 5 wait
+unfoldable pub about : ℕ → Lookup
+about zero = Unknown
+about (suc zero) = Known (record { fewest = 0; most = 0; border = 2 })
+about (suc (suc zero)) = Known (record { fewest = 1; most = most-children; border = 2 })
+about (suc (suc (suc zero))) = Known (record { fewest = 1; most = 1; border = 4 })
+about (suc (suc (suc (suc zero)))) = Known (record { fewest = 2; most = most-children; border = 4 })
+about (suc (suc (suc (suc (suc zero))))) = Known (record { fewest = 0; most = 1; border = 2 })
+about (suc (suc (suc (suc (suc (suc k)))))) = Unknown
+
+-- question 7
+unfoldable pub known : ℕ → Bool
+known k = elim (about k) [ Known r ↦ true | Unknown ↦ false ]
+
+-- question 11: n children are allowed
+unfoldable pub allows : ℕ → ℕ → Bool
+allows k n = elim (about k) [ Known r ↦ leb (r .fewest) n && leb n (r .most) | Unknown ↦ false ]
+
+-- question 10: "border", the least units that the width must exceed the label by
+unfoldable pub border-of : ℕ → ℕ
+border-of k = elim (about k) [ Known r ↦ r .border | Unknown ↦ 0 ]

@@ -1,0 +1,13 @@
+pub mod Limits
+pub mod Lists
+pub mod Plan
+pub mod Kinds
+pub mod Columns
+pub mod Questions
+pub mod Fit
+pub mod ListLaws
+pub mod PlanLaws
+pub mod Paths
+pub mod Siblings
+pub mod Sums
+pub mod Bottoms

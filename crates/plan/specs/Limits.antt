@@ -1,0 +1,69 @@
+-- The limits of document 01, each named once. Assumes nothing.
+use Prim.Native.Nat.{ℕ}
+
+-- cells of a table (question 4)
+abbrev pub most-cells : ℕ
+most-cells = 256
+
+-- W and D of a box (question 8)
+abbrev pub most-width : ℕ
+most-width = 255
+
+abbrev pub most-depth : ℕ
+most-depth = 15
+
+-- children of a parent (question 11)
+abbrev pub most-children : ℕ
+most-children = 16
+
+-- edges to the root (question 12)
+abbrev pub most-level : ℕ
+most-level = 31
+
+-- the last row that a box may reach (question 13: the rows are at most one more)
+abbrev pub last-row : ℕ
+last-row = 255
+
+-- the allowance (question 14)
+abbrev pub most-allowance : ℕ
+most-allowance = 65535
+
+-- a coordinate, either way (question 15)
+abbrev pub farthest : ℕ
+farthest = 65535
+
+-- numbers of 32 bits in Layout's scratch (question 1)
+abbrev pub scratch-size : ℕ
+scratch-size = 16384
+
+-- bytes of a file (question 2)
+abbrev pub least-file : ℕ
+least-file = 16
+
+abbrev pub most-file : ℕ
+most-file = 16384
+
+-- the file's mark, hexadecimal 53 54, low byte first (question 3)
+abbrev pub file-mark : ℕ
+file-mark = 0x5453
+
+-- bytes of a record and of the trailer (question 4)
+abbrev pub record-size : ℕ
+record-size = 8
+
+abbrev pub trailer-size : ℕ
+trailer-size = 8
+
+-- a label's bytes (question 5) and length (question 9)
+abbrev pub first-letter : ℕ
+first-letter = 32
+
+abbrev pub last-letter : ℕ
+last-letter = 126
+
+abbrev pub most-label : ℕ
+most-label = 40
+
+-- the parent of the root (question 6)
+abbrev pub no-parent : ℕ
+no-parent = 65535

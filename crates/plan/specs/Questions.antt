@@ -1,0 +1,219 @@
+-- Document 01, "Calls and their questions": THE sequence of questions, what each asks, and which of them each call puts.
+-- A call's refusal is the first "no". Every definition computes. Assumes nothing.
+use mathlib.Core.List.{List, [], _∷_, _++_}
+use mathlib.Core.Bool.{Bool, true, false, _&&_, not, cond}
+use Prim.Native.Nat.{ℕ, zero, suc, _+_, _*_}
+use lib.ListN.{length, getD}
+use lib.Dec.{eqb, leb, ltb}
+use lib.IntN.{ℤ, pos, negℤ}
+use lib.Signed.{leZ}
+use Rattle.plan.specs.Limits.{most-cells, most-width, most-depth, most-level, last-row, most-allowance, farthest, scratch-size, least-file, most-file, file-mark, record-size, trailer-size, first-letter, last-letter, most-label, no-parent}
+use Rattle.plan.specs.Lists.{from, mem}
+use Rattle.plan.specs.Plan.{Table, parent, kind, W, D, children, level, row}
+use Rattle.plan.specs.Kinds.{known, allows, border-of}
+use Rattle.plan.specs.declared.Refusal.{Refusal}
+
+-- ---- what a call is given
+-- the length of a lent buffer, where the call has that buffer
+pub data Lent : Type 0 where
+  absent : Lent
+  long : ℕ → Lent
+
+-- the part of the file's label bytes that is a cell's label
+pub record Label : Type 0 where
+  pub start : ℕ
+  pub size : ℕ
+
+-- what a plan file says beside its table and allowance
+pub record File : Type 0 where
+  pub size : ℕ
+  pub mark : ℕ
+  pub bytes : List ℕ
+  pub labels : List Label
+
+-- a table lent, or a table in a file
+pub data Source : Type 0 where
+  lent : Source
+  file : File → Source
+
+pub record Given : Type 0 where
+  pub source : Source
+  pub table : Table
+  pub allowance : ℕ
+  -- a table to fill, Layout's scratch, positions: their lengths; and the numbers in the positions
+  pub to-fill : Lent
+  pub scratch : Lent
+  pub positions : Lent
+  pub coordinates : List ℤ
+  pub named : ℕ
+
+-- ---- the sequence
+pub data Question : Type 0 where
+  buffers-long file-sized file-marked cells-counted positions-long letters-printable : Question
+  parent-lower kind-known box-sized label-inside label-fits : Question
+  children-allowed level-low rows-few allowance-small coordinates-near cell-named : Question
+
+-- document 01's number, which a refusal returns
+unfoldable pub number : Question → ℕ
+number buffers-long = 1
+number file-sized = 2
+number file-marked = 3
+number cells-counted = 4
+number positions-long = 1
+number letters-printable = 5
+number parent-lower = 6
+number kind-known = 7
+number box-sized = 8
+number label-inside = 9
+number label-fits = 10
+number children-allowed = 11
+number level-low = 12
+number rows-few = 13
+number allowance-small = 14
+number coordinates-near = 15
+number cell-named = 16
+
+-- a question put once, or questions put to each cell in turn
+pub data Step : Type 0 where
+  once : Question → Step
+  each : List Question → Step
+
+unfoldable pub sequence : List Step
+sequence =
+    once buffers-long
+    ∷ once file-sized
+    ∷ once file-marked
+    ∷ once cells-counted
+    ∷ once positions-long
+    ∷ once letters-printable
+    ∷ each (parent-lower ∷ kind-known ∷ box-sized ∷ label-inside ∷ label-fits ∷ [])
+    ∷ each (children-allowed ∷ [])
+    ∷ each (level-low ∷ [])
+    ∷ each (rows-few ∷ [])
+    ∷ once allowance-small
+    ∷ each (coordinates-near ∷ [])
+    ∷ once cell-named
+    ∷ []
+
+-- ---- the calls
+pub data Call : Type 0 where
+  read label layout check ends : Call
+
+-- the numbers of the questions that a call puts
+unfoldable pub puts : Call → List ℕ
+puts read = from 1 14
+puts label = from 2 13 ++ 16 ∷ []
+puts layout = 1 ∷ 4 ∷ 6 ∷ 7 ∷ 8 ∷ 11 ∷ 12 ∷ 13 ∷ 14 ∷ []
+puts check = 1 ∷ 4 ∷ 6 ∷ 7 ∷ 8 ∷ 11 ∷ 12 ∷ 13 ∷ 14 ∷ 15 ∷ []
+puts ends = 1 ∷ 4 ∷ 6 ∷ 7 ∷ 8 ∷ 11 ∷ 12 ∷ 13 ∷ 15 ∷ 16 ∷ []
+
+-- whether the root may be named
+unfoldable pub root-too : Call → Bool
+root-too ends = false
+root-too read = true
+root-too label = true
+root-too layout = true
+root-too check = true
+
+-- ---- what each question asks
+abbrev pub between : ℕ → ℕ → ℕ → Bool
+between low high n = leb low n && leb n high
+
+unfoldable pub enough : Lent → ℕ → Bool
+enough absent n = true
+enough (long m) n = leb n m
+
+unfoldable pub in-file : Source → (File → Bool) → Bool
+in-file lent test = true
+in-file (file f) test = test f
+
+unfoldable pub every : (ℕ → Bool) → List ℕ → Bool
+every test [] = true
+every test (v ∷ vs) = let r = every test vs in cond (test v) r false
+
+abbrev pub no-label : Label
+no-label = record { start = 0; size = 0 }
+
+abbrev pub label-of : File → ℕ → Label
+label-of f c = getD (f .labels) c no-label
+
+-- question 6: 65,535 for cell 0, else less than the cell's own number
+unfoldable pub lower-parent : Table → ℕ → Bool
+lower-parent t zero = eqb (parent t 0) no-parent
+lower-parent t (suc m) = ltb (parent t (suc m)) (suc m)
+
+-- question 15, for one number
+unfoldable pub near : ℤ → Bool
+near z = leZ (negℤ (pos farthest)) z && leZ z (pos farthest)
+
+module _ (call : Call) (g : Given) where
+  -- the answer, at cell c where the question is put to each cell
+  unfoldable pub holds : Question → ℕ → Bool
+  holds buffers-long c = enough (g .to-fill) most-cells && enough (g .scratch) scratch-size
+  holds file-sized c = in-file (g .source) (λ f. between least-file most-file (f .size))
+  holds file-marked c = in-file (g .source) (λ f. eqb (f .mark) file-mark)
+  holds cells-counted c =
+      between 1 most-cells (length (g .table))
+      && in-file (g .source) (λ f. eqb (length (f .bytes) + record-size * length (g .table) + trailer-size) (f .size))
+  holds positions-long c = enough (g .positions) (2 * length (g .table))
+  holds letters-printable c = in-file (g .source) (λ f. every (between first-letter last-letter) (f .bytes))
+  holds parent-lower c = lower-parent (g .table) c
+  holds kind-known c = known (kind (g .table) c)
+  holds box-sized c = between 1 most-width (W (g .table) c) && between 1 most-depth (D (g .table) c)
+  holds label-inside c =
+      in-file (g .source) (λ f. leb (label-of f c .size) most-label && leb (label-of f c .start + label-of f c .size) (length (f .bytes)))
+  holds label-fits c = in-file (g .source) (λ f. leb (label-of f c .size + border-of (kind (g .table) c)) (W (g .table) c))
+  holds children-allowed c = allows (kind (g .table) c) (length (children (g .table) c))
+  holds level-low c = leb (level (g .table) c) most-level
+  holds rows-few c = leb (row (g .table) c + D (g .table) c) last-row
+  holds allowance-small c = leb (g .allowance) most-allowance
+  holds coordinates-near c = near (getD (g .coordinates) (2 * c) (pos 0)) && near (getD (g .coordinates) (2 * c + 1) (pos 0))
+  holds cell-named c = ltb (g .named) (length (g .table)) && cond (root-too call) true (ltb 0 (g .named))
+
+-- ---- the first "no"
+-- nothing refused: 0 and 0
+abbrev pub none : Refusal
+none = record { number = 0; cell = 0 }
+
+-- the first of two
+abbrev pub or-else : Refusal → Refusal → Refusal
+or-else a b = cond (eqb (a .number) 0) b a
+
+-- the first of those of d cells, from k on
+unfoldable pub at-each : (ℕ → Refusal) → ℕ → ℕ → Refusal
+at-each f k zero = none
+at-each f k (suc d) = let r = at-each f (suc k) d in or-else (f k) r
+
+module _ (call : Call) (g : Given) where
+  unfoldable pub ask : Question → ℕ → Refusal
+  ask q c = cond (holds call g q c) none (record { number = number q; cell = c })
+
+  -- those of the questions that the call puts
+  unfoldable pub ask-all : List Question → ℕ → Refusal
+  ask-all [] c = none
+  ask-all (q ∷ qs) c = let r = ask-all qs c in cond (mem (number q) (puts call)) (or-else (ask q c) r) r
+
+  unfoldable pub take-step : Step → Refusal
+  take-step (once q) = ask-all (q ∷ []) 0
+  take-step (each qs) = at-each (ask-all qs) 0 (length (g .table))
+
+  unfoldable pub take-steps : List Step → Refusal
+  take-steps [] = none
+  take-steps (s ∷ ss) = let r = take-steps ss in or-else (take-step s) r
+
+  -- THE refusal of a call
+  unfoldable pub refusal : Refusal
+  refusal = take-steps sequence
+
+-- ---- what the calls on a lent table are given
+unfoldable pub layout-given : Table → (allowance scratch positions : ℕ) → Given
+layout-given t al s p =
+    record { source = lent; table = t; allowance = al; to-fill = absent; scratch = long s; positions = long p; coordinates = []; named = 0 }
+
+unfoldable pub check-given : Table → (allowance : ℕ) → (positions : List ℤ) → Given
+check-given t al ps =
+    record { source = lent; table = t; allowance = al; to-fill = absent; scratch = absent; positions = long (length ps); coordinates = ps; named = 0 }
+
+unfoldable pub ends-given : Table → (positions : List ℤ) → (named : ℕ) → Given
+ends-given t ps c =
+    record { source = lent; table = t; allowance = 0; to-fill = absent; scratch = absent; positions = long (length ps); coordinates = ps; named = c }

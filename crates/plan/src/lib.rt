@@ -1,0 +1,40 @@
+// The table of a plan as the code has it.
+
+// Document 01: "a run of records, one for each cell". The root's parent is 65,535.
+#[repr(C)]
+pub struct Record {
+    pub parent: u16,
+    pub kind: u8,
+    pub width: u16,
+    pub depth: u8,
+    pub label_length: u8,
+    pub label_start: u16,
+}
+
+// The numbers of a table of `count` cells, a column for each field that layout, check and connectors read.
+// A table of more than 256 records has its count here, and no numbers: question 4 refuses it.
+pub struct Columns {
+    pub count: usize,
+    pub parent: [u16; 256],
+    pub kind: [u8; 256],
+    pub width: [u16; 256],
+    pub depth: [u8; 256],
+}
+
+// A question's number and the lowest cell at fault; 0 and 0 where nothing is refused.
+pub struct Refusal {
+    pub number: u8,
+    pub cell: u16,
+}
+
+// What a kind allows: from how many children to how many; and its border.
+pub struct Kind {
+    pub fewest: u8,
+    pub most: u8,
+    pub border: u8,
+}
+
+pub enum Lookup {
+    Known(Kind),
+    Unknown,
+}
