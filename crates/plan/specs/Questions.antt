@@ -5,8 +5,8 @@ use mathlib.Core.Bool.{Bool, true, false, _&&_, not, cond}
 use Prim.Native.Nat.{ℕ, zero, suc, _+_, _*_}
 use lib.ListN.{length, getD}
 use lib.Dec.{eqb, leb, ltb}
-use lib.IntN.{ℤ, pos, negℤ}
-use lib.Signed.{leZ}
+use lib.IntN.{ℤ, pos}
+use Rattle.whole.specs.Range.{within}
 use Rattle.plan.specs.Limits.{most-cells, most-width, most-depth, most-level, last-row, most-allowance, farthest, scratch-size, least-file, most-file, file-mark, record-size, trailer-size, first-letter, last-letter, most-label, no-parent}
 use Rattle.plan.specs.Lists.{from, mem}
 use Rattle.plan.specs.Plan.{Table, parent, kind, W, D, children, level, row}
@@ -144,7 +144,7 @@ lower-parent t (suc m) = ltb (parent t (suc m)) (suc m)
 
 -- question 15, for one number
 unfoldable pub near : ℤ → Bool
-near z = leZ (negℤ (pos farthest)) z && leZ z (pos farthest)
+near z = within farthest z
 
 module _ (call : Call) (g : Given) where
   -- the answer, at cell c where the question is put to each cell
