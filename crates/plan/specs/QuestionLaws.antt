@@ -1,0 +1,47 @@
+-- The sequence, step by step: for the code that puts it. Assumes nothing.
+use mathlib.Core.Path.{_≡_, refl, sym, _∙_}
+use mathlib.Core.Bool.{Bool, true, false, _&&_}
+use Prim.Native.Nat.{ℕ, zero, suc, _+_, _-_, _≤_, _<_}
+use native.Mathlib.Omega.{arith}
+use lib.Dec.{ltb, eqb}
+use borrow.Author.Tests.{eq-eqb, ne-eqb}
+use Rattle.plan.specs.declared.Refusal.{Refusal}
+use Rattle.plan.specs.Questions.{none, lower, asked, or-else, at-each}
+
+pub lower-suc : (c p : ℕ) → ¬ (c ≡ 0) → ltb p c ≡ lower c p
+unfolding lower
+lower-suc zero p h = absurd (h refl)
+lower-suc (suc m) p h = refl
+
+-- ---- two tests, the second put only where the first passes
+pub and-no : (a b : Bool) → a ≡ false → a && b ≡ false
+and-no a b e = rw e
+
+pub and-yes : (a b : Bool) → a ≡ true → a && b ≡ b
+and-yes a b e = rw e
+
+-- ---- the first of two
+pub first-none : (a b : Refusal) → a .number ≡ 0 → or-else a b ≡ b
+unfolding or-else
+first-none a b h = rw (eq-eqb (a .number) 0 h)
+
+pub first-some : (a b : Refusal) → ¬ (a .number ≡ 0) → or-else a b ≡ a
+unfolding or-else
+first-some a b h = rw (ne-eqb (a .number) 0 h)
+
+-- ---- a question put to each of the cells from k on
+module _ (f : ℕ → Refusal) where
+  each-more : (k d : ℕ) → 0 < d → at-each f k d ≡ or-else (f k) (at-each f (k + 1) (d - 1))
+  unfolding at-each
+  each-more k zero h = absurd (omega arith)
+  each-more k (suc d) h = let e : k + 1 ≡ suc k = omega arith in let g : suc d - 1 ≡ d = omega arith in rw (e, g)
+
+  pub each-stops : (c n : ℕ) → c < n → ¬ (f c .number ≡ 0) → at-each f c (n - c) ≡ f c
+  each-stops c n h g = each-more c (n - c) (omega arith) ∙ first-some (f c) _ g
+
+  pub each-goes-on : (c n : ℕ) → c < n → f c .number ≡ 0 → at-each f c (n - c) ≡ at-each f (c + 1) (n - (c + 1))
+  each-goes-on c n h g = each-more c (n - c) (omega arith) ∙ first-none (f c) _ g ∙ (let e : n - c - 1 ≡ n - (c + 1) = omega arith in rw e)
+
+  pub each-ends : (c n : ℕ) → n ≤ c → at-each f c (n - c) ≡ none
+  unfolding at-each
+  each-ends c n h = let e : n - c ≡ 0 = omega arith in rw e
