@@ -15,6 +15,7 @@ ghost use mathlib.Core.Bool.{Bool, true, false};
 ghost use Prim.Native.Nat.{ℕ, _+_, _≤_, _<_};
 ghost use lib.ListN.{length, getD};
 ghost use Rattle.plan.specs.Questions.{asked, «or-else», lower, sized, «at-each»};
+ghost use Rattle.plan.specs.Columns.{table};
 ghost use Rattle.plan.specs.Steps.{«cell-refusal», «cells-refusal»};
 
 // Question `number` at a cell, answered.
@@ -72,4 +73,26 @@ pub fn cell_refusal(cell: usize, parent: u16, kind: u8, width: u16, depth: u8) -
         asked(6, lower(cell, parent), cell),
         or_else(known_kind, box_size),
     )
+}
+
+// Questions 6 to 8, cell by cell.
+pub fn cells_refusal(
+    parents: &[u16; 256],
+    kinds: &[u8; 256],
+    widths: &[u16; 256],
+    depths: &[u8; 256],
+    n: usize,
+) -> Refusal
+    requires { ⌜ n ≤ 256 ⌝ }
+    ensures { λ r. ⌜ r ≡ cells-refusal (table (now (parents .entry)) (now (kinds .entry)) (now (widths .entry)) (now (depths .entry)) n) ⌝ }
+{
+    let mut c = 0;
+    while c < n {
+        let r = cell_refusal(c, parents[c], kinds[c], widths[c], depths[c]);
+        if r.number != 0 {
+            return r;
+        }
+        c += 1;
+    }
+    Refusal { number: 0, cell: 0 }
 }
