@@ -9,6 +9,7 @@ pub mod Questions
 pub mod Steps
 pub mod QuestionLaws
 pub mod StepLaws
+pub mod Trees
 pub mod Fit
 pub mod ListLaws
 pub mod PlanLaws
