@@ -28,6 +28,10 @@ pub record Lower (ps : List ℕ) (n : ℕ) : Type 0 where
 pub record Flat (ds : List ℕ) (n : ℕ) : Type 0 where
   pub flat : (c : ℕ) → c < n → getD ds c 0 ≤ most-depth
 
+-- n rows that leave room for a depth
+pub record Short (rs : List ℕ) (n : ℕ) : Type 0 where
+  pub short : (c : ℕ) → c < n → getD rs c 0 ≤ 4096
+
 -- a column of 256 numbers whose first n are those of f
 pub record Column (xs : List ℕ) (n : ℕ) (f : ℕ → ℕ) : Type 0 where
   pub long : length xs ≡ 256

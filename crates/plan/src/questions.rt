@@ -13,10 +13,12 @@ use crate::Refusal;
 ghost use mathlib.Core.Path.{_≡_};
 ghost use mathlib.Core.Bool.{Bool, true, false};
 ghost use Prim.Native.Nat.{ℕ, _+_, _≤_, _<_};
+ghost use lib.Dec.{leb};
 ghost use lib.ListN.{length, getD};
+ghost use Rattle.plan.specs.Trees.{Short};
 ghost use Rattle.plan.specs.Questions.{asked, «or-else», lower, sized, «at-each»};
 ghost use Rattle.plan.specs.Columns.{table};
-ghost use Rattle.plan.specs.Steps.{«cell-refusal», «cells-refusal»};
+ghost use Rattle.plan.specs.Steps.{«cell-refusal», «cells-refusal», «table-refusal», «children-at», «levels-at», «rows-at»};
 
 // Question `number` at a cell, answered.
 pub fn asked(number: u8, yes: bool, cell: usize) -> Refusal
@@ -62,6 +64,20 @@ fn sized(width: u16, depth: u8) -> bool
     between(1, MOST_DEPTH, depth as u16)
 }
 
+fn at_most(x: u16, most: u16) -> bool
+    ensures { λ r. ⌜ r ≡ leb x most ⌝ }
+{
+    x <= most
+}
+
+// The last row of a box.
+fn box_bottom(row: u16, depth: u8) -> u16
+    requires { ⌜ row ≤ 4096 ⌝ }
+    ensures { λ r. ⌜ r ≡ row + depth ⌝ }
+{
+    row + (depth as u16)
+}
+
 // Questions 6 to 8 at one cell.
 pub fn cell_refusal(cell: usize, parent: u16, kind: u8, width: u16, depth: u8) -> Refusal
     requires { ⌜ cell < 65536 ⌝ }
@@ -89,6 +105,54 @@ pub fn cells_refusal(
     let mut c = 0;
     while c < n {
         let r = cell_refusal(c, parents[c], kinds[c], widths[c], depths[c]);
+        if r.number != 0 {
+            return r;
+        }
+        c += 1;
+    }
+    Refusal { number: 0, cell: 0 }
+}
+
+// Question 11, from the numbers of children.
+fn children_refusal(kinds: &[u8; 256], counts: &[u16; 256], n: usize) -> Refusal
+    requires { ⌜ n ≤ 256 ⌝ }
+    ensures { λ r. ⌜ r ≡ at-each (children-at (now (kinds .entry)) (now (counts .entry))) 0 n ⌝ }
+{
+    let mut c = 0;
+    while c < n {
+        let r = asked(11, allows(kinds[c], counts[c]), c);
+        if r.number != 0 {
+            return r;
+        }
+        c += 1;
+    }
+    Refusal { number: 0, cell: 0 }
+}
+
+// Question 12, from the levels.
+fn levels_refusal(levels: &[u16; 256], n: usize) -> Refusal
+    requires { ⌜ n ≤ 256 ⌝ }
+    ensures { λ r. ⌜ r ≡ at-each (levels-at (now (levels .entry))) 0 n ⌝ }
+{
+    let mut c = 0;
+    while c < n {
+        let r = asked(12, at_most(levels[c], MOST_LEVEL), c);
+        if r.number != 0 {
+            return r;
+        }
+        c += 1;
+    }
+    Refusal { number: 0, cell: 0 }
+}
+
+// Question 13, from the rows.
+fn rows_refusal(rows: &[u16; 256], depths: &[u8; 256], n: usize) -> Refusal
+    requires { ⌜ (n ≤ 256) × Short (now rows) n ⌝ }
+    ensures { λ r. ⌜ r ≡ at-each (rows-at (now (rows .entry)) (now (depths .entry))) 0 n ⌝ }
+{
+    let mut c = 0;
+    while c < n {
+        let r = asked(13, at_most(box_bottom(rows[c], depths[c]), LAST_ROW), c);
         if r.number != 0 {
             return r;
         }

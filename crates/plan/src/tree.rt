@@ -35,11 +35,11 @@ pub fn child_counts(parents: &[u16; 256], n: usize) -> [u16; 256]
 }
 
 // The level of each cell.
-pub fn levels(parents: &[u16; 256], n: usize) -> [u8; 256]
+pub fn levels(parents: &[u16; 256], n: usize) -> [u16; 256]
     requires { ⌜ Lower (now parents) n ⌝ }
     ensures { λ r. ⌜ ((ks ws ds : List ℕ) → Column r n (level (table (now (parents .entry)) ks ws ds n))) ⌝ }
 {
-    let mut levels = [0u8; 256];
+    let mut levels = [0u16; 256];
     let mut c: usize = 1;
     while c < n {
         let p = wide(parents[c]);

@@ -42,12 +42,20 @@ wide-requires : tie.Need-wide-requires Inv-loop μ-loop
 wide-requires c κs = search needs
 
 -- src/tree.rt:46:21
+mul-levels : tie.Need-mul-levels Inv-loop μ-loop
+mul-levels c = omega (arith, c .before .before .before .before .pre .lower (c .before .before .before .loop .c) (c .before .before .before .loop .inv .0) (c .before .before .loop-test .taken), c .before .before .before .before .pre .few, c .wide .ensures)
+
+-- src/tree.rt:46:21
 array-read-levels : tie.Need-array-read-levels Inv-loop μ-loop
 array-read-levels c = omega (arith, c .before .before .before .before .pre .lower (c .before .before .before .loop .c) (c .before .before .before .loop .inv .0) (c .before .before .loop-test .taken), c .before .before .before .before .pre .few, c .wide .ensures)
 
 -- src/tree.rt:46:21
 add-levels : tie.Need-add-levels Inv-loop μ-loop
 add-levels c = omega (arith, c .before .before .before .before .pre .lower (c .before .before .before .loop .c) (c .before .before .before .loop .inv .0) (c .before .before .loop-test .taken), c .before .before .before .before .pre .few, c .wide .ensures, level-value (c .before .before .before .before .args .parents .now) [] [] [] (c .before .before .before .before .args .n) (c .before .before .before .before .pre) (c .before .before .before .loop .levels) (c .before .before .before .loop .c) (c .wide .result) (c .before .before .before .loop .inv .0) (c .before .before .loop-test .taken) (c .before .before .before .loop .inv .2) (c .wide .ensures) (c .before .before .before .loop .inv .3 [] [] []), level-small (c .before .before .before .before .args .parents .now) [] [] [] (c .before .before .before .before .args .n) (c .before .before .before .before .pre) (c .before .before .before .loop .c))
+
+-- src/tree.rt:46:9
+mul-levels-2 : tie.Need-mul-levels-2 Inv-loop μ-loop
+mul-levels-2 c = search needs
 
 -- src/tree.rt:46:9
 array-write-levels : tie.Need-array-write-levels Inv-loop μ-loop
@@ -79,8 +87,10 @@ levels-spec =
     mul-wide
     element-copy-out-wide
     wide-requires
+    mul-levels
     array-read-levels
     add-levels
+    mul-levels-2
     array-write-levels
     add-c
     loop-less
