@@ -8,8 +8,9 @@ pub mod ColumnLaws
 pub mod Questions
 pub mod Steps
 pub mod QuestionLaws
-pub mod StepLaws
+
 pub mod Trees
+pub mod StepLaws
 pub mod Fit
 pub mod ListLaws
 pub mod PlanLaws

@@ -9,6 +9,9 @@ use crate::limits::MOST_DEPTH;
 use crate::limits::MOST_LEVEL;
 use crate::limits::MOST_WIDTH;
 use crate::limits::NO_PARENT;
+use crate::tree::child_counts;
+use crate::tree::levels;
+use crate::tree::rows;
 use crate::Refusal;
 ghost use mathlib.Core.Path.{_≡_};
 ghost use mathlib.Core.Bool.{Bool, true, false};
@@ -159,4 +162,33 @@ fn rows_refusal(rows: &[u16; 256], depths: &[u8; 256], n: usize) -> Refusal
         c += 1;
     }
     Refusal { number: 0, cell: 0 }
+}
+
+// Questions 6 to 8 and 11 to 13.
+pub fn table_refusal(
+    parents: &[u16; 256],
+    kinds: &[u8; 256],
+    widths: &[u16; 256],
+    depths: &[u8; 256],
+    n: usize,
+) -> Refusal
+    requires { ⌜ (1 ≤ n) × (n ≤ 256) ⌝ }
+    ensures { λ r. ⌜ r ≡ table-refusal (table (now (parents .entry)) (now (kinds .entry)) (now (widths .entry)) (now (depths .entry)) n) ⌝ }
+{
+    let at_cells = cells_refusal(parents, kinds, widths, depths, n);
+    if at_cells.number != 0 {
+        return at_cells;
+    }
+    let counts = child_counts(parents, n);
+    let at_children = children_refusal(kinds, &counts, n);
+    if at_children.number != 0 {
+        return at_children;
+    }
+    let deep = levels(parents, n);
+    let at_levels = levels_refusal(&deep, n);
+    if at_levels.number != 0 {
+        return at_levels;
+    }
+    let low = rows(parents, depths, n);
+    rows_refusal(&low, depths, n)
 }
