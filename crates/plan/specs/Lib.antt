@@ -11,6 +11,7 @@ pub mod QuestionLaws
 
 pub mod Trees
 pub mod StepLaws
+pub mod CallLaws
 pub mod Fit
 pub mod ListLaws
 pub mod PlanLaws
