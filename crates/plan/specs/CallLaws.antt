@@ -16,7 +16,7 @@ use Rattle.plan.specs.Kinds.{known}
 use Rattle.plan.specs.Questions.{Call, Given, Question, parent-lower, kind-known, box-sized, label-inside, label-fits, children-allowed, level-low, rows-few, buffers-long, file-sized, file-marked, cells-counted, positions-long, letters-printable, allowance-small, cell-named, root-too, coordinates-near, enough, in-file, once, each, sequence, take-steps, puts, number, holds, lower, ask, ask-all, take-step}
 use Rattle.plan.specs.Questions.{none, asked, or-else, at-each, near, refusal, layout, check, ends, layout-given, check-given, ends-given}
 use Rattle.plan.specs.QuestionLaws.{first-none, first-some, each-same}
-use Rattle.plan.specs.Steps.{cell-refusal, cells-refusal, children-refusal, levels-refusal, rows-refusal, table-refusal}
+use Rattle.plan.specs.Steps.{cell-refusal, cells-refusal, children-refusal, levels-refusal, rows-refusal, table-refusal, lent-refusal, near-refusal}
 
 -- the last question
 asked-last : (n : ℕ) (b : Bool) (c : ℕ) → or-else (asked (suc n) b c) none ≡ asked (suc n) b c
@@ -84,10 +84,6 @@ module _ (call : Call) (g : Given) where
         let e = each-same (ask-all call g (rows-few ∷ [])) _ n (λ c i. put-one rows-few c (h .p13) ∙ asked-last 12 _ c) in
         simp or-assoc (cc (a, b, d, e))
 
--- question 15
-unfoldable pub near-refusal : List ℤ → ℕ → Refusal
-near-refusal ps n = at-each (λ c. asked 15 (near (getD ps (2 * c) (pos 0)) && near (getD ps (2 * c + 1) (pos 0))) c) 0 n
-
 asked-true : (n c : ℕ) → asked (suc n) true c ≡ none
 unfolding asked
 asked-true n c = refl
@@ -105,9 +101,9 @@ near-last : (ps : List ℤ) (n : ℕ) → or-else (near-refusal ps n) none ≡ n
 unfolding near-refusal
 near-last ps n = each-last _ 0 n (λ c. asked-last 14 _ c)
 
--- questions 4 and 1 (positions), then those of the table, then the rest of the call's
-unfoldable pub counted : Table → (positions : ℕ) → Refusal → Refusal
-counted t p rest = or-else (asked 4 (between 1 most-cells (length t)) 0) (or-else (asked 1 (leb (2 * length t) p) 0) (or-else (table-refusal t) rest))
+lent-then : (t : Table) (p : ℕ) (rest : Refusal) → or-else (asked 4 (between 1 most-cells (length t)) 0) (or-else (asked 1 (leb (2 * length t) p) 0) (or-else (table-refusal t) rest)) ≡ or-else (lent-refusal t p) rest
+unfolding lent-refusal
+lent-then t p rest = simp or-assoc
 
 module _ (call : Call) (g : Given) where
   step-none : (q : Question) → mem (number q) (puts call) ≡ false → take-step call g (each (q ∷ [])) ≡ none
@@ -133,8 +129,8 @@ module _ (t : Table) where
   unfolding puts mem some
   layout-puts = record { p6 = refl; p7 = refl; p8 = refl; p9 = refl; p10 = refl; p11 = refl; p12 = refl; p13 = refl }
 
-  pub layout-refusal : (al s p : ℕ) → refusal layout (layout-given t al s p) ≡ or-else (asked 1 (leb scratch-size s) 0) (counted t p (asked 14 (leb al most-allowance) 0))
-  unfolding refusal sequence take-steps counted number puts mem some from holds enough in-file layout-given
+  pub layout-refusal : (al s p : ℕ) → refusal layout (layout-given t al s p) ≡ or-else (asked 1 (leb scratch-size s) 0) (or-else (lent-refusal t p) (asked 14 (leb al most-allowance) 0))
+  unfolding refusal sequence take-steps number puts mem some from holds enough in-file layout-given
   layout-refusal al s p =
       let g = layout-given t al s p in
       simp (
@@ -149,6 +145,7 @@ module _ (t : Table) where
         step-none layout g coordinates-near refl,
         once-none layout g cell-named refl,
         none-first,
+        lent-then,
         asked-last 13 (leb al most-allowance) 0,
       )
 
@@ -156,8 +153,8 @@ module _ (t : Table) where
   unfolding puts mem some
   check-puts = record { p6 = refl; p7 = refl; p8 = refl; p9 = refl; p10 = refl; p11 = refl; p12 = refl; p13 = refl }
 
-  pub check-refusal : (al : ℕ) (ps : List ℤ) → refusal check (check-given t al ps) ≡ counted t (length ps) (or-else (asked 14 (leb al most-allowance) 0) (near-refusal ps (length t)))
-  unfolding refusal sequence take-steps counted number puts mem some from holds enough in-file check-given
+  pub check-refusal : (al : ℕ) (ps : List ℤ) → refusal check (check-given t al ps) ≡ or-else (lent-refusal t (length ps)) (or-else (asked 14 (leb al most-allowance) 0) (near-refusal ps (length t)))
+  unfolding refusal sequence take-steps number puts mem some from holds enough in-file check-given
   check-refusal al ps =
       let g = check-given t al ps in
       simp (
@@ -172,6 +169,7 @@ module _ (t : Table) where
         near-put check g refl,
         once-none check g cell-named refl,
         none-first,
+        lent-then,
         asked-true 0 0,
         near-last ps (length t),
       )
@@ -181,8 +179,8 @@ module _ (t : Table) where
   ends-puts = record { p6 = refl; p7 = refl; p8 = refl; p9 = refl; p10 = refl; p11 = refl; p12 = refl; p13 = refl }
 
   pub ends-refusal : (ps : List ℤ) (c : ℕ) → refusal ends (ends-given t ps c)
-      ≡ counted t (length ps) (or-else (near-refusal ps (length t)) (asked 16 (ltb c (length t) && ltb 0 c) 0))
-  unfolding refusal sequence take-steps counted number puts mem some from holds enough in-file ends-given root-too
+      ≡ or-else (lent-refusal t (length ps)) (or-else (near-refusal ps (length t)) (asked 16 (ltb c (length t) && ltb 0 c) 0))
+  unfolding refusal sequence take-steps number puts mem some from holds enough in-file ends-given root-too
   ends-refusal ps c =
       let g = ends-given t ps c in
       simp (
@@ -197,6 +195,7 @@ module _ (t : Table) where
         near-put ends g refl,
         once-put ends g cell-named 15 (ltb c (length t) && ltb 0 c) refl refl refl,
         none-first,
+        lent-then,
         asked-true 0 0,
         asked-last 15 (ltb c (length t) && ltb 0 c) 0,
       )

@@ -2,18 +2,18 @@
 use mathlib.Core.Path.{_≡_, sym, ap, _∙_}
 use mathlib.Core.Bool.{Bool, true, false, _&&_}
 use mathlib.Core.List.{List}
-use Prim.Native.Nat.{ℕ, zero, suc, _≤_, _<_}
+use Prim.Native.Nat.{ℕ, zero, suc, _*_, _≤_, _<_}
 use native.Mathlib.Omega.{arith}
 use lib.Dec.{T, leb, ltb→lt, leb→le}
 use lib.ListN.{length, getD}
-use Rattle.plan.specs.Questions.{lower, sized, asked, at-each}
-use Rattle.plan.specs.Limits.{between, most-width, most-depth}
+use Rattle.plan.specs.Questions.{lower, sized, asked, or-else, at-each}
+use Rattle.plan.specs.Limits.{between, most-cells, most-width, most-depth}
 use Rattle.plan.specs.Kinds.{known}
 use Rattle.plan.specs.declared.Refusal.{Refusal}
 use Rattle.plan.specs.QuestionLaws.{each-same, asked-yes, both-none, each-none}
 use Rattle.plan.specs.Columns.{table}
 use Rattle.plan.specs.ColumnLaws.{table-length, parent-at, kind-at, width-at, depth-at}
-use Rattle.plan.specs.Steps.{cell-refusal, cells-refusal, children-refusal, levels-refusal, rows-refusal, cells-at, children-at, levels-at, rows-at}
+use Rattle.plan.specs.Steps.{cell-refusal, cells-refusal, children-refusal, levels-refusal, rows-refusal, table-refusal, lent-refusal, cells-at, children-at, levels-at, rows-at}
 use Rattle.plan.specs.Plan.{children, level, row}
 use Rattle.plan.specs.Trees.{Lower, Flat, Short, Column, row-small}
 
@@ -84,3 +84,14 @@ module _ (ps ks ws ds : List ℕ) (n : ℕ) (e : cells-refusal (table ps ks ws d
 
 pub rows-short : (ps ks ws ds rs : List ℕ) (n : ℕ) → Lower ps n → Flat ds n → Column rs n (row (table ps ks ws ds n)) → Short rs n
 rows-short ps ks ws ds rs n low flat col = record { short = λ c h. rw (col .each c h) (omega (arith, row-small ps ks ws ds n low flat c h, low .few)) }
+
+pub lent-columns : (ps ks ws ds : List ℕ) (n p : ℕ)
+    → lent-refusal (table ps ks ws ds n) p ≡ or-else (asked 4 (between 1 most-cells n) 0) (or-else (asked 1 (leb (2 * n) p) 0) (table-refusal (table ps ks ws ds n)))
+unfolding lent-refusal
+lent-columns ps ks ws ds n p = rw (table-length ps ks ws ds n)
+
+-- what question 4 establishes
+pub counted-read : (n : ℕ) (r : Refusal) → r ≡ asked 4 (between 1 most-cells n) 0 → r .number ≡ 0 → (1 ≤ n) × (n ≤ most-cells)
+counted-read n r e z =
+    let h = asked-yes 3 (between 1 most-cells n) 0 (ap (λ (x : Refusal). x .number) (sym e) ∙ z) in
+    (leb→le 1 n (and-left (leb 1 n) _ h), leb→le n most-cells (and-right (leb 1 n) _ h))

@@ -1,13 +1,15 @@
 -- The steps of the sequence as a call on a lent table takes them: what the code does, one by one. Nothing that a reader must believe stands here.
 -- Assumes nothing.
 use mathlib.Core.List.{List}
-use Prim.Native.Nat.{ℕ, _+_}
+use mathlib.Core.Bool.{_&&_}
+use Prim.Native.Nat.{ℕ, _+_, _*_}
 use lib.Dec.{leb}
 use lib.ListN.{length, getD}
-use Rattle.plan.specs.Limits.{most-level, last-row}
+use lib.IntN.{ℤ, pos}
+use Rattle.plan.specs.Limits.{between, most-cells, most-level, last-row}
 use Rattle.plan.specs.Plan.{Table, parent, kind, W, D, children, level, row}
 use Rattle.plan.specs.Kinds.{known, allows}
-use Rattle.plan.specs.Questions.{lower, sized, asked, or-else, at-each}
+use Rattle.plan.specs.Questions.{lower, sized, near, asked, or-else, at-each}
 use Rattle.plan.specs.declared.Refusal.{Refusal}
 
 -- questions 6 to 8 at one cell
@@ -31,7 +33,18 @@ rows-refusal t = at-each (λ c. asked 13 (leb (row t c + D t c) last-row) c) 0 (
 unfoldable pub table-refusal : Table → Refusal
 table-refusal t = or-else (cells-refusal t) (or-else (children-refusal t) (or-else (levels-refusal t) (rows-refusal t)))
 
--- the same at one cell, from columns
+-- questions 4 and 1 (positions), then those of the table
+unfoldable pub lent-refusal : Table → (positions : ℕ) → Refusal
+lent-refusal t p = or-else (asked 4 (between 1 most-cells (length t)) 0) (or-else (asked 1 (leb (2 * length t) p) 0) (table-refusal t))
+
+-- question 15 at one cell, and at each
+abbrev pub near-at : List ℤ → ℕ → Refusal
+near-at ps c = asked 15 (near (getD ps (2 * c) (pos 0)) && near (getD ps (2 * c + 1) (pos 0))) c
+
+unfoldable pub near-refusal : List ℤ → ℕ → Refusal
+near-refusal ps n = at-each (near-at ps) 0 n
+
+-- the questions of a table at one cell, from columns
 abbrev pub cells-at : (ps ks ws ds : List ℕ) (c : ℕ) → Refusal
 cells-at ps ks ws ds c = cell-refusal c (getD ps c 0) (getD ks c 0) (getD ws c 0) (getD ds c 0)
 

@@ -2,6 +2,7 @@
 use crate::kinds::allows;
 use crate::kinds::known;
 use crate::limits::between;
+use crate::limits::FARTHEST;
 use crate::limits::LAST_ROW;
 use crate::limits::MOST_ALLOWANCE;
 use crate::limits::MOST_CELLS;
@@ -13,15 +14,18 @@ use crate::tree::child_counts;
 use crate::tree::levels;
 use crate::tree::rows;
 use crate::Refusal;
+use whole::within;
 ghost use mathlib.Core.Path.{_≡_};
-ghost use mathlib.Core.Bool.{Bool, true, false};
-ghost use Prim.Native.Nat.{ℕ, _+_, _≤_, _<_};
+ghost use mathlib.Core.Bool.{Bool, true, false, _&&_};
+ghost use Prim.Native.Nat.{ℕ, _+_, _*_, _≤_, _<_};
 ghost use lib.Dec.{leb};
 ghost use lib.ListN.{length, getD};
+ghost use lib.IntN.{pos};
+ghost use Rattle.plan.specs.Limits.{between, «most-cells», «most-allowance»};
 ghost use Rattle.plan.specs.Trees.{Short};
-ghost use Rattle.plan.specs.Questions.{asked, «or-else», lower, sized, «at-each»};
+ghost use Rattle.plan.specs.Questions.{asked, «or-else», lower, sized, near, «at-each»};
 ghost use Rattle.plan.specs.Columns.{table};
-ghost use Rattle.plan.specs.Steps.{«cell-refusal», «cells-refusal», «table-refusal», «children-at», «levels-at», «rows-at»};
+ghost use Rattle.plan.specs.Steps.{«cell-refusal», «cells-refusal», «table-refusal», «lent-refusal», «near-refusal», «children-at», «levels-at», «rows-at»};
 
 // Question `number` at a cell, answered.
 pub fn asked(number: u8, yes: bool, cell: usize) -> Refusal
@@ -191,4 +195,78 @@ pub fn table_refusal(
     }
     let low = rows(parents, depths, n);
     rows_refusal(&low, depths, n)
+}
+
+// Question 4.
+fn counted(n: usize) -> bool
+    ensures { λ r. ⌜ r ≡ between 1 most-cells n ⌝ }
+{
+    if n < 1 {
+        return false;
+    }
+    n <= MOST_CELLS
+}
+
+// Questions 4, 1 (of so many positions), 6 to 8 and 11 to 13, put to a lent table.
+pub fn lent_refusal(
+    parents: &[u16; 256],
+    kinds: &[u8; 256],
+    widths: &[u16; 256],
+    depths: &[u8; 256],
+    n: usize,
+    positions: usize,
+) -> Refusal
+    ensures { λ r. ⌜ r ≡ lent-refusal (table (now (parents .entry)) (now (kinds .entry)) (now (widths .entry)) (now (depths .entry)) n) positions ⌝ }
+{
+    let few = asked(4, counted(n), 0);
+    if few.number != 0 {
+        return few;
+    }
+    let long = asked(1, 2 * n <= positions, 0);
+    if long.number != 0 {
+        return long;
+    }
+    table_refusal(parents, kinds, widths, depths, n)
+}
+
+// Question 14.
+pub fn allowance_refusal(allowance: u32) -> Refusal
+    ensures { λ r. ⌜ r ≡ asked 14 (leb allowance most-allowance) 0 ⌝ }
+{
+    asked(14, allowance <= MOST_ALLOWANCE, 0)
+}
+
+// Question 15, for one number of the positions.
+fn near(positions: &[i32], i: usize) -> bool
+    requires { ⌜ i < length (now positions) ⌝ }
+    ensures { λ r. ⌜ r ≡ near (getD (now (positions .entry)) i (pos 0)) ⌝ }
+{
+    within(positions[i], FARTHEST)
+}
+
+// The same for both of a cell.
+fn both_near(positions: &[i32], c: usize) -> bool
+    requires { ⌜ (2 * c + 1 < length (now positions)) × (c < 256) ⌝ }
+    ensures { λ r. ⌜ r ≡ (near (getD (now (positions .entry)) (2 * c) (pos 0)) && near (getD (now (positions .entry)) (2 * c + 1) (pos 0))) ⌝ }
+{
+    if !near(positions, 2 * c) {
+        return false;
+    }
+    near(positions, 2 * c + 1)
+}
+
+// Question 15, cell by cell.
+pub fn near_refusal(positions: &[i32], n: usize) -> Refusal
+    requires { ⌜ (n ≤ 256) × (2 * n ≤ length (now positions)) ⌝ }
+    ensures { λ r. ⌜ r ≡ near-refusal (now (positions .entry)) n ⌝ }
+{
+    let mut c = 0;
+    while c < n {
+        let r = asked(15, both_near(positions, c), c);
+        if r.number != 0 {
+            return r;
+        }
+        c += 1;
+    }
+    Refusal { number: 0, cell: 0 }
 }
