@@ -38,7 +38,7 @@ module _ (ps ks ws ds : List ℕ) (n : ℕ) where
   rows-columns rs col = rw (table-length ps ks ws ds n) (each-same _ (rows-at rs ds) n (λ c h. rw (depth-at ps ks ws ds n c h, col .each c h)))
 
 -- what questions 6 to 8 establish
-lower-read : (c p : ℕ) → 1 ≤ c → T (lower c p) → p < c
+pub lower-read : (c p : ℕ) → 1 ≤ c → T (lower c p) → p < c
 unfolding lower
 lower-read zero p h t = absurd (omega arith)
 lower-read (suc m) p h t = ltb→lt p (suc m) t
