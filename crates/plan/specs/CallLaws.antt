@@ -16,7 +16,7 @@ use Rattle.plan.specs.Kinds.{known}
 use Rattle.plan.specs.Questions.{Call, Given, Question, parent-lower, kind-known, box-sized, label-inside, label-fits, children-allowed, level-low, rows-few, buffers-long, file-sized, file-marked, cells-counted, positions-long, letters-printable, allowance-small, cell-named, root-too, coordinates-near, enough, in-file, once, each, sequence, take-steps, puts, number, holds, lower, ask, ask-all, take-step}
 use Rattle.plan.specs.Questions.{none, asked, or-else, at-each, near, refusal, layout, check, ends, layout-given, check-given, ends-given}
 use Rattle.plan.specs.QuestionLaws.{first-none, first-some, each-same}
-use Rattle.plan.specs.Steps.{cell-refusal, cells-refusal, children-refusal, levels-refusal, rows-refusal, table-refusal, lent-refusal, near-refusal}
+use Rattle.plan.specs.Steps.{cell-refusal, cells-refusal, children-refusal, levels-refusal, rows-refusal, tree-refusal, table-refusal, lent-refusal, near-refusal}
 
 -- the last question
 asked-last : (n : ℕ) (b : Bool) (c : ℕ) → or-else (asked (suc n) b c) none ≡ asked (suc n) b c
@@ -75,7 +75,7 @@ module _ (call : Call) (g : Given) where
         (or-else (take-step call g (each (level-low ∷ [])))
         (or-else (take-step call g (each (rows-few ∷ []))) rest)))
         ≡ or-else (table-refusal (g .table)) rest
-    unfolding take-step table-refusal cells-refusal children-refusal levels-refusal rows-refusal ask holds number
+    unfolding take-step table-refusal tree-refusal cells-refusal children-refusal levels-refusal rows-refusal ask holds number
     table-steps rest =
         let n = length (g .table) in
         let a = each-same (ask-all call g (parent-lower ∷ kind-known ∷ box-sized ∷ label-inside ∷ label-fits ∷ [])) _ n (λ c i. at-cells c) in
