@@ -17,7 +17,7 @@ unfoldable pub column : (ℕ → ℕ) → ℕ → List ℕ
 column f zero = replicate most-cells 0
 column f (suc n) = set (column f n) n (f n)
 
--- the columns of the first n records of a file
+-- a plan of n records and an allowance
 unfoldable pub columns-of : Refusal → ℕ → ℕ → (ℕ → Record) → Reading
 columns-of r al n e =
     record {
@@ -28,7 +28,7 @@ columns-of r al n e =
       «label_start» = column (λ c. e c .«label_start») n;
     }
 
--- Read, into a table of so many records: the refusal, and nothing; or the allowance and the records
+-- Read, into a table of so many records: a refusal, and no record; or the allowance and the records
 unfoldable pub reading-of : List ℕ → (room : ℕ) → Reading
 reading-of f room =
     let r = refusal read (file-given f (long room) 0) in
