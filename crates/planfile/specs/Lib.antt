@@ -1,3 +1,5 @@
 pub mod Format
 pub mod FormatLaws
 pub mod Reading
+pub mod FileSteps
+pub mod FileLaws
