@@ -2,4 +2,5 @@ pub mod Format
 pub mod FormatLaws
 pub mod Reading
 pub mod FileSteps
+pub mod EveryLaws
 pub mod FileLaws

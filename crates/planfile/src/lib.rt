@@ -1,5 +1,6 @@
 // The plan file: Read, Label and Label's refusal.
 pub mod cursor;
+pub mod questions;
 pub mod table;
 
 use plan::Columns;
