@@ -1,19 +1,20 @@
 -- The steps of the sequence as Read and Label take them: what the code does, one by one. Nothing that a reader must believe stands here.
 -- Assumes nothing.
-use mathlib.Core.List.{List}
+use mathlib.Core.List.{List, []}
 use mathlib.Core.Bool.{Bool, _&&_, cond}
 use Prim.Native.Nat.{ℕ, _+_, _*_}
 use lib.Dec.{eqb, leb}
 use lib.ListN.{length, getD, take}
 use Rattle.plan.specs.Limits.{between, most-cells, most-allowance, least-file, most-file, file-mark, record-size, trailer-size, first-letter, last-letter, most-label}
 use Rattle.plan.specs.Records.{cells-of}
+use Rattle.plan.specs.Columns.{table-of}
 use Rattle.plan.specs.Kinds.{border-of}
 use Rattle.plan.specs.Questions.{none, asked, or-else, at-each, every}
 use Rattle.plan.specs.Steps.{cell-refusal, tree-refusal}
 use Rattle.plan.specs.declared.Record.{Record}
 use Rattle.plan.specs.declared.Refusal.{Refusal}
 use Rattle.planfile.specs.declared.Reading.{Reading}
-use Rattle.planfile.specs.Format.{trailer-of, entry, records-of}
+use Rattle.planfile.specs.Format.{trailer-of, record-at, entry, records-of}
 use Rattle.planfile.specs.Reading.{columns-of}
 
 -- question 9, for a label of so many bytes at a start
@@ -33,6 +34,16 @@ entry-refusal begin c r = record-refusal begin c (r .parent) (r .kind) (r .width
 
 abbrev pub records-at : (begin : ℕ) (ps ks ws ds ls ss : List ℕ) (c : ℕ) → Refusal
 records-at begin ps ks ws ds ls ss c = record-refusal begin c (getD ps c 0) (getD ks c 0) (getD ws c 0) (getD ds c 0) (getD ls c 0) (getD ss c 0)
+
+-- questions 6 to 14, from columns
+unfoldable pub columns-refusal : Reading → (begin : ℕ) → Refusal
+columns-refusal p begin =
+    let t = p .columns in
+    or-else (at-each (records-at begin (t .parent) (t .kind) (t .width) (t .depth) (p .«label_length») (p .«label_start»)) 0 (t .count))
+    (or-else (tree-refusal (table-of t)) (asked 14 (leb (p .allowance) most-allowance) 0))
+
+abbrev pub blank-reading : Refusal → Reading
+blank-reading r = columns-of r 0 0 (record-at [])
 
 -- question 4
 abbrev pub counted : (size begin n : ℕ) → Bool

@@ -4,3 +4,4 @@ pub mod Reading
 pub mod FileSteps
 pub mod EveryLaws
 pub mod FileLaws
+pub mod ExaminedLaws

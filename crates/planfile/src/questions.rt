@@ -27,7 +27,7 @@ ghost use lib.Dec.{leb, eqb};
 ghost use lib.ListN.{length, getD, take};
 ghost use Rattle.plan.specs.Limits.{between, «first-letter», «last-letter», «least-file», «most-file»};
 ghost use Rattle.plan.specs.Questions.{every, «at-each»};
-ghost use Rattle.planfile.specs.FileSteps.{inside, fits, counted, «record-refusal», «records-at», «header-refusal», examined};
+ghost use Rattle.planfile.specs.FileSteps.{inside, fits, counted, «record-refusal», «records-at», «header-refusal», «columns-refusal», «blank-reading», examined};
 
 // Question 2.
 fn file_sized(size: usize) -> bool
@@ -149,4 +149,87 @@ fn records_refusal(
         c += 1;
     }
     Refusal { number: 0, cell: 0 }
+}
+
+// Questions 2 to 5.
+fn header_refusal(file: &[u8]) -> Refusal
+    ensures { λ r. ⌜ r ≡ header-refusal (now (file .entry)) ⌝ }
+{
+    let size = file.len();
+    let sized = asked(2, file_sized(size), 0);
+    if sized.number != 0 {
+        return sized;
+    }
+    let t = trailer(file);
+    let marked = asked(3, t.mark == FILE_MARK, 0);
+    if marked.number != 0 {
+        return marked;
+    }
+    let begin = t.begin as usize;
+    let full = asked(4, counted(size, begin, t.count as usize), 0);
+    if full.number != 0 {
+        return full;
+    }
+    asked(5, letters_printable(file, begin), 0)
+}
+
+// Questions 6 to 14, put to the records that were read.
+fn body_refusal(plan: Reading, begin: usize) -> Refusal
+    requires { ⌜ (1 ≤ plan .columns .count) × (plan .columns .count ≤ 256) ⌝ }
+    ensures { λ r. ⌜ r ≡ columns-refusal plan begin ⌝ }
+{
+    let columns = plan.columns;
+    let parents = columns.parent;
+    let kinds = columns.kind;
+    let widths = columns.width;
+    let depths = columns.depth;
+    let sizes = plan.label_length;
+    let starts = plan.label_start;
+    let n = columns.count;
+    let at_records = records_refusal(&parents, &kinds, &widths, &depths, &sizes, &starts, n, begin);
+    if at_records.number != 0 {
+        return at_records;
+    }
+    let at_tree = tree_refusal(&parents, &kinds, &depths, n);
+    if at_tree.number != 0 {
+        return at_tree;
+    }
+    allowance_refusal(plan.allowance as u32)
+}
+
+// No cell, with the refusal.
+fn refused(refusal: Refusal) -> Reading
+    ensures { λ r. ⌜ r ≡ blank-reading refusal ⌝ }
+{
+    Reading {
+        refusal,
+        allowance: 0,
+        columns: Columns {
+            count: 0,
+            parent: [0u16; 256],
+            kind: [0u8; 256],
+            width: [0u16; 256],
+            depth: [0u8; 256],
+        },
+        label_length: [0u8; 256],
+        label_start: [0u16; 256],
+    }
+}
+
+// Questions 2 to 14, and the plan where none refuses it.
+pub fn examined(file: &[u8]) -> Reading
+    ensures { λ r. ⌜ r ≡ examined (now (file .entry)) ⌝ }
+{
+    let at_header = header_refusal(file);
+    if at_header.number != 0 {
+        return refused(at_header);
+    }
+    let t = trailer(file);
+    let begin = t.begin as usize;
+    let plan = records(file, begin, t.count as usize, t.allowance);
+    let at_body = body_refusal(plan, begin);
+    if at_body.number != 0 {
+        return refused(at_body);
+    }
+    plan
 }
