@@ -22,12 +22,13 @@ use Rattle.plan.specs.Trees.{Lower, Flat}
 use Rattle.plan.specs.declared.Record.{Record}
 use Rattle.plan.specs.declared.Refusal.{Refusal}
 use Rattle.planfile.specs.declared.Reading.{Reading}
+use Rattle.planfile.specs.declared.Trailer.{Trailer}
 use Rattle.planfile.specs.Format.{trailer-of, record-at, entry, records-of}
 use Rattle.planfile.specs.Reading.{column, columns-of}
 use Rattle.planfile.specs.FormatLaws.{column-more}
 use Rattle.planfile.specs.FileSteps.{inside, fits, counted, record-refusal, entry-refusal, records-at, columns-refusal, blank-reading, header-refusal, body-refusal, file-refusal, examined}
 
-zero-of : (r a : Refusal) → r ≡ a → r .number ≡ 0 → a .number ≡ 0
+pub zero-of : (r a : Refusal) → r ≡ a → r .number ≡ 0 → a .number ≡ 0
 zero-of r a e z = ap (λ (x : Refusal). x .number) (sym e) ∙ z
 
 -- ---- questions 2 and 4
@@ -129,3 +130,32 @@ module _ (f : List ℕ) (r : Refusal) (e : r ≡ file-refusal f) where
   pub examined-plan : r .number ≡ 0 → columns-of none (trailer-of f .allowance) (trailer-of f .count) (entry f) ≡ examined f
   unfolding examined
   examined-plan z = rw (← e, eq-eqb (r .number) 0 z)
+
+-- ---- the same, as the code has it: the trailer and the plan in locals
+module _ (f : List ℕ) (h : header-refusal f .number ≡ 0) (t : Trailer) (e : t ≡ trailer-of f) where
+  pub room-read : (t .count ≤ 256) × (t .begin + 8 * t .count ≤ length f)
+  room-read = let k = header-read f h .full in rw e (k .few, omega (arith, k .exact))
+
+  module _ (p : Reading) (q : p ≡ columns-of none (t .allowance) (t .count) (λ c. record-at f (t .begin + 8 * c))) where
+    plan-is : p ≡ columns-of none (trailer-of f .allowance) (trailer-of f .count) (entry f)
+    unfolding entry
+    plan-is = rw e at q
+
+    pub count-read : (1 ≤ p .columns .count) × (p .columns .count ≤ 256)
+    unfolding columns-of
+    count-read = let k = header-read f h .full in rw plan-is (k .some, k .few)
+
+    pub body-is : columns-refusal p (t .begin) ≡ body-refusal f
+    body-is = rw (plan-is, e) (plan-refusal f (header-read f h))
+
+    pub plan-examined : (r : Refusal) → r ≡ file-refusal f → r .number ≡ 0 → p ≡ examined f
+    plan-examined r g z = plan-is ∙ examined-plan f r g z
+
+-- no refusal of the two parts
+pub file-passed : (f : List ℕ) (a b : Refusal) → a ≡ header-refusal f → a .number ≡ 0 → b ≡ body-refusal f → b ≡ file-refusal f
+unfolding file-refusal
+file-passed f a b ea za eb = goes-on a (header-refusal f) (body-refusal f) b ea za eb
+
+pub header-stops : (f : List ℕ) (a : Refusal) → a ≡ header-refusal f → ¬ (a .number ≡ 0) → a ≡ file-refusal f
+unfolding file-refusal
+header-stops f a e z = stops a (header-refusal f) (body-refusal f) e z
