@@ -5,3 +5,4 @@ pub mod FileSteps
 pub mod EveryLaws
 pub mod FileLaws
 pub mod ExaminedLaws
+pub mod LabelLaws

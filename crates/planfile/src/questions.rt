@@ -1,7 +1,9 @@
 // The questions put to a file, each as a refusal. A refusal of number 0 is none.
+use crate::Reading;
 use crate::table::records;
 use crate::table::trailer;
-use crate::Reading;
+use plan::Columns;
+use plan::Refusal;
 use plan::kinds::border;
 use plan::limits::FILE_MARK;
 use plan::limits::FIRST_LETTER;
@@ -17,8 +19,6 @@ use plan::questions::asked;
 use plan::questions::cell_refusal;
 use plan::questions::or_else;
 use plan::questions::tree_refusal;
-use plan::Columns;
-use plan::Refusal;
 ghost use mathlib.Core.Path.{_≡_};
 ghost use mathlib.Core.List.{List};
 ghost use mathlib.Core.Bool.{Bool, true, false, _&&_};
@@ -186,7 +186,16 @@ fn body_refusal(plan: Reading, begin: usize) -> Refusal
     let sizes = plan.label_length;
     let starts = plan.label_start;
     let n = columns.count;
-    let at_records = records_refusal(&parents, &kinds, &widths, &depths, &sizes, &starts, n, begin);
+    let at_records = records_refusal(
+        &parents,
+        &kinds,
+        &widths,
+        &depths,
+        &sizes,
+        &starts,
+        n,
+        begin,
+    );
     if at_records.number != 0 {
         return at_records;
     }
@@ -198,7 +207,7 @@ fn body_refusal(plan: Reading, begin: usize) -> Refusal
 }
 
 // No cell, with the refusal.
-fn refused(refusal: Refusal) -> Reading
+pub fn refused(refusal: Refusal) -> Reading
     ensures { λ r. ⌜ r ≡ blank-reading refusal ⌝ }
 {
     Reading {

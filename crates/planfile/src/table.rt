@@ -1,11 +1,11 @@
 // The trailer and the records of a file, read field by field.
-use crate::cursor::Cursor;
 use crate::Reading;
 use crate::Trailer;
-use plan::limits::TRAILER_SIZE;
+use crate::cursor::Cursor;
 use plan::Columns;
 use plan::Record;
 use plan::Refusal;
+use plan::limits::TRAILER_SIZE;
 ghost use mathlib.Core.Path.{_≡_};
 ghost use Prim.Native.Nat.{ℕ, _+_, _*_, _≤_, _<_};
 ghost use lib.ListN.{length, getD};
