@@ -160,7 +160,6 @@ lower-show t a zero i = says-eq _ _ .show (a .root)
 lower-show t a (suc m) i = lt→ltb _ _ (a .fit .sound (suc m) (omega arith) i)
 
 infixr 3 _and_
-
 _and_ : {P Q : Type 0} → P → Q → P × Q
 _and_ p q = (p, q)
 

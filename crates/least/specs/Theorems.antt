@@ -55,11 +55,10 @@ module _ (t : Table) (some-cell : 1 ≤ length t) (sound : Sound t) (al : ℕ) w
   -- 3. A placement that keeps them and whose neighbouring siblings all stand as far apart as ours is our sheet.
   pub sheet-alone : (p : Placement) → Keeps t p al → ((u v : ℕ) → T (next t u v) → p .x v -ℤ p .x u ≡ sheet t al .x v -ℤ sheet t al .x u)
       → Agree t p (sheet t al)
-  sheet-alone p k h =
-      record {
-        x = same-columns t sound p (sheet t al) (k .s1) (sheet-keeps .s1) (k .s2) (sheet-keeps .s2) h;
-        y = λ c i. y-row t p sound (k .s1) c i ∙ sym (y-row t (sheet t al) sound (sheet-keeps .s1) c i);
-      }
+  sheet-alone p k h c i = (
+    same-columns t sound p (sheet t al) (k .s1) (sheet-keeps .s1) (k .s2) (sheet-keeps .s2) h c i,
+    y-row t p sound (k .s1) c i ∙ sym (y-row t (sheet t al) sound (sheet-keeps .s1) c i),
+  )
 
 -- 4. Subtrees of equal shape, widths and depths, of one table or of two, differ by a shift only under one allowance (000's Bd5):
 -- c stands to a as d, in the same place of the other subtree, to b.
@@ -92,7 +91,7 @@ sheet-accepted t al scratch ps e h =
         table = a .table;
         allowance = a .allowance;
         positions = a .positions;
-        near-all = λ c i. rw (h .x c i, h .y c i) (sheet-inside t f al c i);
+        near-all = λ c i. rw (h c i .0, h c i .1) (sheet-inside t f al c i);
       }),
       answer-same t (placed ps) (sheet t al) h (f .some-cell) (f .sound) al ∙ fine-answer t (sheet t al) al k,
     )
