@@ -1,5 +1,5 @@
 -- What the questions establish: a call refuses nothing exactly where each question that it puts is answered yes. Assumes nothing.
-use mathlib.Core.Path.{_≡_, refl, sym, _∙_, ap}
+use mathlib.Core.Path.{_≡_, refl, ap}
 use mathlib.Core.List.{List, [], _∷_}
 use mathlib.Core.Bool.{Bool, true, false, _&&_, cond}
 use mathlib.Core.Logic.{_↔_}
@@ -11,8 +11,8 @@ use lib.Dec.{T, eqb, leb, ltb→lt, lt→ltb}
 use lib.IntN.{ℤ, pos}
 use Rattle.whole.specs.Says.{Says, that-is, both, says-le, says-eq, says-leZ, itself, is-true, holds, fails}
 use Rattle.plan.specs.Lists.{mem, some, from}
-use Rattle.plan.specs.Limits.{most-cells, most-width, most-depth, most-level, last-row, most-allowance, scratch-size, no-parent}
-use Rattle.plan.specs.Plan.{Table, Is, Sound, parent, kind, W, D, children, level, row}
+use Rattle.plan.specs.Limits.{most-cells, most-width, most-depth, most-allowance, scratch-size, no-parent}
+use Rattle.plan.specs.Plan.{Table, Is, parent, kind, W, D}
 use Rattle.plan.specs.Kinds.{about, known, allows}
 use Rattle.plan.specs.Fit.{Fit}
 use Rattle.plan.specs.Questions as asked

@@ -5,7 +5,7 @@ use Prim.Native.Nat.{ℕ, zero, suc, _+_}
 use native.Mathlib.Omega.{arith}
 use lib.ListN.{length}
 use lib.Dec.{T}
-use lib.IntN.{ℤ, pos, _+ℤ_, _-ℤ_}
+use lib.IntN.{ℤ, pos, _+ℤ_}
 use Rattle.plan.specs.Lists.{mem}
 use Rattle.plan.specs.ListLaws.{mem-here, mem-there}
 use Rattle.plan.specs.Plan.{Table, Is, Sound, parent, cells, subtree}
