@@ -39,7 +39,7 @@ module _ (t : Table) (p q : Placement) (agree : Agree t p q) where
   width-same o =
       let e = best-same greater (right t p) (right t q) _ _ (cells t) (right-same 0 o) (λ a m. right-same a (cells-read t a m)) in
       let s = best-same lesser (p .x) (q .x) _ _ (cells t) (agree 0 o .0) (λ a m. agree a (cells-read t a m) .0) in
-      rw (e, s)
+      cc
 
   pub rows-same : Is t 0 → rows t p ≡ rows t q
   unfolding rows
@@ -48,29 +48,29 @@ module _ (t : Table) (p q : Placement) (agree : Agree t p q) where
   -- ---- each test
   kept1-same : Sound t → (a : ℕ) → Is t a → kept1 t p a ≡ kept1 t q a
   unfolding kept1
-  kept1-same sound zero i = rw (agree 0 i .0, agree 0 i .1)
-  kept1-same sound (suc m) i = rw (agree (suc m) i .1, base-same (parent t (suc m)) (omega (arith, sound (suc m) (omega arith) i)))
+  kept1-same sound zero i = cc (agree 0 i .0, agree 0 i .1)
+  kept1-same sound (suc m) i = cc (agree (suc m) i .1, base-same (parent t (suc m)) (omega (arith, sound (suc m) (omega arith) i)))
 
   meets-same : (s e : ℤ) (b : ℕ) → Is t b → meets t p s e b ≡ meets t q s e b
   unfolding meets
-  meets-same s e b i = rw (agree b i .1, base-same b i, bottom-same b i)
+  meets-same s e b i = cc (agree b i .1, base-same b i, bottom-same b i)
 
   box4-same : (a b : ℕ) → Is t a → Is t b → box4 t p a b ≡ box4 t q a b
   unfolding box4
-  box4-same a b i j = rw (meets-same (p .y a) (base t p a) b j, agree a i .1, base-same a i, right-same a i, agree b j .0)
+  box4-same a b i j = cc (meets-same (p .y a) (base t p a) b j, agree a i .1, base-same a i, right-same a i, agree b j .0)
 
   stem4-same : (a b : ℕ) → Is t a → Is t b → stem4 t p a b ≡ stem4 t q a b
   unfolding stem4
-  stem4-same a b i j = rw (meets-same (base t p a +ℤ pos 1) (bottom t p a) b j, base-same a i, bottom-same a i, agree a i .0, agree b j .0)
+  stem4-same a b i j = cc (meets-same (base t p a +ℤ pos 1) (bottom t p a) b j, base-same a i, bottom-same a i, agree a i .0, agree b j .0)
 
   test-same : Sound t → (al r a b : ℕ) → Is t a → Is t b → test t p al r a b ≡ test t q al r a b
   unfolding test
   test-same sound al zero a b i j = refl
-  test-same sound al (suc zero) a b i j = rw (kept1-same sound a i)
-  test-same sound al (suc (suc zero)) a b i j = rw (agree a i .0, agree b j .0)
-  test-same sound al (suc (suc (suc zero))) a b i j = rw (right-same a i, agree a i .0, agree b j .0)
-  test-same sound al (suc (suc (suc (suc zero)))) a b i j = rw (box4-same a b i j, stem4-same a b i j)
-  test-same sound al (suc (suc (suc (suc (suc zero))))) a b i j = rw (right-same a i, agree b j .0)
+  test-same sound al (suc zero) a b i j = cc (kept1-same sound a i)
+  test-same sound al (suc (suc zero)) a b i j = cc (agree a i .0, agree b j .0)
+  test-same sound al (suc (suc (suc zero))) a b i j = cc (right-same a i, agree a i .0, agree b j .0)
+  test-same sound al (suc (suc (suc (suc zero)))) a b i j = cc (box4-same a b i j, stem4-same a b i j)
+  test-same sound al (suc (suc (suc (suc (suc zero))))) a b i j = cc (right-same a i, agree b j .0)
   test-same sound al (suc (suc (suc (suc (suc (suc r)))))) a b i j = refl
 
   pub answer-same : Is t 0 → Sound t → (al : ℕ) → answer t p al ≡ answer t q al
