@@ -1,138 +1,32 @@
--- What the questions establish: a call refuses nothing exactly where each question that it puts is answered yes. Assumes nothing.
-use mathlib.Core.Path.{_≡_, refl, ap}
+-- What the questions establish where Layout refuses nothing, and where Check does. Assumes nothing.
+use mathlib.Core.Path.{_≡_}
 use mathlib.Core.List.{List, [], _∷_}
-use mathlib.Core.Bool.{Bool, true, false, _&&_, cond}
+use mathlib.Core.Bool.{Bool, true, false, _&&_}
 use mathlib.Core.Logic.{_↔_}
 use Prim.Native.Nat.{ℕ, zero, suc, _+_, _*_, _≤_, _<_}
 use native.Mathlib.Omega.{arith}
-use native.Mathlib.Decide.{ℕ-discrete}
 use lib.ListN.{length, getD}
-use lib.Dec.{T, eqb, leb, ltb→lt, lt→ltb}
+use lib.Dec.{T, leb, ltb→lt, lt→ltb}
 use lib.IntN.{ℤ, pos}
-use Rattle.whole.specs.Says.{Says, that-is, both, says-le, says-eq, says-leZ, itself, is-true, holds, fails}
-use Rattle.plan.specs.Lists.{mem, some, from}
+use Rattle.whole.specs.Says.{Says, that-is, both, says-le, says-eq, says-leZ, itself}
+use Rattle.plan.specs.Lists.{mem, some}
 use Rattle.plan.specs.Limits.{most-cells, most-width, most-depth, most-allowance, scratch-size, no-parent}
 use Rattle.plan.specs.Plan.{Table, Is, parent, kind, W, D}
 use Rattle.plan.specs.Kinds.{about, known, allows}
 use Rattle.plan.specs.Fit.{Fit}
 use Rattle.plan.specs.Questions as asked
-use Rattle.plan.specs.Questions.{Lent, absent, long, lent, Call, Given, Question, cells-counted, box-sized, coordinates-near, cell-named, Step, once, each, layout, check, number, puts, sequence, enough, in-file, lower-parent, near, none, or-else, at-each, ask, ask-all, take-step, take-steps, refusal, layout-given, check-given}
-use Rattle.plan.specs.declared.Refusal.{Refusal}
+use Rattle.plan.specs.Questions.{Lent, absent, long, lent, Call, Given, cells-counted, parent-lower, kind-known, box-sized, label-inside, label-fits, coordinates-near, cell-named, layout, check, number, puts, sequence, enough, in-file, lower-parent, near, none, refusal, layout-given, check-given}
 use Rattle.plan.specs.declared.Lookup.{Lookup}
 use Rattle.plan.specs.declared.Lookup.the-variants.{Known, Unknown}
 use Rattle.rules.specs.Placement.{Inside}
+use Rattle.least.specs.Refusals.{Yes, YesSteps, refusal-none}
 
--- ---- the first "no" of several
-abbrev Passes : Refusal → Type 0
-Passes r = r .number ≡ 0
-
-both-pass : (a b : Refusal) → Passes (or-else a b) → Passes a × Passes b
-both-pass a b h = go (eqb (a .number) 0) refl h
-  where
-    go : (v : Bool) → eqb (a .number) 0 ≡ v → Passes (cond v b a) → Passes a × Passes b
-    go true e h = (holds (says-eq (a .number) 0) e, h)
-    go false e h = absurd (fails (says-eq (a .number) 0) e h)
-
-all-pass : (f : ℕ → Refusal) (k d : ℕ) → Passes (at-each f k d) → (c : ℕ) → k ≤ c → c < k + d → Passes (f c)
-unfolding at-each
-all-pass f k zero h c l m = absurd (omega arith)
-all-pass f k (suc d) h c l m =
-    let (p, q) = both-pass (f k) (at-each f (suc k) d) h in
-    elim (ℕ-discrete c k) [ yes e ↦ rw e p | no e ↦ all-pass f (suc k) d q c (omega arith) (omega arith) ]
-
-none-each : (f : ℕ → Refusal) (k d : ℕ) → ((c : ℕ) → k ≤ c → c < k + d → f c ≡ none) → at-each f k d ≡ none
-unfolding at-each
-none-each f k zero h = refl
-none-each f k (suc d) h = rw (h k (omega arith) (omega arith), none-each f (suc k) d (λ c l m. h c (omega arith) (omega arith)))
-
--- no question has the number 0
-not-zero : (call : Call) → T (mem 0 (puts call)) → ⊥
-unfolding puts mem some from
-not-zero asked.read h = h
-not-zero asked.label h = h
-not-zero layout h = h
-not-zero check h = h
-not-zero asked.ends h = h
-
-module _ (call : Call) (g : Given) where
-  abbrev Put : Question → Type 0
-  Put q = T (mem (number q) (puts call))
-
-  -- those of the questions that the call puts are answered yes at cell c
-  abbrev pub Yes : List Question → ℕ → Type 0
-  Yes [] c = Unit {0}
-  Yes (q ∷ qs) c = (Put q → T (asked.holds call g q c)) × Yes qs c
-
-  abbrev pub YesStep : Step → Type 0
-  YesStep (once q) = Yes (q ∷ []) 0
-  YesStep (each qs) = (c : ℕ) → Is (g .table) c → Yes qs c
-
-  abbrev pub YesSteps : List Step → Type 0
-  YesSteps [] = Unit {0}
-  YesSteps (s ∷ ss) = YesStep s × YesSteps ss
-
-  ask-read : (q : Question) (c : ℕ) → Put q → Passes (ask call g q c) → T (asked.holds call g q c)
-  unfolding ask
-  ask-read q c m h = go (asked.holds call g q c) refl h
-    where
-      go : (v : Bool) → asked.holds call g q c ≡ v → Passes (cond v none (record { number = number q; cell = c })) → T v
-      go true e h = tt
-      go false e h = absurd (not-zero call (rw h at m))
-
-  ask-show : (q : Question) (c : ℕ) → T (asked.holds call g q c) → ask call g q c ≡ none
-  unfolding ask
-  ask-show q c h = rw (is-true (itself (asked.holds call g q c)) h)
-
-  all-read : (qs : List Question) (c : ℕ) → Passes (ask-all call g qs c) → Yes qs c
-  unfolding ask-all
-  all-read [] c h = tt
-  all-read (q ∷ qs) c h = go (mem (number q) (puts call)) refl h (all-read qs c)
-    where
-      go : (v : Bool) → mem (number q) (puts call) ≡ v → Passes (cond v (or-else (ask call g q c) (ask-all call g qs c)) (ask-all call g qs c))
-          → (Passes (ask-all call g qs c) → Yes qs c) → Yes (q ∷ qs) c
-      go true e h more = let (a, b) = both-pass (ask call g q c) _ h in (λ m. ask-read q c m a, more b)
-      go false e h more = (λ m. absurd (rw e at m), more h)
-
-  all-show : (qs : List Question) (c : ℕ) → Yes qs c → ask-all call g qs c ≡ none
-  unfolding ask-all
-  all-show [] c y = refl
-  all-show (q ∷ qs) c y = go (mem (number q) (puts call)) refl (all-show qs c (y .1))
-    where
-      go : (v : Bool) → mem (number q) (puts call) ≡ v → ask-all call g qs c ≡ none
-          → cond v (or-else (ask call g q c) (ask-all call g qs c)) (ask-all call g qs c) ≡ none
-      go true e r = rw (ask-show q c (y .0 (rw e tt)), r)
-      go false e r = r
-
-  step-read : (s : Step) → Passes (take-step call g s) → YesStep s
-  unfolding take-step
-  step-read (once q) h = all-read (q ∷ []) 0 h
-  step-read (each qs) h = λ c i. all-read qs c (all-pass (ask-all call g qs) 0 (length (g .table)) h c (omega arith) (omega arith))
-
-  step-show : (s : Step) → YesStep s → take-step call g s ≡ none
-  unfolding take-step
-  step-show (once q) y = all-show (q ∷ []) 0 y
-  step-show (each qs) y = none-each (ask-all call g qs) 0 (length (g .table)) (λ c l m. all-show qs c (y c (omega arith)))
-
-  steps-read : (ss : List Step) → Passes (take-steps call g ss) → YesSteps ss
-  unfolding take-steps
-  steps-read [] h = tt
-  steps-read (s ∷ ss) h = let (a, b) = both-pass (take-step call g s) _ h in (step-read s a, steps-read ss b)
-
-  steps-show : (ss : List Step) → YesSteps ss → take-steps call g ss ≡ none
-  unfolding take-steps
-  steps-show [] y = refl
-  steps-show (s ∷ ss) y = rw (step-show s (y .0), steps-show ss (y .1))
-
-  pub refusal-none : (refusal call g ≡ none) ↔ YesSteps sequence
-  unfolding refusal
-  refusal-none = (λ e. steps-read sequence (ap (λ (r : Refusal). r .number) e), steps-show sequence)
-
--- ---- the calls on a lent table
--- what questions 4, 6 to 8 and 11 to 13 establish of it
+-- what questions 4, 6 to 8 and 11 to 13 establish of a lent table
 pub record Asked (t : Table) : Type 0 where
   pub fit : Fit t
   pub root : parent t 0 ≡ no-parent
 
+-- ---- single questions
 says-between : (low high n : ℕ) → Says (asked.between low high n) ((low ≤ n) × (n ≤ high))
 says-between low high n = both (says-le low n) (says-le n high)
 
@@ -159,6 +53,7 @@ unfolding lower-parent
 lower-show t a zero i = says-eq _ _ .show (a .root)
 lower-show t a (suc m) i = lt→ltb _ _ (a .fit .sound (suc m) (omega arith) i)
 
+-- ---- the questions of a call on a lent table
 infixr 3 _and_
 _and_ : {P Q : Type 0} → P → Q → P × Q
 _and_ p q = (p, q)
@@ -169,8 +64,8 @@ answered q = (λ _. q, tt)
 
 -- the questions that every call on a lent table puts
 record Lends (call : Call) : Type 0 where
-  four : T (mem 4 (puts call))
   one : T (mem 1 (puts call))
+  four : T (mem 4 (puts call))
   six : T (mem 6 (puts call))
   eight : T (mem 8 (puts call))
   eleven : T (mem 11 (puts call))
@@ -231,6 +126,15 @@ module _ (call : Call) (t : Table) (al : ℕ) (s p : Lent) (ps : List ℤ) (cell
       }
 
   -- the questions about a file hold of a lent table
+  yes-record : Asked t → (c : ℕ) → Is t c → Yes call given (parent-lower ∷ kind-known ∷ box-sized ∷ label-inside ∷ label-fits ∷ []) c
+  unfolding asked.holds in-file
+  yes-record a c i =
+      (λ _. lower-show t a c i)
+      and (λ _. allows-known (kind t c) _ (a .fit .family c i))
+      and (λ _. says-sized c .show (a .fit .wide c i, a .fit .deep c i))
+      and (λ _. tt)
+      and answered tt
+
   yes : Granted → YesSteps call given sequence
   unfolding sequence number asked.holds enough in-file
   yes g =
@@ -242,8 +146,7 @@ module _ (call : Call) (t : Table) (al : ℕ) (s p : Lent) (ps : List ℤ) (cell
       and answered count
       and answered (g .positions)
       and answered tt
-      and (λ c i.
-      (λ _. lower-show t (g .table) c i) and (λ _. allows-known (kind t c) _ (f .family c i)) and (λ _. says-sized c .show (f .wide c i, f .deep c i)) and (λ _. tt) and answered tt)
+      and yes-record (g .table)
       and (λ c i. answered (f .family c i))
       and (λ c i. answered (says-le _ _ .show (f .not-too-low c i)))
       and (λ c i. answered (says-le _ _ .show (f .rows-few c i)))
@@ -263,7 +166,7 @@ check-lends : Lends check
 unfolding puts mem some
 check-lends = record { one = tt; four = tt; six = tt; eight = tt; eleven = tt; twelve = tt; thirteen = tt }
 
--- Layout, with scratch and positions of these lengths
+-- ---- Layout, with scratch and positions of these lengths
 pub record LayoutAsked (t : Table) (al s p : ℕ) : Type 0 where
   pub table : Asked t
   pub allowance : al ≤ most-allowance
@@ -288,7 +191,7 @@ layout-asks t al s p = (λ e. there (grants layout t al (long s) (long p) [] 0 l
           named = λ h. absurd h;
         }
 
--- Check, with these positions
+-- ---- Check, with these positions
 pub record CheckAsked (t : Table) (al : ℕ) (ps : List ℤ) : Type 0 where
   pub table : Asked t
   pub allowance : al ≤ most-allowance
