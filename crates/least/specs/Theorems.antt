@@ -96,6 +96,6 @@ sheet-accepted t al scratch ps e h =
       answer-same t (placed ps) (sheet t al) h (f .some-cell) (f .sound) al ∙ fine-answer t (sheet t al) al k,
     )
 
--- 8. The worked sheets ◆A to ◆J come out as document 01 has them, and so do four more that S3 decides.
+-- 8. The worked sheets ◆A to ◆J come out as document 01 has them, and so do five more, which S3 and S5 decide.
 pub worked : map computed sheets ≡ sheets
 worked = computes
