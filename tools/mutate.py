@@ -15,7 +15,8 @@ from pathlib import Path
 ROOT = Path(__file__).resolve().parent.parent
 PLAN, PLAN_LAWS = "plan/specs/Plan.antt", "plan/specs/PlanLaws.antt"
 PLACEMENT, RULES, EXTENTS = "rules/specs/Placement.antt", "rules/specs/Rules.antt", "rules/specs/Extents.antt"
-VERDICT, VERDICT_LAWS, AGREEMENT = "rules/specs/Verdict.antt", "rules/specs/VerdictLaws.antt", "rules/specs/Agreement.antt"
+VERDICT, TESTS = "rules/specs/Verdict.antt", "rules/specs/Tests.antt"
+VERDICT_LAWS, AGREEMENT = "rules/specs/VerdictLaws.antt", "rules/specs/Agreement.antt"
 CONTOUR, CONTOUR_LAWS = "layout/specs/Contour.antt", "layout/specs/ContourLaws.antt"
 SHEET, SHEET_LAWS, SPAN_LAWS = "layout/specs/Sheet.antt", "layout/specs/SheetLaws.antt", "layout/specs/SpanLaws.antt"
 
@@ -30,26 +31,26 @@ MUTATIONS = {
     "S3's first half not strict": [
         (RULES, "T (within t u a) → right t p a <ℤ p .x v", "T (within t u a) → right t p a ≤ℤ p .x v"),
         (VERDICT, "T (within t u a) → right t p a <ℤ p .x b", "T (within t u a) → right t p a ≤ℤ p .x b"),
-        (VERDICT, "only (after-one t a b) (ltZ", "only (after-one t a b) (leZ"),
+        (TESTS, "only (after-one t a b) (ltZ", "only (after-one t a b) (leZ"),
         (VERDICT_LAWS, "(says-some (λ u. next t u b) (path t a)) (says-ltZ", "(says-some (λ u. next t u b) (path t a)) (says-leZ"),
     ],
     "S3's second half not strict": [
         (RULES, "T (within t v b) → p .x u <ℤ p .x b", "T (within t v b) → p .x u ≤ℤ p .x b"),
         (VERDICT, "T (within t v b) → p .x a <ℤ p .x b", "T (within t v b) → p .x a ≤ℤ p .x b"),
-        (VERDICT, "only (before-one t a b) (ltZ", "only (before-one t a b) (leZ"),
+        (TESTS, "only (before-one t a b) (ltZ", "only (before-one t a b) (leZ"),
         (VERDICT_LAWS, "(says-some (λ v. next t a v) (path t b)) (says-ltZ", "(says-some (λ v. next t a v) (path t b)) (says-leZ"),
     ],
     "S4 on boxes only: no row is a stem's": [
         (PLACEMENT, "pub low : ρ ≤ℤ bottom a", "pub low : ρ ≤ℤ base a"),
-        (VERDICT, "share s e (base t p b +ℤ pos 1) (bottom t p b)", "share s e (base t p b +ℤ pos 1) (base t p b)"),
-        (VERDICT, "meets (base t p a +ℤ pos 1) (bottom t p a) b", "meets (base t p a +ℤ pos 1) (base t p a) b"),
+        (TESTS, "share s e (base t p b +ℤ pos 1) (bottom t p b)", "share s e (base t p b +ℤ pos 1) (base t p b)"),
+        (TESTS, "meets (base t p a +ℤ pos 1) (bottom t p a) b", "meets (base t p a +ℤ pos 1) (base t p a) b"),
         (VERDICT_LAWS, "bottom t p", "base t p"),
         (AGREEMENT, "(bottom t p a) b j", "(base t p a) b j"),
     ],
     "S5 without the 1": [
         (RULES, "(right t p a -ℤ p .x b +ℤ pos 1) ≤ℤ pos al", "(right t p a -ℤ p .x b) ≤ℤ pos al"),
         (VERDICT, "(right t p a -ℤ p .x b +ℤ pos 1) ≤ℤ pos al", "(right t p a -ℤ p .x b) ≤ℤ pos al"),
-        (VERDICT, "leZ (right t p a -ℤ p .x b +ℤ pos 1) (pos al)", "leZ (right t p a -ℤ p .x b) (pos al)"),
+        (TESTS, "leZ (right t p a -ℤ p .x b +ℤ pos 1) (pos al)", "leZ (right t p a -ℤ p .x b) (pos al)"),
     ],
     "the width without the least x": [
         (PLACEMENT, "width = most right (right 0) (cells t) -ℤ least (p .x) (p .x 0) (cells t)", "width = most right (right 0) (cells t)"),

@@ -13,7 +13,8 @@ use Rattle.plan.specs.PlanLaws.{subtree-read, cells-read}
 use Rattle.rules.specs.Placement.{Placement, Agree, greater, lesser, best, right, base, bottom, width, rows}
 use Rattle.rules.specs.Search.{Verdict, kept, broken}
 use Rattle.rules.specs.SearchLaws.{lowest-same}
-use Rattle.rules.specs.Verdict.{kept1, meets, box4, stem4, test, verdict, answer}
+use Rattle.rules.specs.Tests.{kept1, meets, box4, stem4, test}
+use Rattle.rules.specs.Verdict.{verdict, answer}
 use Rattle.rules.specs.VerdictLaws.{fine-answer, faulty-answer}
 
 best-same : (pick : ℤ → ℤ → ℤ) (f g : ℕ → ℤ) (m n : ℤ) (l : List ℕ) → m ≡ n → ((a : ℕ) → T (mem a l) → f a ≡ g a) → best pick f m l ≡ best pick g n l
