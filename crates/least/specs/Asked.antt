@@ -1,23 +1,25 @@
 -- What the questions establish where Layout refuses nothing, and where Check does. Assumes nothing.
 use mathlib.Core.Path.{_≡_}
 use mathlib.Core.List.{List, [], _∷_}
-use mathlib.Core.Bool.{Bool, true, false, _&&_}
+use mathlib.Core.Bool.{Bool, true, false}
 use mathlib.Core.Logic.{_↔_}
 use Prim.Native.Nat.{ℕ, zero, suc, _+_, _*_, _≤_, _<_}
 use native.Mathlib.Omega.{arith}
 use lib.ListN.{length, getD}
-use lib.Dec.{T, leb, ltb→lt, lt→ltb}
+use lib.Dec.{T, lt→ltb}
 use lib.IntN.{ℤ, pos}
-use Rattle.whole.specs.Says.{Says, that-is, both, says-le, says-eq, says-leZ, itself}
+use Rattle.whole.specs.Says.{Says, that-is, both, says-le, says-eq, itself}
+use Rattle.whole.specs.Range.{says-within}
 use Rattle.plan.specs.Lists.{mem, some}
-use Rattle.plan.specs.Limits.{most-cells, most-width, most-depth, most-allowance, scratch-size, no-parent}
+use Rattle.plan.specs.Limits.{between, most-cells, most-width, most-depth, most-allowance, scratch-size, no-parent, farthest}
 use Rattle.plan.specs.Plan.{Table, Is, parent, kind, W, D}
 use Rattle.plan.specs.Kinds.{about, known, allows}
 use Rattle.plan.specs.Fit.{Fit}
+use Rattle.plan.specs.StepLaws.{lower-read}
 use Rattle.plan.specs.Questions as asked
-use Rattle.plan.specs.Questions.{Lent, absent, long, lent, Call, Given, cells-counted, parent-lower, kind-known, box-sized, label-inside, label-fits, coordinates-near, cell-named, layout, check, number, puts, sequence, enough, in-file, lower-parent, near, none, refusal, layout-given, check-given}
-use Rattle.plan.specs.declared.Lookup.{Lookup}
-use Rattle.plan.specs.declared.Lookup.the-variants.{Known, Unknown}
+use Rattle.plan.specs.Questions.{Lent, absent, long, lent, Call, Given, cells-counted, parent-lower, kind-known, box-sized, label-inside, label-fits, coordinates-near, cell-named, layout, check, number, puts, sequence, enough, in-file, lower, sized, near, none, refusal, layout-given, check-given}
+use Rattle.plan.specs.declared.kinds.Lookup.{Lookup}
+use Rattle.plan.specs.declared.kinds.Lookup.the-variants.{Known, Unknown}
 use Rattle.rules.specs.Placement.{Inside}
 use Rattle.least.specs.Refusals.{Yes, YesSteps, refusal-none}
 
@@ -27,29 +29,24 @@ pub record Asked (t : Table) : Type 0 where
   pub root : parent t 0 ≡ no-parent
 
 -- ---- single questions
-says-between : (low high n : ℕ) → Says (asked.between low high n) ((low ≤ n) × (n ≤ high))
+says-between : (low high n : ℕ) → Says (between low high n) ((low ≤ n) × (n ≤ high))
 says-between low high n = both (says-le low n) (says-le n high)
 
 pub says-near : (z : ℤ) → Says (near z) (Inside z)
 unfolding near
-says-near z = that-is (both (says-leZ _ z) (says-leZ z _)) (λ h. record { low = h .0; high = h .1 }) (λ h. (h .low, h .high))
+says-near z = that-is (says-within farthest z) (λ h. record { low = h .low; high = h .high }) (λ h. record { low = h .low; high = h .high })
 
 -- a kind that allows some number of children is known
 allows-known : (k n : ℕ) → T (allows k n) → T (known k)
 unfolding allows known
 allows-known k n h = go (about k) h
   where
-    go : (l : Lookup) → T (elim l as (λ _. Bool) [ Known r ↦ leb (r .fewest) n && leb n (r .most) | Unknown ↦ false ]) → T (elim l as (λ _. Bool) [ Known r ↦ true | Unknown ↦ false ])
+    go : (l : Lookup) → T (elim l as (λ _. Bool) [ Known r ↦ between (r .fewest) (r .most) n | Unknown ↦ false ]) → T (elim l as (λ _. Bool) [ Known r ↦ true | Unknown ↦ false ])
     go (Known r) h = tt
     go Unknown h = h
 
-lower-read : (t : Table) (c : ℕ) → 1 ≤ c → T (lower-parent t c) → parent t c < c
-unfolding lower-parent
-lower-read t zero l h = absurd (omega arith)
-lower-read t (suc m) l h = ltb→lt _ _ h
-
-lower-show : (t : Table) → Asked t → (c : ℕ) → Is t c → T (lower-parent t c)
-unfolding lower-parent
+lower-show : (t : Table) → Asked t → (c : ℕ) → Is t c → T (lower c (parent t c))
+unfolding lower
 lower-show t a zero i = says-eq _ _ .show (a .root)
 lower-show t a (suc m) i = lt→ltb _ _ (a .fit .sound (suc m) (omega arith) i)
 
@@ -94,7 +91,7 @@ module _ (call : Call) (t : Table) (al : ℕ) (s p : Lent) (ps : List ℤ) (cell
   says-counted = that-is (both (says-between 1 most-cells (length t)) (itself true)) (λ h. h .0) (λ h. (h, tt))
 
   says-sized : (c : ℕ) → Says (asked.holds call given box-sized c) (((1 ≤ W t c) × (W t c ≤ most-width)) × ((1 ≤ D t c) × (D t c ≤ most-depth)))
-  unfolding asked.holds
+  unfolding asked.holds sized
   says-sized c = both (says-between 1 most-width (W t c)) (says-between 1 most-depth (D t c))
 
   granted : Lends call → YesSteps call given sequence → Granted
@@ -109,14 +106,14 @@ module _ (call : Call) (t : Table) (al : ℕ) (s p : Lent) (ps : List ℤ) (cell
           fit = record {
             some-cell = count .0;
             not-too-many = count .1;
-            sound = λ c h i. lower-read t c h (records c i .0 (l .six));
+            sound = λ c h i. lower-read c (parent t c) h (records c i .0 (l .six));
             wide = λ c i. says-sized c .read (records c i .1 .1 .0 (l .eight)) .0;
             deep = λ c i. says-sized c .read (records c i .1 .1 .0 (l .eight)) .1;
             family = λ c i. more .0 c i .0 (l .eleven);
             not-too-low = λ c i. says-le _ _ .read (more .1 .0 c i .0 (l .twelve));
             rows-few = λ c i. says-le _ _ .read (more .1 .1 .0 c i .0 (l .thirteen));
           };
-          root = says-eq _ _ .read (unfold lower-parent in records 0 (count .0) .0 (l .six));
+          root = says-eq _ _ .read (unfold lower in records 0 (count .0) .0 (l .six));
         };
         scratch = y .0 .0 (l .one);
         positions = after .0 .0 (l .one);

@@ -1,42 +1,23 @@
 -- A call refuses nothing exactly where each question that it puts is answered yes. Assumes nothing.
-use mathlib.Core.Path.{_≡_, refl, ap}
+use mathlib.Core.Path.{_≡_, refl, ap, _∙_}
 use mathlib.Core.List.{List, [], _∷_}
 use mathlib.Core.Bool.{Bool, true, false, cond}
 use mathlib.Core.Logic.{_↔_}
 use Prim.Native.Nat.{ℕ, zero, suc, _+_, _≤_, _<_}
-use native.Mathlib.Omega.{arith}
-use native.Mathlib.Decide.{ℕ-discrete}
 use lib.ListN.{length}
-use lib.Dec.{T, eqb}
-use Rattle.whole.specs.Says.{says-eq, itself, is-true, holds, fails}
+use lib.Dec.{T}
+use Rattle.whole.specs.Says.{itself, is-true}
 use Rattle.plan.specs.Lists.{mem, some, from}
 use Rattle.plan.specs.Plan.{Is}
 use Rattle.plan.specs.Questions as asked
 use Rattle.plan.specs.Questions.{Call, Given, Question, Step, once, each, layout, check, number, puts, sequence, none, or-else, at-each, ask, ask-all, take-step, take-steps, refusal}
+use Rattle.plan.specs.QuestionLaws.{both-none, each-none, each-same}
+use Rattle.plan.specs.CallLaws.{none-first, each-nothing}
 use Rattle.plan.specs.declared.Refusal.{Refusal}
 
 -- ---- the first "no" of several
 abbrev Passes : Refusal → Type 0
 Passes r = r .number ≡ 0
-
-both-pass : (a b : Refusal) → Passes (or-else a b) → Passes a × Passes b
-both-pass a b h = go (eqb (a .number) 0) refl h
-  where
-    go : (v : Bool) → eqb (a .number) 0 ≡ v → Passes (cond v b a) → Passes a × Passes b
-    go true e h = (holds (says-eq (a .number) 0) e, h)
-    go false e h = absurd (fails (says-eq (a .number) 0) e h)
-
-all-pass : (f : ℕ → Refusal) (k d : ℕ) → Passes (at-each f k d) → (c : ℕ) → k ≤ c → c < k + d → Passes (f c)
-unfolding at-each
-all-pass f k zero h c l m = absurd (omega arith)
-all-pass f k (suc d) h c l m =
-    let (p, q) = both-pass (f k) (at-each f (suc k) d) h in
-    elim (ℕ-discrete c k) [ yes e ↦ rw e p | no e ↦ all-pass f (suc k) d q c (omega arith) (omega arith) ]
-
-none-each : (f : ℕ → Refusal) (k d : ℕ) → ((c : ℕ) → k ≤ c → c < k + d → f c ≡ none) → at-each f k d ≡ none
-unfolding at-each
-none-each f k zero h = refl
-none-each f k (suc d) h = rw (h k (omega arith) (omega arith), none-each f (suc k) d (λ c l m. h c (omega arith) (omega arith)))
 
 -- no question has the number 0
 not-zero : (call : Call) → T (mem 0 (puts call)) → ⊥
@@ -65,7 +46,7 @@ module _ (call : Call) (g : Given) where
   YesSteps (s ∷ ss) = YesStep s × YesSteps ss
 
   ask-read : (q : Question) (c : ℕ) → Put q → Passes (ask call g q c) → T (asked.holds call g q c)
-  unfolding ask
+  unfolding ask asked.asked
   ask-read q c m h = go (asked.holds call g q c) refl h
     where
       go : (v : Bool) → asked.holds call g q c ≡ v → Passes (cond v none (record { number = number q; cell = c })) → T v
@@ -73,8 +54,8 @@ module _ (call : Call) (g : Given) where
       go false e h = absurd (not-zero call (rw h at m))
 
   ask-show : (q : Question) (c : ℕ) → T (asked.holds call g q c) → ask call g q c ≡ none
-  unfolding ask
-  ask-show q c h = rw (is-true (itself (asked.holds call g q c)) h)
+  unfolding ask asked.asked
+  ask-show q c h = rw (is-true (itself (asked.holds call g q c)) h, ask, asked.asked)
 
   all-read : (qs : List Question) (c : ℕ) → Passes (ask-all call g qs c) → Yes qs c
   unfolding ask-all
@@ -83,7 +64,7 @@ module _ (call : Call) (g : Given) where
     where
       go : (v : Bool) → mem (number q) (puts call) ≡ v → Passes (cond v (or-else (ask call g q c) (ask-all call g qs c)) (ask-all call g qs c))
           → (Passes (ask-all call g qs c) → Yes qs c) → Yes (q ∷ qs) c
-      go true e h more = let (a, b) = both-pass (ask call g q c) _ h in (λ m. ask-read q c m a, more b)
+      go true e h more = let (a, b) = both-none (ask call g q c) _ h in (λ m. ask-read q c m a, more b)
       go false e h more = (λ m. absurd (rw e at m), more h)
 
   all-show : (qs : List Question) (c : ℕ) → Yes qs c → ask-all call g qs c ≡ none
@@ -93,28 +74,28 @@ module _ (call : Call) (g : Given) where
     where
       go : (v : Bool) → mem (number q) (puts call) ≡ v → ask-all call g qs c ≡ none
           → cond v (or-else (ask call g q c) (ask-all call g qs c)) (ask-all call g qs c) ≡ none
-      go true e r = rw (ask-show q c (y .0 (rw e tt)), r)
+      go true e r = rw (ask-show q c (y .0 (rw e tt)), r) (none-first none)
       go false e r = r
 
   step-read : (s : Step) → Passes (take-step call g s) → YesStep s
   unfolding take-step
   step-read (once q) h = all-read (q ∷ []) 0 h
-  step-read (each qs) h = λ c i. all-read qs c (all-pass (ask-all call g qs) 0 (length (g .table)) h c (omega arith) (omega arith))
+  step-read (each qs) h = λ c i. all-read qs c (each-none (ask-all call g qs) (length (g .table)) h c i)
 
   step-show : (s : Step) → YesStep s → take-step call g s ≡ none
   unfolding take-step
   step-show (once q) y = all-show (q ∷ []) 0 y
-  step-show (each qs) y = none-each (ask-all call g qs) 0 (length (g .table)) (λ c l m. all-show qs c (y c (omega arith)))
+  step-show (each qs) y = each-same (ask-all call g qs) (λ _. none) (length (g .table)) (λ c i. all-show qs c (y c i)) ∙ each-nothing (λ _. none) 0 (length (g .table)) (λ _. refl)
 
   steps-read : (ss : List Step) → Passes (take-steps call g ss) → YesSteps ss
   unfolding take-steps
   steps-read [] h = tt
-  steps-read (s ∷ ss) h = let (a, b) = both-pass (take-step call g s) _ h in (step-read s a, steps-read ss b)
+  steps-read (s ∷ ss) h = let (a, b) = both-none (take-step call g s) _ h in (step-read s a, steps-read ss b)
 
   steps-show : (ss : List Step) → YesSteps ss → take-steps call g ss ≡ none
   unfolding take-steps
   steps-show [] y = refl
-  steps-show (s ∷ ss) y = rw (step-show s (y .0), steps-show ss (y .1))
+  steps-show (s ∷ ss) y = rw (step-show s (y .0), steps-show ss (y .1)) (none-first none)
 
   pub refusal-none : (refusal call g ≡ none) ↔ YesSteps sequence
   unfolding refusal

@@ -38,7 +38,7 @@ or-assoc a b c = go (ℕ-discrete (a .number) 0)
 pub none-first : (r : Refusal) → or-else none r ≡ r
 none-first r = first-none none r refl
 
-each-nothing : (f : ℕ → Refusal) (k d : ℕ) → ((c : ℕ) → f c ≡ none) → at-each f k d ≡ none
+pub each-nothing : (f : ℕ → Refusal) (k d : ℕ) → ((c : ℕ) → f c ≡ none) → at-each f k d ≡ none
 unfolding at-each
 each-nothing f k zero h = refl
 each-nothing f k (suc d) h = cc (h k, each-nothing f (suc k) d h, none-first none)
