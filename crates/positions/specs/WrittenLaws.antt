@@ -1,0 +1,50 @@
+-- Positions written cell by cell. Assumes nothing.
+use mathlib.Core.Path.{_≡_, refl, sym, ap, _∙_}
+use mathlib.Core.List.{List, [], _∷_, _++_, append-assoc}
+use Prim.Native.Nat.{ℕ, zero, suc, _+_, _*_, _≤_, _<_}
+use native.Mathlib.Omega.{arith}
+use lib.ListN.{length, getD, drop, set, length-append, length-drop}
+use lib.Seq.{drop-cons, set-at, append-snoc}
+use lib.IntN.{ℤ, pos}
+use Rattle.rules.specs.Placement.{Placement}
+use Rattle.positions.specs.Written.{corners, written}
+
+module _ (p : Placement) where
+  corners-length : (k d : ℕ) → length (corners p k d) ≡ 2 * d
+  unfolding corners
+  corners-length k zero = omega arith
+  corners-length k (suc d) = omega (arith, corners-length (suc k) d)
+
+  -- the last cell as the first
+  corners-last : (k d : ℕ) → corners p k (suc d) ≡ corners p k d ++ (p .x (k + d) ∷ p .y (k + d) ∷ [])
+  unfolding corners
+  corners-last k zero = let e : k + 0 ≡ k = omega arith in rw e
+  corners-last k (suc d) = let e : k + suc d ≡ suc k + d = omega arith in rw e (cc (corners-last (suc k) d))
+
+  pub written-none : (ps : List ℤ) → ps ≡ written ps p 0
+  unfolding written corners
+  written-none ps = refl
+
+  pub written-length : (ps : List ℤ) (n : ℕ) → 2 * n ≤ length ps → length (written ps p n) ≡ length ps
+  unfolding written
+  written-length ps n h = simp (length-append, length-drop) (omega (arith, corners-length 0 n))
+
+  -- one cell more is written
+  pub written-more : (ps : List ℤ) (n : ℕ) → 2 * n + 2 ≤ length ps → set (set (written ps p n) (2 * n) (p .x n)) (2 * n + 1) (p .y n) ≡ written ps p (n + 1)
+  unfolding written
+  written-more ps n h =
+      let cs = corners p 0 n in
+      let l : length cs ≡ 2 * n = corners-length 0 n in
+      let a : drop (2 * n) ps ≡ getD ps (2 * n) (pos 0) ∷ drop (suc (2 * n)) ps = drop-cons ps (2 * n) (pos 0) (omega arith) in
+      let b : drop (suc (2 * n)) ps ≡ getD ps (suc (2 * n)) (pos 0) ∷ drop (suc (suc (2 * n))) ps = drop-cons ps (suc (2 * n)) (pos 0) (omega arith) in
+      let rest = drop (suc (suc (2 * n))) ps in
+      let first : set (cs ++ getD ps (2 * n) (pos 0) ∷ getD ps (suc (2 * n)) (pos 0) ∷ rest) (2 * n) (p .x n) ≡ cs ++ p .x n ∷ getD ps (suc (2 * n)) (pos 0) ∷ rest
+          = set-at cs _ _ _ (2 * n) l in
+      let m : length (cs ++ (p .x n ∷ [])) ≡ 2 * n + 1 = simp length-append (omega arith) in
+      let second : set ((cs ++ (p .x n ∷ [])) ++ getD ps (suc (2 * n)) (pos 0) ∷ rest) (2 * n + 1) (p .y n) ≡ (cs ++ (p .x n ∷ [])) ++ p .y n ∷ rest
+          = set-at (cs ++ (p .x n ∷ [])) _ _ _ (2 * n + 1) m in
+      let e : n + 1 ≡ suc n = omega arith in
+      let f : 2 * suc n ≡ suc (suc (2 * n)) = omega arith in
+      let g : 0 + n ≡ n = omega arith in
+      let last = rw g at (corners-last 0 n) in
+      rw (a, b, first, e, f, last, append-assoc) (simp append-snoc at second)
