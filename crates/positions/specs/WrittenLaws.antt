@@ -5,7 +5,8 @@ use Prim.Native.Nat.{ℕ, zero, suc, _+_, _*_, _≤_, _<_}
 use native.Mathlib.Omega.{arith}
 use lib.ListN.{length, getD, drop, set, length-append, length-drop}
 use lib.Seq.{drop-cons, set-at, append-snoc}
-use lib.IntN.{ℤ, pos}
+use lib.IntN.{ℤ, pos, _+ℤ_, _-ℤ_}
+use Rattle.whole.specs.Whole.{whole, sum, diff}
 use Rattle.rules.specs.Placement.{Placement}
 use Rattle.positions.specs.Written.{corners, written}
 
@@ -30,7 +31,7 @@ module _ (p : Placement) where
   written-length ps n h = simp (length-append, length-drop) (omega (arith, corners-length 0 n))
 
   -- one cell more is written
-  pub written-more : (ps : List ℤ) (n : ℕ) → 2 * n + 2 ≤ length ps → set (set (written ps p n) (2 * n) (p .x n)) (2 * n + 1) (p .y n) ≡ written ps p (n + 1)
+  written-more : (ps : List ℤ) (n : ℕ) → 2 * n + 2 ≤ length ps → set (set (written ps p n) (2 * n) (p .x n)) (2 * n + 1) (p .y n) ≡ written ps p (n + 1)
   unfolding written
   written-more ps n h =
       let cs = corners p 0 n in
@@ -48,3 +49,14 @@ module _ (p : Placement) where
       let g : 0 + n ≡ n = omega arith in
       let last = rw g at (corners-last 0 n) in
       rw (a, b, first, e, f, last, append-assoc) (simp append-snoc at second)
+
+  pub written-put : (ps qs : List ℤ) (n : ℕ) (x y : ℤ) → qs ≡ written ps p n → x ≡ p .x n → y ≡ p .y n → 2 * n + 2 ≤ length ps
+      → set (set qs (2 * n) x) (2 * n + 1) y ≡ written ps p (n + 1)
+  written-put ps qs n x y e f g h = rw (e, f, g) (written-more ps n h)
+
+-- ---- a whole number from the natural ones that hold it
+pub less-none : (a : ℕ) → pos a -ℤ pos 0 ≡ pos a
+less-none a = omega (whole, diff (pos a) (pos 0))
+
+pub lowered : (a b : ℕ) (z : ℤ) → pos a ≡ z +ℤ pos b → pos a -ℤ pos b ≡ z
+lowered a b z e = omega (whole, diff (pos a) (pos b), sum z (pos b))

@@ -25,13 +25,13 @@ fn wide(x: u16) -> usize
 }
 
 fn wide32(x: u16) -> u32
-    ensures { λ r. ⌜ r ≡ x ⌝ }
+    ensures { λ r. ⌜ (r ≡ x) × (r < 65536) ⌝ }
 {
     x as u32
 }
 
 fn wide8(x: u8) -> u32
-    ensures { λ r. ⌜ r ≡ x ⌝ }
+    ensures { λ r. ⌜ (r ≡ x) × (r < 256) ⌝ }
 {
     x as u32
 }
@@ -80,7 +80,23 @@ pub fn raised(t: Columns, marks: &[u32; 1024]) -> [u32; 256]
     xs
 }
 
-// x and y of the cell c.
+// The x of the cell c.
+fn x_of(xs: &[u32; 256], c: usize) -> i32
+    requires { ⌜ (c < 256) × (getD (now xs) c 0 ≤ 2 * farthest) ⌝ }
+    ensures { λ r. ⌜ r ≡ pos (getD (now (xs .entry)) c 0) -ℤ pos farthest ⌝ }
+{
+    difference(xs[c], FARTHEST)
+}
+
+// Its y.
+fn y_of(tops: &[u16; 256], c: usize) -> i32
+    requires { ⌜ c < 256 ⌝ }
+    ensures { λ r. ⌜ r ≡ pos (getD (now (tops .entry)) c 0) ⌝ }
+{
+    difference(wide32(tops[c]), 0)
+}
+
+// Both are written.
 fn put_corner(positions: &mut [i32], c: usize, x: i32, y: i32)
     requires { ⌜ 2 * c + 2 ≤ length (now positions) ⌝ }
     ensures { λ _. ⌜ now (positions .exit) ≡ set (set (now (positions .entry)) (2 * c) x) (2 * c + 1) y ⌝ }
@@ -96,11 +112,17 @@ pub fn write_positions(xs: &[u32; 256], tops: &[u16; 256], n: usize, positions: 
 {
     let mut c: usize = 0;
     while c < n {
-        let x = difference(xs[c], FARTHEST);
-        let y = difference(wide32(tops[c]), 0);
-        put_corner(positions, c, x, y);
+        put_corner(positions, c, x_of(xs, c), y_of(tops, c));
         c += 1;
     }
+}
+
+// The last column of a box, moved up.
+fn right_edge(xs: &[u32; 256], widths: &[u16; 256], c: usize) -> u32
+    requires { ⌜ (c < 256) × (getD (now xs) c 0 ≤ 2 * farthest) ⌝ }
+    ensures { λ r. ⌜ r ≡ getD (now (xs .entry)) c 0 + getD (now (widths .entry)) c 0 ⌝ }
+{
+    xs[c] + wide32(widths[c])
 }
 
 // The greatest right edge less the least x.
@@ -109,25 +131,33 @@ pub fn sheet_width(xs: &[u32; 256], widths: &[u16; 256], n: usize) -> u32
     ensures { λ r. ⌜ ((p : Placement) (ps ks ds : List ℕ) → Raised (now (xs .entry)) n (p .x) → pos r ≡ width (table ps ks (now (widths .entry)) ds n) p) ⌝ }
 {
     let mut least = xs[0];
-    let mut most = xs[0] + wide32(widths[0]);
+    let mut most = right_edge(xs, widths, 0);
     let mut c: usize = 1;
     while c < n {
         least = lesser(least, xs[c]);
-        most = greater(most, xs[c] + wide32(widths[c]));
+        most = greater(most, right_edge(xs, widths, c));
         c += 1;
     }
     most - least
 }
 
-// The last row of all boxes, and one.
+// The last row of a box.
+fn last_row(tops: &[u16; 256], depths: &[u8; 256], c: usize) -> u32
+    requires { ⌜ c < 256 ⌝ }
+    ensures { λ r. ⌜ (r ≡ getD (now (tops .entry)) c 0 + getD (now (depths .entry)) c 0) × (r ≤ 65790) ⌝ }
+{
+    wide32(tops[c]) + wide8(depths[c])
+}
+
+// The last row of all, and one.
 pub fn sheet_rows(tops: &[u16; 256], depths: &[u8; 256], n: usize) -> u32
     requires { ⌜ (1 ≤ n) × (n ≤ 256) ⌝ }
     ensures { λ r. ⌜ ((ps ks ws : List ℕ) → Sound (table ps ks ws (now (depths .entry)) n) → Column (now (tops .entry)) n (row (table ps ks ws (now (depths .entry)) n)) → r ≡ bottom (table ps ks ws (now (depths .entry)) n) 0 + 1) ⌝ }
 {
-    let mut last = wide32(tops[0]) + wide8(depths[0]);
+    let mut last = last_row(tops, depths, 0);
     let mut c: usize = 1;
     while c < n {
-        last = greater(last, wide32(tops[c]) + wide8(depths[c]));
+        last = greater(last, last_row(tops, depths, c));
         c += 1;
     }
     last + 1

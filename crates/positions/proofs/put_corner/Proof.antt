@@ -1,3 +1,5 @@
+use lib.ListN.{length-set}
+use native.Mathlib.Omega.{arith}
 use borrow.Author.Needs.{needs}
 use Rattle.positions.proofs.put_corner.Statement.{statement}
 use Rattle.positions.proofs.put_corner.Tie as tie
@@ -30,7 +32,7 @@ mul-y-2 c = search needs
 
 -- src/lib.rt:89:5
 slice-set-from-y : tie.Need-slice-set-from-y
-slice-set-from-y c = search needs
+slice-set-from-y c = simp length-set (omega arith)
 
 -- src/lib.rt:84:1
 same-length : tie.Need-same-length

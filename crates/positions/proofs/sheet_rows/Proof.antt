@@ -1,89 +1,66 @@
+use mathlib.Core.Path.{_≡_, ap}
+use Prim.Native.Nat.{ℕ, _+_, _-_, _≤_}
+use lib.ListN.{getD}
+use native.Mathlib.Omega.{arith}
+use Rattle.positions.specs.Measured.{Greatest, greatest-one, greatest-more, bottom-is}
 use borrow.Author.Needs.{needs}
 use Rattle.positions.proofs.sheet_rows.Statement.{statement}
 use Rattle.positions.proofs.sheet_rows.Tie as tie
 use Rattle.positions.proofs.sheet_rows.Reads as reads
 use Rattle.positions.proofs.sheet_rows.Lts as lts
 use Rattle.positions.proofs.greater.Reads as greater-reads
-use Rattle.positions.proofs.wide32.Reads as wide32-reads
-use Rattle.positions.proofs.wide8.Reads as wide8-reads
+use Rattle.positions.proofs.last_row.Reads as last-row-reads
 
 abbrev Inv-loop : tie.InvT-loop
-Inv-loop tops depths n last₀ c₀ last c = ?
+Inv-loop tops depths n last₀ c₀ last c = (1 ≤ c) × (c ≤ n) × Greatest (λ a. getD tops a 0 + getD depths a 0) c last × (last ≤ 65790)
 
 abbrev μ-loop : tie.MeasureT-loop
-μ-loop tops depths n last₀ c₀ last c = ?
+μ-loop tops depths n last₀ c₀ last c = n - c
 
--- src/lib.rt:127:27
-element-copy-out-wide32 : tie.Need-element-copy-out-wide32 Inv-loop μ-loop
-element-copy-out-wide32 c = search needs
+-- src/lib.rt:157:9
+last-row-requires : tie.Need-last-row-requires Inv-loop μ-loop
+last-row-requires c κs = search needs
 
--- src/lib.rt:127:20
-wide32-requires : tie.Need-wide32-requires Inv-loop μ-loop
-wide32-requires c κs = search needs
-
--- src/lib.rt:127:44
-element-copy-out-wide8 : tie.Need-element-copy-out-wide8 Inv-loop μ-loop
-element-copy-out-wide8 c = search needs
-
--- src/lib.rt:127:38
-wide8-requires : tie.Need-wide8-requires Inv-loop μ-loop
-wide8-requires c κs = search needs
-
--- src/lib.rt:127:20
-add-last : tie.Need-add-last Inv-loop μ-loop
-add-last c = search needs
-
--- src/lib.rt:129:5
+-- src/lib.rt:159:5
 loop-holds : tie.Need-loop-holds Inv-loop μ-loop
-loop-holds c = search needs
+loop-holds c = 
+    let a = c .before .args in
+    (omega arith, omega arith, rw (c .last-row .ensures .0) (greatest-one (λ x. getD (a .tops .now) x 0 + getD (a .depths .now) x 0)), c .last-row .ensures .1)
 
--- src/lib.rt:130:37
-mul-wide32 : tie.Need-mul-wide32 Inv-loop μ-loop
-mul-wide32 c = search needs
+-- src/lib.rt:160:30
+last-row-requires-2 : tie.Need-last-row-requires-2 Inv-loop μ-loop
+last-row-requires-2 c κs = search needs
 
--- src/lib.rt:130:37
-element-copy-out-wide32-2 : tie.Need-element-copy-out-wide32-2 Inv-loop μ-loop
-element-copy-out-wide32-2 c = search needs
-
--- src/lib.rt:130:30
-wide32-requires-2 : tie.Need-wide32-requires-2 Inv-loop μ-loop
-wide32-requires-2 c κs = search needs
-
--- src/lib.rt:130:54
-element-copy-out-wide8-2 : tie.Need-element-copy-out-wide8-2 Inv-loop μ-loop
-element-copy-out-wide8-2 c = search needs
-
--- src/lib.rt:130:48
-wide8-requires-2 : tie.Need-wide8-requires-2 Inv-loop μ-loop
-wide8-requires-2 c κs = search needs
-
--- src/lib.rt:130:30
-add-greater : tie.Need-add-greater Inv-loop μ-loop
-add-greater c = search needs
-
--- src/lib.rt:130:9
+-- src/lib.rt:160:9
 greater-requires : tie.Need-greater-requires Inv-loop μ-loop
 greater-requires c κs = search needs
 
--- src/lib.rt:131:9
+-- src/lib.rt:161:9
 add-c : tie.Need-add-c Inv-loop μ-loop
 add-c c = search needs
 
--- src/lib.rt:129:5
+-- src/lib.rt:159:5
 loop-less : tie.Need-loop-less Inv-loop μ-loop
 loop-less c = search needs
 
--- src/lib.rt:129:5
+-- src/lib.rt:159:5
 loop-again : tie.Need-loop-again Inv-loop μ-loop
-loop-again c = search needs
+loop-again c = 
+    let l = c .before .before .before in
+    let a = l .before .before .args in
+    (omega arith, omega arith, rw (c .greater .ensures, c .before .last-row2 .ensures .0) (greatest-more (λ x. getD (a .tops .now) x 0 + getD (a .depths .now) x 0) (l .loop .c) (l .loop .last) (l .loop .inv .2)), omega arith)
 
--- src/lib.rt:133:5
+-- src/lib.rt:163:5
 add-result : tie.Need-add-result Inv-loop μ-loop
 add-result c = search needs
 
--- src/lib.rt:123:1
+-- src/lib.rt:153:1
 returns : tie.Need-returns Inv-loop μ-loop
-returns c = search needs
+returns c = 
+    let l = c .before .loop in
+    let a = c .before .before .before .args in
+    let e : l .c ≡ a .n = omega arith in
+    λ ps ks ws sound col. ap (λ (x : ℕ). x + 1) (bottom-is ps ks ws (a .depths .now) (a .n) (omega arith) sound (a .tops .now) col (l .last) (rw e at (l .inv .2)))
 
 pub sheet-rows-spec : {M : Type 1} → statement M
 sheet-rows-spec =
@@ -91,18 +68,9 @@ sheet-rows-spec =
     (tie.spec
     Inv-loop
     μ-loop
-    element-copy-out-wide32
-    wide32-requires
-    element-copy-out-wide8
-    wide8-requires
-    add-last
+    last-row-requires
     loop-holds
-    mul-wide32
-    element-copy-out-wide32-2
-    wide32-requires-2
-    element-copy-out-wide8-2
-    wide8-requires-2
-    add-greater
+    last-row-requires-2
     greater-requires
     add-c
     loop-less
