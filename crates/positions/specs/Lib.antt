@@ -3,3 +3,4 @@ pub mod WrittenLaws
 pub mod Raised
 pub mod RaisedLaws
 pub mod Measured
+pub mod Agree
