@@ -4,6 +4,9 @@ ghost use Rattle.plan.specs.Limits.{farthest};
 ghost use lib.ListN.{length, getD};
 ghost use Rattle.rows.specs.Rows.{Low, box-to, max-to, clash-to, shifted-of, put-one, upto-rows, beyond-rows};
 
+// Numbers in a row of the scratch: a left and a right extent for each of 32 levels.
+pub const ROW: usize = 64;
+
 pub fn less(a: u32, b: u32) -> u32
     ensures { λ r. ⌜ r ≡ a - b ⌝ }
 {
@@ -20,7 +23,7 @@ pub fn extent_at(rows: &[u32], row: usize, column: usize) -> u32
     requires { ⌜ 64 * row + column < length (now rows) ⌝ }
     ensures { λ r. ⌜ r ≡ getD (now (rows .entry)) (64 * row + column) 0 ⌝ }
 {
-    rows[64 * row + column]
+    rows[ROW * row + column]
 }
 
 // The first n rows of the column k become 0, w.
@@ -30,7 +33,7 @@ pub fn box_rows(rows: &mut [u32], k: usize, n: usize, w: u32)
 {
     let mut j: usize = 0;
     while j < n {
-        let b = 64 * j + k;
+        let b = ROW * j + k;
         rows[b] = 0;
         rows[b + 1] = w;
         j += 1;
@@ -78,7 +81,7 @@ pub fn put_row(rows: &mut [u32], at: usize, j: usize, l: u32, r: u32)
     requires { ⌜ (at ≤ 60) × (64 * j + 64 ≤ length (now rows)) ⌝ }
     ensures { λ _. ⌜ now (rows .exit) ≡ put-one (now (rows .entry)) at j l r ⌝ }
 {
-    let b = 64 * j + at;
+    let b = ROW * j + at;
     rows[b] = l;
     rows[b + 1] = r;
     rows[b + 2] = 0;
