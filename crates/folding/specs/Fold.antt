@@ -3,10 +3,10 @@ use Prim.Native.Nat.{ℕ, zero, suc, _+_}
 use mathlib.Core.Bool.{Bool, cond}
 use mathlib.Core.List.{List, [], _∷_, _++_}
 use lib.Dec.{ltb}
-use lib.ListN.{replicate}
+use lib.ListN.{length, replicate}
 use Rattle.plan.specs.Plan.{Table, W, place}
 use Rattle.layout.specs.Contour.{Contour, greatest}
-use Rattle.layout.specs.Forest.{Forest, none, tree, count, traces}
+use Rattle.layout.specs.Forest.{Forest, none, tree, traces}
 use Rattle.layout.specs.Join.{Merge, upto, beyond, separationTo}
 
 -- of the children joined so far: their number, their rows, the right extent of the latest and its distance from the first
@@ -49,7 +49,7 @@ boxed d w a = record { left = replicate (d + 1) 0 ++ a .merge .left; right = rep
 
 -- the children of c, all joined
 abbrev pub folded : Table → ℕ → ℕ → Forest → Tally
-folded t al c ss = add-all al (place t c (count ss)) fresh (traces t al ss)
+folded t al c ss = add-all al (place t c (length (traces t al ss))) fresh (traces t al ss)
 
 -- W + 1 of each cell of a forest: what bounds its extents
 unfoldable pub weight : Table → Forest → ℕ
