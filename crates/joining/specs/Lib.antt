@@ -1,1 +1,4 @@
 pub mod Joining
+pub mod Numbers
+pub mod MarkLaws
+pub mod Complete
