@@ -2,3 +2,4 @@ pub mod Joining
 pub mod Numbers
 pub mod MarkLaws
 pub mod Complete
+pub mod Settle

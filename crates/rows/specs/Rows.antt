@@ -1,7 +1,7 @@
 -- The scratch as a table of rows of 64 numbers: the left extent of row j in the column k is at 64 j + k, the right one after it.
 use mathlib.Core.Path.{_≡_, refl, _∙_}
 use mathlib.Core.List.{List}
-use mathlib.Core.Bool.{Bool, true, false}
+use mathlib.Core.Bool.{Bool, cond}
 use Prim.Native.Nat.{ℕ, zero, suc, _+_, _-_, _*_, _≤_, _<_, max, min}
 use native.Mathlib.Numerals.{add-one}
 use native.Mathlib.Omega.{arith}
@@ -32,8 +32,7 @@ clash-to xs k x zero = 0
 clash-to xs k x (suc n) = max (clash-to xs k x n) ((extent xs n (k + 1) - x) + extent xs n (k + 2) + 1)
 
 abbrev pub shifted-of : Bool → ℕ → ℕ → ℕ → ℕ
-shifted-of true old g new = max (old + g) new
-shifted-of false old g new = new
+shifted-of there old g new = cond there (max (old + g) new) new
 
 abbrev pub put-one : List ℕ → ℕ → ℕ → ℕ → ℕ → List ℕ
 put-one xs at j l r =
