@@ -3,10 +3,10 @@ use Prim.Native.Nat.{ℕ, zero, suc, _+_}
 use mathlib.Core.Bool.{Bool, cond}
 use mathlib.Core.List.{List, [], _∷_, _++_}
 use lib.Dec.{ltb}
-use lib.ListN.{length, replicate}
-use Rattle.plan.specs.Plan.{Table, W, place}
+use lib.ListN.{length, take, replicate}
+use Rattle.plan.specs.Plan.{Table, place}
 use Rattle.layout.specs.Contour.{Contour, greatest}
-use Rattle.layout.specs.Forest.{Forest, none, tree, traces}
+use Rattle.layout.specs.Sheet.{contours}
 use Rattle.layout.specs.Join.{Merge, upto, beyond, separationTo}
 
 -- of the children joined so far: their number, their rows, the right extent of the latest and its distance from the first
@@ -47,11 +47,6 @@ module _ (al : ℕ) where
 abbrev pub boxed : ℕ → ℕ → Tally → Contour
 boxed d w a = record { left = replicate (d + 1) 0 ++ a .merge .left; right = replicate (d + 1) w ++ a .merge .right }
 
--- the children of c, all joined
-abbrev pub folded : Table → ℕ → ℕ → Forest → Tally
-folded t al c ss = add-all al (place t c (length (traces t al ss))) fresh (traces t al ss)
-
--- W + 1 of each cell of a forest: what bounds its extents
-unfoldable pub weight : Table → Forest → ℕ
-weight t none = 0
-weight t (tree c ss r) = (W t c + 1) + weight t ss + weight t r
+-- the first o children of c, joined
+abbrev pub partial : Table → ℕ → ℕ → ℕ → Tally
+partial t al c o = add-all al (place t c (length (contours t al c))) fresh (take o (contours t al c))

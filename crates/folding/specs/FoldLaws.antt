@@ -1,21 +1,24 @@
 -- The engine's way of joining gives the contours, offsets and middles of the definition. Assumes nothing.
 use Prim.Native.Nat.{ℕ, zero, suc, _+_, _-_, _≤_, _<_}
 use mathlib.Core.Bool.{Bool, true, false}
-use mathlib.Core.List.{List, [], _∷_, _++_}
+use mathlib.Core.List.{List, [], _∷_, _++_, map}
 use mathlib.Core.Path.{_≡_, refl, ap, sym, _∙_, subst}
 use native.Mathlib.Omega.{arith}
 use lib.Dec.{ltb}
-use lib.ListN.{length, replicate}
+use lib.ListN.{length, take, replicate, length-map}
+use lib.Seq.{take-all, length-take-le}
 use borrow.Author.Tests.{lt-ltb, le-ltb}
 use native.Mathlib.Decide.{decLt}
-use Rattle.plan.specs.Plan.{Table, W, D, place}
+use Rattle.plan.specs.Lists.{At}
+use Rattle.plan.specs.ListLaws.{at-less}
+use Rattle.plan.specs.Plan.{Table, Sound, W, D, children, place}
 use Rattle.plan.specs.PlanLaws.{place-below}
 use Rattle.layout.specs.Contour.{Contour, separation, step, offset, lefts, rights, contour}
-use Rattle.layout.specs.Sheet.{middle, around}
-use Rattle.layout.specs.Forest.{Forest, traces}
+use Rattle.layout.specs.Sheet.{middle, around, contours, whole-contour}
+use Rattle.layout.specs.SheetLaws.{contours-are}
 use Rattle.layout.specs.Join.{Merge, upto, beyond, separationTo, joined, joined-is, Near, near-separation, near-beyond, near-upto, first-near}
-use Rattle.folding.specs.Fold.{Tally, fresh, first, later, side, add-at, add, add-all, boxed, folded}
-use Rattle.folding.specs.Held.{upto-past, beyond-past}
+use Rattle.folding.specs.Fold.{Tally, fresh, first, later, side, add-at, add, add-all, boxed, partial}
+use Rattle.folding.specs.Held.{upto-past, beyond-past, add-done}
 
 -- o is the latest of the children joined, of which number m is the appointed one
 pub record Latest (m : ℕ) (a : Tally) (o : Contour) : Type 0 where
@@ -132,6 +135,33 @@ module _ (al : ℕ) where
         let z : suc m - 1 ≡ m = omega arith in
         rw z at (middle-from m os (first o) o (latest-first m o) (omega arith) (omega arith))
 
+  -- ---- one child after another
+  -- the next one
+  add-next : (f : ℕ → Contour) (m : ℕ) (a : Tally) (cs : List ℕ) (i c : ℕ) → At cs i c → add-all al m a (take (suc i) (map f cs)) ≡ add al m (add-all al m a (take i (map f cs))) (f c)
+  unfolding add-all
+  add-next f m a [] i c h = absurd h
+  add-next f m a (x ∷ cs) zero c h = rw h
+  add-next f m a (x ∷ cs) (suc i) c h = add-next f m (add al m a (f x)) cs i c h
+
+  -- where each stands
+  far-from : (m : ℕ) (os : List Contour) (i : ℕ) (a : Tally) (o : Contour) → Latest m a o → i < length os
+      → add-all al m a (take (suc i) os) .far ≡ offset al (a .far + step al o os) os i
+  unfolding add-all offset step
+  far-from m [] i a o h l = absurd (omega arith)
+  far-from m (p ∷ ps) zero a o h l = add-far m a p o h
+  far-from m (p ∷ ps) (suc i) a o h l = far-from m ps i (add al m a p) p (add-latest m a p o h) (omega arith) ∙ rw (add-far m a p o h)
+
+  far-at : (m : ℕ) (os : List Contour) (i : ℕ) → i < length os → add-all al m fresh (take (suc i) os) .far ≡ offset al 0 os i
+  unfolding add-all add offset
+  far-at m [] i l = absurd (omega arith)
+  far-at m (o ∷ os) zero l = refl
+  far-at m (o ∷ os) (suc i) l = far-from m os i (first o) o (latest-first m o) (omega arith)
+
+  done-at : (m : ℕ) (a : Tally) (os : List Contour) → add-all al m a os .done ≡ a .done + length os
+  unfolding add-all
+  done-at m a [] = omega arith
+  done-at m a (o ∷ os) = omega (arith, done-at m (add al m a o) os, add-done al m a o)
+
 -- ---- the children of c
 module _ (t : Table) (al c : ℕ) where
   box-of : (os : List Contour) → boxed (D t c) (W t c) (add-all al (place t c (length os)) fresh os) ≡ around t al c os
@@ -146,9 +176,35 @@ module _ (t : Table) (al c : ℕ) where
   middle-of [] = refl
   middle-of (o ∷ os) = fold-middle al o os (place t c (length (o ∷ os))) (omega (arith, place-below t c (length (o ∷ os)) (omega arith)))
 
-  -- a box over them has the contour of the definition, and stands at its middle
-  pub folded-box : (ss : Forest) → boxed (D t c) (W t c) (folded t al c ss) ≡ around t al c (traces t al ss)
-  folded-box ss = box-of (traces t al ss)
+  pub contours-length : length (contours t al c) ≡ length (children t c)
+  unfolding contours
+  contours-length = simp length-map
 
-  pub folded-middle : (ss : Forest) → folded t al c ss .far - folded t al c ss .merge .past ≡ middle t al c (traces t al ss)
-  folded-middle ss = middle-of (traces t al ss)
+  pub partial-none : partial t al c 0 ≡ fresh
+  unfolding add-all
+  partial-none = go (contours t al c)
+    where
+      go : (os : List Contour) → add-all al (place t c (length (contours t al c))) fresh (take 0 os) ≡ fresh
+      go [] = refl
+      go (o ∷ os) = refl
+
+  pub partial-next : Sound t → (i s : ℕ) → At (children t c) i s → add al (place t c (length (contours t al c))) (partial t al c i) (whole-contour t al s) ≡ partial t al c (suc i)
+  partial-next sound i s h = rw (contours-are t sound al c) (sym (add-next al (whole-contour t al) _ fresh (children t c) i s h))
+
+  pub partial-done : (i : ℕ) → i ≤ length (children t c) → partial t al c i .done ≡ i
+  partial-done i l = done-at al _ fresh (take i (contours t al c)) ∙ omega (arith, length-take-le i (contours t al c) (omega (arith, contours-length)))
+
+  -- a child stands at its offset
+  pub partial-far : (i s : ℕ) → At (children t c) i s → partial t al c (suc i) .far ≡ offset al 0 (contours t al c) i
+  partial-far i s h = far-at al _ (contours t al c) i (omega (arith, contours-length, at-less (children t c) i s h))
+
+  module _ (i : ℕ) (all : i ≡ length (children t c)) where
+    partial-all : partial t al c i ≡ add-all al (place t c (length (contours t al c))) fresh (contours t al c)
+    partial-all = ap (add-all al (place t c (length (contours t al c))) fresh) (take-all i (contours t al c) (omega (arith, contours-length)))
+
+    -- a box over all has the contour of the definition, and stands at its middle
+    pub partial-box : boxed (D t c) (W t c) (partial t al c i) ≡ whole-contour t al c
+    partial-box = ap (boxed (D t c) (W t c)) partial-all ∙ box-of (contours t al c)
+
+    pub partial-middle : partial t al c i .far - partial t al c i .merge .past ≡ middle t al c (contours t al c)
+    partial-middle = ap (λ (a : Tally). a .far - a .merge .past) partial-all ∙ middle-of (contours t al c)
