@@ -11,10 +11,7 @@ use lib.Seq.{getD-set-same, getD-set-other}
 use Rattle.rows.specs.Rows.{box-to, Low}
 use Rattle.joining.specs.Joining.{Memory, mem, mark, height, completed, settled, Completing, Settling}
 use Rattle.joining.specs.Settle.{finished}
-
--- four links for each cell: its first child, its next sibling (0: none), its place among its siblings, the place of its appointed child
-abbrev pub link : List ℕ → ℕ → ℕ → ℕ
-link ls c k = getD ls (4 * c + k) 0
+use Rattle.links.specs.Links.{link}
 
 -- the columns that the walk reads: links, widths, depths, top rows; and the allowance
 pub record Chart : Type 0 where
