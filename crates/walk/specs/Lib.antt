@@ -1,3 +1,4 @@
 pub mod Machine
 pub mod Tree
 pub mod Shows
+pub mod Claim

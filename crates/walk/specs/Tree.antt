@@ -36,6 +36,10 @@ module _ (t : Table) (f o : ℕ) where
 abbrev pub Out : Table → ℕ → List ℕ → Type 0
 Out t x cs = (i s : ℕ) → At cs i s → Below t x s → ⊥
 
+pub below-below : {t : Table} {x y z : ℕ} → Below t x y → Below t y z → Below t x z
+below-below w Below.here = w
+below-below w (Below.down i s h v) = Below.down i s h (below-below w v)
+
 -- f summed over the cells of a forest
 unfoldable pub sum : (ℕ → ℕ) → Forest → ℕ
 sum f none = 0
