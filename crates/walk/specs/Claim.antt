@@ -41,7 +41,7 @@ pub record Right (t : Table) (al : ℕ) (ms : List ℕ) (x : ℕ) : Type 0 where
   pub right-of : mark ms x 2 ≡ greatest (whole-contour t al x .right)
   pub offset-of : (i s : ℕ) → At (children t x) i s → mark ms s 3 ≡ offset al 0 (contours t al x) i
 
-right-keep : (t : Table) (al : ℕ) (ms ns : List ℕ) (x : ℕ) → ((y : ℕ) → Below t y x → SameMarks ms ns y) → Right t al ms x → Right t al ns x
+pub right-keep : (t : Table) (al : ℕ) (ms ns : List ℕ) (x : ℕ) → ((y : ℕ) → Below t y x → SameMarks ms ns y) → Right t al ms x → Right t al ns x
 right-keep t al ms ns x same h =
     record {
       middle-of = same x Below.here 0 (omega arith) ∙ h .middle-of;

@@ -2,3 +2,4 @@ pub mod Machine
 pub mod Tree
 pub mod Shows
 pub mod Claim
+pub mod Walked
