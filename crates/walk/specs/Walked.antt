@@ -259,3 +259,87 @@ module _ (t : Table) (b : Chart) (su : Suits t b) (xs ms : List ℕ) (lx : scrat
       rw (su .links .first 0 root-is)
       (claim t b su End (grown t (su .fit .sound) 0) 0 0 (deep b 0 + 1) 0 [] fresh 0 xs ms 1 root-is refl (omega (arith, su .deep-of 0 root-is)) (sym (partial-none t al 0)) refl (tail-all t 0)
       (λ x i s c w k l. blank _) start (omega (arith, weight-low)) last)
+
+-- ---- what the loop keeps: some number of safe turns, of at most 512, leads to the end
+pub record Keeps (b : Chart) (xs : List ℕ) (st : State) : Type 0 where
+  pub left : ℕ
+  pub few : left ≤ 512
+  pub safe : Safe b (λ m. Walked b xs (m .rows) (m .marks)) left st
+
+-- two accounts of one walk end together
+module _ (b : Chart) (Q : Memory → Type 0) {X : Type 0} (P : X → Memory → Type 0) where
+  safe-all : (n : ℕ) (st : State) → Safe b Q n st → ((x : X) → (k : ℕ) × Safe b (P x) k st) → Safe b (λ m. Q m × ((x : X) → P x m)) n st
+  safe-all zero st s h = (s .0, (s .1, λ x. go (h x)))
+    where
+      go : {x : X} → ((k : ℕ) × Safe b (P x) k st) → P x (st .memory)
+      go (zero, z) = z .1
+      go (suc k, z) = absurd (omega (arith, s .0, z .0 .some))
+  safe-all (suc n) st s h = (s .0, safe-all n (step b st) (s .1) (λ x. go (h x)))
+    where
+      go : {x : X} → ((k : ℕ) × Safe b (P x) k st) → (k : ℕ) × Safe b (P x) k (step b st)
+      go (zero, z) = absurd (omega (arith, s .0 .some, z .0))
+      go (suc k, z) = (k, z .1)
+
+safe-map : (b : Chart) (P Q : Memory → Type 0) → ((m : Memory) → P m → Q m) → (n : ℕ) (st : State) → Safe b P n st → Safe b Q n st
+safe-map b P Q f zero st s = (s .0, f (st .memory) (s .1))
+safe-map b P Q f (suc n) st s = (s .0, safe-map b P Q f n (step b st) (s .1))
+
+module _ (b : Chart) (xs ms : List ℕ) (g : Walking b xs ms) where
+  abbrev Ends : (t : Table) → Suits t b → Memory → Type 0
+  Ends t su m = End t b su xs ms (g .rows) (g .clear) (g .marks) (g .blank) m
+
+  abbrev Both : Memory → Type 0
+  Both m = Ends (g .table) (g .suits) m × ((x : (t : Table) × Suits t b) → Ends (x .0) (x .1) m)
+
+  walked : (m : Memory) → Both m → Walked b xs (m .rows) (m .marks)
+  walked m h = record { scratch = h .0 .scratch; low = h .0 .low; root = h .0 .root; marked = λ t su. h .1 (t, su) .marked }
+
+  abbrev begin : State
+  begin = at 0 [] (link (b .links) 0 0) xs ms
+
+  -- the turns of the whole walk
+  abbrev all-turns : Table → ℕ
+  all-turns t = 2 * sum (λ x. 1) (forest t (length t) 0) + 1
+
+  ends : (t : Table) (su : Suits t b) → Safe b (Ends t su) (all-turns t) begin
+  ends t su = safe t b su xs ms (g .rows) (g .clear) (g .marks) (g .blank)
+
+  both : Safe b Both (all-turns (g .table)) begin
+  both = safe-all b (Ends (g .table) (g .suits)) (λ (x : (t : Table) × Suits t b). Ends (x .0) (x .1)) (all-turns (g .table)) begin (ends (g .table) (g .suits)) (λ x. (all-turns (x .0), ends (x .0) (x .1)))
+
+  keeps : Keeps b xs begin
+  keeps =
+      record {
+        left = all-turns (g .table);
+        few = omega (arith, size-low (g .table) b (g .suits) xs ms (g .rows) (g .clear) (g .marks) (g .blank));
+        safe = safe-map b Both (λ m. Walked b xs (m .rows) (m .marks)) walked (all-turns (g .table)) begin both;
+      }
+
+  pub keeps-start : (cs : List ℕ) (n : ℕ) → getD cs 0 0 ≡ 0 → n ≡ link (b .links) 0 0 → Keeps b xs (state-of cs 1 n xs ms)
+  unfolding stack-of
+  keeps-start cs n e en = rw (e, en) keeps
+
+safe-some : (b : Chart) (P : Memory → Type 0) (n : ℕ) (st : State) → Safe b P n st → 0 < length (st .stack) → (m : ℕ) × (n ≡ suc m) × Turning b st × Safe b P m (step b st)
+safe-some b P zero st s l = absurd (omega (arith, s .0))
+safe-some b P (suc n) st s l = (n, refl, s .0, s .1)
+
+module _ (b : Chart) (xs : List ℕ) (st : State) (h : Keeps b xs st) (l : 0 < length (st .stack)) where
+  pub keeps-turning : Turning b st
+  keeps-turning = safe-some b _ (h .left) st (h .safe) l .2
+
+  pub keeps-turn : (st′ : State) → st′ ≡ step b st → Keeps b xs st′
+  keeps-turn st′ e =
+      let (m, q, a, s) = safe-some b _ (h .left) st (h .safe) l in
+      rw e (record { left = m; few = omega (arith, h .few); safe = s })
+
+  pub keeps-less : (st′ : State) → st′ ≡ step b st → turns b 512 st′ < turns b 512 st
+  keeps-less st′ e =
+      let (m, q, a, s) = safe-some b _ (h .left) st (h .safe) l in
+      rw e (omega (arith, turns-are b _ 512 (h .left) st (h .safe) (h .few), turns-are b _ 512 m (step b st) s (omega (arith, h .few))))
+
+safe-none : (b : Chart) (P : Memory → Type 0) (n : ℕ) (st : State) → Safe b P n st → length (st .stack) ≡ 0 → P (st .memory)
+safe-none b P zero st s e = s .1
+safe-none b P (suc n) st s e = absurd (omega (arith, s .0 .some))
+
+pub keeps-end : (b : Chart) (xs : List ℕ) (st : State) → Keeps b xs st → length (st .stack) ≡ 0 → Walked b xs (st .memory .rows) (st .memory .marks)
+keeps-end b xs st h e = safe-none b _ (h .left) st (h .safe) e
