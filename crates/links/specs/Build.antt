@@ -126,8 +126,8 @@ chain-else fs ls (suc k) i q a b =
     let e2 = b i in
     rw (getD-set-other, getD-set-other) (chain-else fs ls k (suc i) q a b)
 
-pub counting : (fs ls : List ℕ) (n : ℕ) → Building fs n ls → {ls′ : List ℕ} → ls′ ≡ chained fs ls (n - 1) 1 → Building fs n ls′
-counting fs ls n h e = rw e (record {
+pub chained-building : (fs ls : List ℕ) (n : ℕ) → Building fs n ls → {ls′ : List ℕ} → ls′ ≡ chained fs ls (n - 1) 1 → Building fs n ls′
+chained-building fs ls n h e = rw e (record {
   some = h .some;
   few = h .few;
   parents = h .parents;
@@ -160,9 +160,16 @@ pub count-fits : (fs ls : List ℕ) (n c p : ℕ) {ms : List ℕ} → Building f
 count-fits fs ls n c p h l lt e =
     rw e (omega (arith, h .few, count-low fs ls (h .none) (c - 1) (omega (arith, h .room, h .few)) (λ x a b. h .before x a (omega arith)) p))
 
-pub counted-small : (fs ls : List ℕ) (n : ℕ) {ms : List ℕ} → Building fs n ls → ms ≡ counted fs ls (n - 1) → (c : ℕ) → link ms c 3 ≤ most-cells
-counted-small fs ls n h e c =
-    rw e (omega (arith, h .few, h .some, count-low fs ls (h .none) (n - 1) (omega (arith, h .room, h .few, h .some)) (λ x a b. h .before x a (omega (arith, h .some))) c))
+pub appointing : (fs ks ls : List ℕ) (n : ℕ) → Linking fs ks n ls → {l₁ l₂ : List ℕ} → l₁ ≡ chained fs ls (n - 1) 1 → l₂ ≡ counted fs l₁ (n - 1) → Appointing ks n l₂
+appointing fs ks ls n h {l₁ = l₁} e₁ e₂ =
+    let g : Building fs n l₁ = chained-building fs ls n (h .building) e₁ in
+    rw e₂
+    (record {
+      few = g .few;
+      kinds = h .kinds;
+      room = rw (count-length fs l₁ (n - 1)) (g .room);
+      low = λ c. omega (arith, g .few, g .some, count-low fs l₁ (g .none) (n - 1) (omega (arith, g .room, g .few, g .some)) (λ x a b. g .before x a (omega (arith, g .some))) c);
+    })
 
 pub links-found : (fs ks ls : List ℕ) (n : ℕ) {l₁ l₂ l₃ : List ℕ} → l₁ ≡ chained fs ls (n - 1) 1 → l₂ ≡ counted fs l₁ (n - 1) → l₃ ≡ placed ks l₂ n → l₃ ≡ links-of fs ks n ls
 unfolding links-of

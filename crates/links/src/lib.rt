@@ -5,6 +5,7 @@ ghost use Prim.Native.Nat.{ℕ, _+_, _-_, _*_, _≤_, _<_};
 ghost use lib.ListN.{length, getD};
 ghost use Rattle.plan.specs.Plan.{appointed};
 ghost use Rattle.links.specs.Links.{link};
+ghost use Rattle.links.specs.Built.{Built};
 ghost use Rattle.links.specs.Build.{chained, counted, placed, Building, Appointing, Linking};
 
 
@@ -95,7 +96,7 @@ fn appoint(kinds: &[u8], n: usize, links: &mut [u16])
 // The links of n cells, from links of zeros.
 pub fn link_all(parents: &[u16], kinds: &[u8], n: usize, links: &mut [u16])
     requires { ⌜ Linking (now parents) (now kinds) n (now links) ⌝ }
-    ensures { λ _. ⌜ length (now (links .exit)) ≡ length (now (links .entry)) ⌝ }
+    ensures { λ _. ⌜ Built (now (parents .entry)) (now (kinds .entry)) n (now (links .exit)) ⌝ }
 {
     chain_siblings(parents, n, links);
     number_siblings(parents, n, links);
