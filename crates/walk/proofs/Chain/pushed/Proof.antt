@@ -1,0 +1,30 @@
+use borrow.Author.Needs.{needs}
+use native.Mathlib.Omega.{arith}
+use Prim.Native.Nat.{ℕ, _≤_, _<_, _-_, _+_, _*_}
+use mathlib.Core.Path.{_≡_, refl, _∙_, ap, sym}
+use lib.ListN.{length, getD, length-set}
+use Rattle.joining.specs.Joining.{mem}
+use Rattle.walk.specs.Machine.{stack-of, stack-of-push}
+use Rattle.walk.proofs.Chain.pushed.Statement.{statement}
+use Rattle.walk.proofs.Chain.pushed.Tie as tie
+use Rattle.walk.proofs.Chain.pushed.Reads as reads
+use Rattle.walk.proofs.Chain.pushed.Lts as lts
+
+-- src/lib.rt:95:9
+mul-self : tie.Need-mul-self
+mul-self c = search needs
+
+-- src/lib.rt:95:9
+element-write-self : tie.Need-element-write-self
+element-write-self c = search needs
+
+-- src/lib.rt:96:22
+add-self : tie.Need-add-self
+add-self c = search needs
+
+-- src/lib.rt:90:5
+returns : tie.Need-returns
+returns c = stack-of-push (c .args .t1 .cells) (c .args .t1 .count) (c .args .c) (search needs)
+
+pub pushed-spec : {M : Type 1} → statement M
+pushed-spec = tie.close (tie.spec mul-self element-write-self add-self returns)
