@@ -11,7 +11,7 @@ ghost use Rattle.marks.specs.Marks.{Markable, Marked};
 // distance from its own first sibling. The scratch is zeros again.
 pub fn marks_of(
     t: Columns,
-    tops: &[u8; 256],
+    tops: &[u16; 256],
     allowance: u32,
     rows: &mut [u32],
     marks: &mut [u32; 1024],

@@ -37,6 +37,13 @@ fn number(s: &[u8], i: usize) -> usize
     wide8(s[i])
 }
 
+fn row_of(s: &[u16], i: usize) -> usize
+    requires { ⌜ i < length (now s) ⌝ }
+    ensures { λ r. ⌜ r ≡ getD (now (s .entry)) i 0 ⌝ }
+{
+    wide16(s[i])
+}
+
 fn width_of(s: &[u16], i: usize) -> u32
     requires { ⌜ i < length (now s) ⌝ }
     ensures { λ r. ⌜ r ≡ getD (now (s .entry)) i 0 ⌝ }
@@ -86,7 +93,7 @@ fn close(
     links: &[u16],
     widths: &[u16],
     depths: &[u8],
-    tops: &[u8],
+    tops: &[u16],
     allowance: u32,
     level: usize,
     f: usize,
@@ -101,7 +108,7 @@ fn close(
     let w = width_of(widths, c);
     let place = link_of(links, c, 2);
     let apt = link_of(links, f, 3);
-    let start = ROW * number(tops, c);
+    let start = ROW * row_of(tops, c);
     finish_child(
         &mut rows[start..],
         marks,
@@ -160,7 +167,7 @@ fn turn(
     links: &[u16],
     widths: &[u16],
     depths: &[u8],
-    tops: &[u8],
+    tops: &[u16],
     allowance: u32,
     chain: Chain,
     next: usize,
@@ -209,7 +216,7 @@ pub fn walk(
     links: &[u16],
     widths: &[u16],
     depths: &[u8],
-    tops: &[u8],
+    tops: &[u16],
     allowance: u32,
     rows: &mut [u32],
     marks: &mut [u32],

@@ -32,8 +32,8 @@ link-of-requires-2 : tie.Need-link-of-requires-2
 link-of-requires-2 c κs = search needs
 
 -- src/lib.rt:79:22
-number-requires-2 : tie.Need-number-requires-2
-number-requires-2 c κs = search needs
+row-of-requires : tie.Need-row-of-requires
+row-of-requires c κs = search needs
 
 -- src/lib.rt:79:17
 mul-start : tie.Need-mul-start
@@ -64,7 +64,7 @@ finish-child-requires : tie.Need-finish-child-requires
 finish-child-requires c κs =
     let st = c .before .before .before .before .before .before .before .before .before .before .before .before .before in
     let a = st .args in
-    child-ready (chart (a .links .now) (a .widths .now) (a .depths .now) (a .tops .now) (a .allowance)) (a .level) (a .f) (a .c) (a .rows .now) (a .marks .now) (st .pre) (c .before .before .before .before .before .before .number .ensures) (c .before .before .before .before .before .width-of .ensures) refl (tail-seen (a .rows .now) (64 * c .before .before .number2 .result) ∙ rw (c .before .before .number2 .ensures))
+    child-ready (chart (a .links .now) (a .widths .now) (a .depths .now) (a .tops .now) (a .allowance)) (a .level) (a .f) (a .c) (a .rows .now) (a .marks .now) (st .pre) (c .before .before .before .before .before .before .number .ensures) (c .before .before .before .before .before .width-of .ensures) refl (tail-seen (a .rows .now) (64 * c .before .before .row-of .result) ∙ rw (c .before .before .row-of .ensures))
 
 -- src/lib.rt:71:1
 same-length : tie.Need-same-length
@@ -78,7 +78,7 @@ same-length-2 c = search needs
 returns : tie.Need-returns
 returns c =
     let a = c .before .before .before .before .before .before .before .before .before .before .before .before .before .before .before .before .before .before .args in
-    close-found (chart (a .links .now) (a .widths .now) (a .depths .now) (a .tops .now) (a .allowance)) (a .level) (a .f) (a .c) (a .rows .now) (a .marks .now) (c .before .before .before .before .before .before .before .before .before .before .before .number .ensures) (c .before .before .before .before .before .before .before .before .before .before .width-of .ensures) (c .before .before .before .before .before .before .before .number2 .ensures) (c .before .before .before .before .before .before .before .before .before .link-of .ensures) (c .before .before .before .before .before .before .before .before .link-of2 .ensures) (tail-seen (a .rows .now) (64 * c .before .before .before .before .before .before .before .number2 .result)) (c .before .before .before .before .finish-child .ensures) (tail-put (a .rows .now) (64 * c .before .before .before .before .before .before .before .number2 .result) _)
+    close-found (chart (a .links .now) (a .widths .now) (a .depths .now) (a .tops .now) (a .allowance)) (a .level) (a .f) (a .c) (a .rows .now) (a .marks .now) (c .before .before .before .before .before .before .before .before .before .before .before .number .ensures) (c .before .before .before .before .before .before .before .before .before .before .width-of .ensures) (c .before .before .before .before .before .before .before .row-of .ensures) (c .before .before .before .before .before .before .before .before .before .link-of .ensures) (c .before .before .before .before .before .before .before .before .link-of2 .ensures) (tail-seen (a .rows .now) (64 * c .before .before .before .before .before .before .before .row-of .result)) (c .before .before .before .before .finish-child .ensures) (tail-put (a .rows .now) (64 * c .before .before .before .before .before .before .before .row-of .result) _)
 
 pub close-spec : {M : Type 1} → statement M
 close-spec =
@@ -88,7 +88,7 @@ close-spec =
     width-of-requires
     link-of-requires
     link-of-requires-2
-    number-requires-2
+    row-of-requires
     mul-start
     mul-finish-child
     sub-finish-child
