@@ -21,7 +21,8 @@ use Rattle.layout.specs.Contour.{offset}
 use Rattle.layout.specs.Sheet.{middle, contours, column, sheet}
 use Rattle.layout.specs.SheetLaws.{column-zero, column-child}
 use Rattle.least.specs.Theorems.{fit-inside}
-use Rattle.positions.specs.Raised.{Raised, Marked}
+use Rattle.marks.specs.Marks.{Marked}
+use Rattle.positions.specs.Raised.{Raised}
 
 -- what is drawn: a table that no question refuses, and its marks under some allowance
 pub record Raising (t : Table) (ms : List ℕ) : Type 0 where

@@ -15,7 +15,8 @@ ghost use Rattle.plan.specs.Trees.{Column};
 ghost use Rattle.rules.specs.Placement.{Placement, width};
 ghost use Rattle.layout.specs.Sheet.{sheet};
 ghost use Rattle.positions.specs.Written.{written};
-ghost use Rattle.positions.specs.Raised.{Raised, Marked, High, Topped};
+ghost use Rattle.marks.specs.Marks.{Marked};
+ghost use Rattle.positions.specs.Raised.{Raised, High, Topped};
 ghost use Rattle.positions.specs.RaisedLaws.{Raising};
 
 fn wide(x: u16) -> usize

@@ -5,7 +5,8 @@ use lib.ListN.{length, getD, length-set, replicate}
 use Rattle.plan.specs.Limits.{farthest}
 use Rattle.plan.specs.Columns.{table-of}
 use Rattle.layout.specs.Sheet.{sheet}
-use Rattle.positions.specs.Raised.{Raised, Marked}
+use Rattle.marks.specs.Marks.{Marked}
+use Rattle.positions.specs.Raised.{Raised}
 use Rattle.positions.specs.RaisedLaws.{counted, raised-start, Turn, turn}
 use borrow.Author.Needs.{needs}
 use Rattle.positions.proofs.raised.Statement.{statement}
