@@ -1,0 +1,87 @@
+-- From the questions to the answer: for the code of Layout. Nothing that a reader must believe stands here. Assumes nothing.
+use mathlib.Core.Path.{_≡_, refl, sym, ap, _∙_}
+use mathlib.Core.List.{List, _++_}
+use Prim.Native.Nat.{ℕ, _+_, _*_, _≤_, _<_}
+use native.Mathlib.Omega.{arith}
+use lib.ListN.{length, getD, take, drop, replicate, length-replicate}
+use lib.IntN.{ℤ, pos}
+use lib.Dec.{eqb, leb}
+use borrow.Author.Tests.{eq-eqb, ne-eqb}
+use Rattle.whole.specs.Whole.{plus}
+use Rattle.plan.specs.Limits.{scratch-size, most-allowance}
+use Rattle.plan.specs.Plan.{Table, Is, row, bottom}
+use Rattle.plan.specs.Columns.{table-of}
+use Rattle.plan.specs.ColumnLaws.{table-length, parent-at, depth-at}
+use Rattle.plan.specs.declared.Columns.{Columns}
+use Rattle.plan.specs.Trees.{Lower, Flat, Column}
+use Rattle.plan.specs.Fit.{Fit}
+use Rattle.plan.specs.FitLaws.{Lent, lent-fit}
+use Rattle.plan.specs.Questions.{layout, refusal, layout-given, asked, or-else}
+use Rattle.plan.specs.QuestionLaws.{both-none, asked-yes}
+use Rattle.plan.specs.Steps.{lent-refusal}
+use Rattle.plan.specs.CallLaws.{layout-refusal}
+use Rattle.plan.specs.declared.Refusal.{Refusal}
+use Rattle.rules.specs.Placement as Placement
+use Rattle.rules.specs.Placement.{width}
+use Rattle.layout.specs.Sheet.{sheet}
+use Rattle.least.specs.Theorems.{sheet-rows}
+use Rattle.marks.specs.Marks.{Markable, zeros-get}
+use Rattle.positions.specs.Written.{written}
+use Rattle.positions.specs.Raised.{Topped}
+use Rattle.drawing.specs.declared.Laid.{Laid}
+use Rattle.drawing.specs.declared.Laid.the-variants.{Sheet, Refused}
+use Rattle.drawing.specs.Laid.{answer, positions-after, scratch-after, Lays}
+
+-- what the questions settle: the table, and the lengths of scratch and positions
+pub record Drawable (t : Table) (s p : ℕ) : Type 0 where
+  pub lent : Lent t p
+  pub scratch : s ≡ scratch-size
+
+-- a table that no question refuses, with its rows
+pub record Placeable (t : Columns) (tops : List ℕ) (s : ℕ) : Type 0 where
+  pub fit : Fit (table-of t)
+  pub rows : Column tops (t .count) (row (table-of t))
+  pub scratch : s ≡ scratch-size
+
+-- our sheet is drawn
+pub record Drawn (t : Table) (al : ℕ) (s′ : List ℕ) (ps ps′ : List ℤ) (r : Laid) : Type 0 where
+  pub answers : r ≡ Sheet (plus (width t (sheet t al))) (plus (Placement.rows t (sheet t al)))
+  pub positions : ps′ ≡ written ps (sheet t al) (length t)
+  pub scratch : s′ ≡ replicate scratch-size 0
+
+-- ---- the columns of a table that no question refuses
+module _ (t : Columns) (fit : Fit (table-of t)) where
+  size : length (table-of t) ≡ t .count
+  size = table-length (t .parent) (t .kind) (t .width) (t .depth) (t .count)
+
+  pub fit-lower : Lower (t .parent) (t .count)
+  fit-lower = record {
+    some = omega (arith, size, fit .some-cell);
+    few = omega (arith, size, fit .not-too-many);
+    lower = λ c p l.
+        let i : Is (table-of t) c = omega (arith, size) in
+        omega (arith, fit .sound c p i, parent-at (t .parent) (t .kind) (t .width) (t .depth) (t .count) c l);
+  }
+
+  pub fit-flat : Flat (t .depth) (t .count)
+  fit-flat = record { flat = λ c l.
+      let i : Is (table-of t) c = omega (arith, size) in
+      omega (arith, fit .deep c i .1, depth-at (t .parent) (t .kind) (t .width) (t .depth) (t .count) c l) }
+
+  module _ (tops : List ℕ) (rows : Column tops (t .count) (row (table-of t))) where
+    -- a cleared scratch and marks of zeros
+    pub markable : (s : List ℕ) → s ≡ replicate scratch-size 0 → Markable t tops s (replicate 1024 0)
+    markable s e = record {
+      fit = fit;
+      top-of = λ c i. rows .each c (omega (arith, size));
+      scratch = rw (e, length-replicate {A = ℕ} scratch-size 0) (omega arith);
+      clear = λ i. rw e (zeros-get scratch-size i);
+      blank = zeros-get 1024;
+    }
+
+    pub topped : (al : ℕ) → Topped tops (t .count) (sheet (table-of t) al .y)
+    unfolding sheet
+    topped al = record { each = λ c l. ap pos (rows .each c l) }
+
+    pub rows-are : (al r : ℕ) → r ≡ bottom (table-of t) 0 + 1 → r ≡ plus (Placement.rows (table-of t) (sheet (table-of t) al))
+    rows-are al r e = e ∙ ap plus (sym (sheet-rows (table-of t) (fit .some-cell) (fit .sound) al))

@@ -39,7 +39,7 @@ pub record Marked (t : Table) (al : ℕ) (ms : List ℕ) : Type 0 where
   pub root-offset : mark ms 0 3 ≡ 0
   pub near : (i : ℕ) → getD ms i 0 ≤ farthest
 
-zeros-get : (k i : ℕ) → getD (replicate {A = ℕ} k 0) i 0 ≡ 0
+pub zeros-get : (k i : ℕ) → getD (replicate {A = ℕ} k 0) i 0 ≡ 0
 zeros-get zero i = refl
 zeros-get (suc k) zero = refl
 zeros-get (suc k) (suc i) = zeros-get k i
