@@ -21,13 +21,13 @@ use Rattle.plan.specs.QuestionLaws.{both-none, asked-yes}
 use Rattle.plan.specs.Steps.{lent-refusal}
 use Rattle.plan.specs.CallLaws.{layout-refusal}
 use Rattle.plan.specs.declared.Refusal.{Refusal}
-use Rattle.rules.specs.Placement as Placement
-use Rattle.rules.specs.Placement.{width}
+use Rattle.rules.specs.Placement as placement
+use Rattle.rules.specs.Placement.{Placement, width}
 use Rattle.layout.specs.Sheet.{sheet}
 use Rattle.least.specs.Theorems.{sheet-rows}
 use Rattle.marks.specs.Marks.{Markable, zeros-get}
 use Rattle.positions.specs.Written.{written}
-use Rattle.positions.specs.Raised.{Topped}
+use Rattle.positions.specs.Raised.{Raised, High, Topped}
 use Rattle.drawing.specs.declared.Laid.{Laid}
 use Rattle.drawing.specs.declared.Laid.the-variants.{Sheet, Refused}
 use Rattle.drawing.specs.Laid.{answer, positions-after, scratch-after, Lays}
@@ -45,13 +45,13 @@ pub record Placeable (t : Columns) (tops : List ℕ) (s : ℕ) : Type 0 where
 
 -- our sheet is drawn
 pub record Drawn (t : Table) (al : ℕ) (s′ : List ℕ) (ps ps′ : List ℤ) (r : Laid) : Type 0 where
-  pub answers : r ≡ Sheet (plus (width t (sheet t al))) (plus (Placement.rows t (sheet t al)))
+  pub answers : r ≡ Sheet (plus (width t (sheet t al))) (plus (placement.rows t (sheet t al)))
   pub positions : ps′ ≡ written ps (sheet t al) (length t)
   pub scratch : s′ ≡ replicate scratch-size 0
 
 -- ---- the columns of a table that no question refuses
 module _ (t : Columns) (fit : Fit (table-of t)) where
-  size : length (table-of t) ≡ t .count
+  pub size : length (table-of t) ≡ t .count
   size = table-length (t .parent) (t .kind) (t .width) (t .depth) (t .count)
 
   pub fit-lower : Lower (t .parent) (t .count)
@@ -68,6 +68,9 @@ module _ (t : Columns) (fit : Fit (table-of t)) where
       let i : Is (table-of t) c = omega (arith, size) in
       omega (arith, fit .deep c i .1, depth-at (t .parent) (t .kind) (t .width) (t .depth) (t .count) c l) }
 
+  pub high : (xs : List ℕ) (x : ℕ → ℤ) → Raised xs (t .count) x → High xs (t .count)
+  high xs x r = record { few = fit-lower .few; high = r .high }
+
   module _ (tops : List ℕ) (rows : Column tops (t .count) (row (table-of t))) where
     -- a cleared scratch and marks of zeros
     pub markable : (s : List ℕ) → s ≡ replicate scratch-size 0 → Markable t tops s (replicate 1024 0)
@@ -79,9 +82,18 @@ module _ (t : Columns) (fit : Fit (table-of t)) where
       blank = zeros-get 1024;
     }
 
-    pub topped : (al : ℕ) → Topped tops (t .count) (sheet (table-of t) al .y)
+    topped : (al : ℕ) → Topped tops (t .count) (sheet (table-of t) al .y)
     unfolding sheet
     topped al = record { each = λ c l. ap pos (rows .each c l) }
 
-    pub rows-are : (al r : ℕ) → r ≡ bottom (table-of t) 0 + 1 → r ≡ plus (Placement.rows (table-of t) (sheet (table-of t) al))
-    rows-are al r e = e ∙ ap plus (sym (sheet-rows (table-of t) (fit .some-cell) (fit .sound) al))
+    -- what is written and measured is our sheet
+    pub drawn : (al : ℕ) (xs : List ℕ) → Raised xs (t .count) (sheet (table-of t) al .x)
+        → (s′ : List ℕ) → s′ ≡ replicate scratch-size 0
+        → (ps ps′ : List ℤ) → ((p : Placement) → Raised xs (t .count) (p .x) → Topped tops (t .count) (p .y) → ps′ ≡ written ps p (t .count))
+        → (w h : ℕ) → pos w ≡ width (table-of t) (sheet (table-of t) al) → h ≡ bottom (table-of t) 0 + 1
+        → Drawn (table-of t) al s′ ps ps′ (Sheet w h)
+    drawn al xs r s′ z ps ps′ put w h e f = record {
+      answers = cc (ap plus e, f ∙ ap plus (sym (sheet-rows (table-of t) (fit .some-cell) (fit .sound) al)));
+      positions = rw size (put (sheet (table-of t) al) r (topped al));
+      scratch = z;
+    }
