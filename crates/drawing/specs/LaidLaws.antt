@@ -5,7 +5,7 @@ use Prim.Native.Nat.{ℕ, _+_, _*_, _≤_, _<_}
 use native.Mathlib.Omega.{arith}
 use lib.ListN.{length, getD, take, drop, replicate, length-replicate}
 use lib.IntN.{ℤ, pos}
-use lib.Dec.{eqb, leb}
+use lib.Dec.{eqb, leb, leb→le}
 use borrow.Author.Tests.{eq-eqb, ne-eqb}
 use Rattle.whole.specs.Whole.{plus}
 use Rattle.plan.specs.Limits.{scratch-size, most-allowance}
@@ -96,4 +96,28 @@ module _ (t : Columns) (fit : Fit (table-of t)) where
       answers = cc (ap plus e, f ∙ ap plus (sym (sheet-rows (table-of t) (fit .some-cell) (fit .sound) al)));
       positions = rw size (put (sheet (table-of t) al) r (topped al));
       scratch = z;
+    }
+
+-- ---- the entry: the refusal r of the questions, then the drawing
+module _ (t : Table) (al : ℕ) (s : List ℕ) (ps : List ℤ) (r : Refusal) (e : r ≡ refusal layout (layout-given t al (length s) (length ps))) where
+  pub refused : ¬ (r .number ≡ 0) → Lays t al s s ps ps (Refused (r .number) (r .cell))
+  unfolding answer positions-after scratch-after
+  refused h = record { answers = rw (← e, ne-eqb (r .number) 0 h); positions = refl; scratch = refl }
+
+  module _ (h : r .number ≡ 0) where
+    none-refused : or-else (asked 1 (leb scratch-size (length s)) 0) (or-else (lent-refusal t (length ps)) (asked 14 (leb al most-allowance) 0)) .number ≡ 0
+    none-refused = ap (λ (x : Refusal). x .number) (sym (e ∙ layout-refusal t al (length s) (length ps))) ∙ h
+
+    pub long : scratch-size ≤ length s
+    long = leb→le _ _ (asked-yes 0 _ 0 (both-none _ _ none-refused .0))
+
+    pub lent : Lent t (length ps)
+    lent = lent-fit t (length ps) (both-none _ _ (both-none _ _ none-refused .1) .0)
+
+    pub laid : (s′ : List ℕ) (ps′ : List ℤ) (a : Laid) → Drawn t al s′ ps ps′ a → Lays t al s (s′ ++ drop scratch-size s) ps ps′ a
+    unfolding answer positions-after scratch-after
+    laid s′ ps′ a d = record {
+      answers = d .answers ∙ rw (← e, eq-eqb (r .number) 0 h);
+      positions = rw (d .answers) (d .positions);
+      scratch = rw (d .answers, d .scratch);
     }

@@ -1,3 +1,10 @@
+use mathlib.Core.Path.{_≡_, sym}
+use Prim.Native.Nat.{_≤_}
+use lib.ListN.{length, take}
+use lib.Seq.{length-take-le}
+use Rattle.plan.specs.Limits.{scratch-size}
+use Rattle.plan.specs.Columns.{table-of}
+use Rattle.drawing.specs.LaidLaws.{refused, long, lent, laid}
 use borrow.Author.Needs.{needs}
 use Rattle.drawing.proofs.layout.Statement.{statement}
 use Rattle.drawing.proofs.layout.Tie as tie
@@ -12,19 +19,35 @@ layout-refusal-requires c κs = search needs
 
 -- src/lib.rt:94:9
 returns : tie.Need-returns
-returns c = search needs
+returns c = 
+    let st = c .before .before .before .before in
+    refused (table-of (st .args .t)) (st .args .allowance) (st .args .scratch .now) (st .args .positions .now) _ (c .before .before .layout-refusal .ensures) (c .if1 .taken)
+
+-- nothing is refused: the scratch is long enough, and its first 16,384 numbers are lent on
+enough : (c : tie.Else1) → scratch-size ≤ length (c .before .before .before .before .args .scratch .now)
+enough c =
+    let st = c .before .before .before .before in
+    long (table-of (st .args .t)) (st .args .allowance) (st .args .scratch .now) (st .args .positions .now) _ (c .before .before .layout-refusal .ensures) (c .if1 .left)
+
+lends : (c : tie.Else1) → length (take scratch-size (c .before .before .before .before .args .scratch .now)) ≡ scratch-size
+lends c = length-take-le scratch-size (c .before .before .before .before .args .scratch .now) (enough c)
 
 -- src/lib.rt:96:24
 slice-relend-prefix-draw : tie.Need-slice-relend-prefix-draw
-slice-relend-prefix-draw c = search needs
+slice-relend-prefix-draw c = enough c
 
 -- src/lib.rt:96:24
 slice-aggregate-draw : tie.Need-slice-aggregate-draw
-slice-aggregate-draw c = search needs
+slice-aggregate-draw c = sym (lends (c .before))
 
 -- src/lib.rt:96:5
 draw-requires : tie.Need-draw-requires
-draw-requires c κs = search needs
+draw-requires c κs =
+    let st = c .before .before .before .before .before .before in
+    record {
+      lent = lent (table-of (st .args .t)) (st .args .allowance) (st .args .scratch .now) (st .args .positions .now) _ (c .before .before .before .before .layout-refusal .ensures) (c .before .before .if1 .left);
+      scratch = lends (c .before .before);
+    }
 
 -- src/lib.rt:89:1
 same-length : tie.Need-same-length
@@ -36,7 +59,9 @@ same-length-2 c = search needs
 
 -- src/lib.rt:89:1
 returns-2 : tie.Need-returns-2
-returns-2 c = search needs
+returns-2 c = 
+    let st = c .before .before .before .before .before .before .before .before .before .before in
+    laid (table-of (st .args .t)) (st .args .allowance) (st .args .scratch .now) (st .args .positions .now) _ (c .before .before .before .before .before .before .before .before .layout-refusal .ensures) (c .before .before .before .before .before .before .if1 .left) _ _ _ (c .before .before .before .draw .ensures)
 
 pub layout-spec : {M : Type 1} → statement M
 layout-spec =
