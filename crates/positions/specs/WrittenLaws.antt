@@ -7,8 +7,10 @@ use lib.ListN.{length, getD, drop, set, length-append, length-drop}
 use lib.Seq.{drop-cons, set-at, append-snoc}
 use lib.IntN.{ℤ, pos, _+ℤ_, _-ℤ_}
 use Rattle.whole.specs.Whole.{whole, sum, diff}
+use Rattle.plan.specs.Plan.{Table, Is}
 use Rattle.rules.specs.Placement.{Placement}
-use Rattle.positions.specs.Written.{corners, written}
+use Rattle.positions.specs.Written.{corners, written, placement-of}
+use Rattle.positions.specs.Agree.{Agree}
 
 module _ (p : Placement) where
   corners-length : (k d : ℕ) → length (corners p k d) ≡ 2 * d
@@ -53,6 +55,35 @@ module _ (p : Placement) where
   pub written-put : (ps qs : List ℤ) (n : ℕ) (x y : ℤ) → qs ≡ written ps p n → x ≡ p .x n → y ≡ p .y n → 2 * n + 2 ≤ length ps
       → set (set qs (2 * n) x) (2 * n + 1) y ≡ written ps p (n + 1)
   written-put ps qs n x y e f g h = rw (e, f, g) (written-more ps n h)
+
+  -- what stands in the positions that were written
+  corner-x : (rest : List ℤ) (k d c : ℕ) → c < d → getD (corners p k d ++ rest) (2 * c) (pos 0) ≡ p .x (k + c)
+  unfolding corners
+  corner-x rest k zero c h = absurd (omega arith)
+  corner-x rest k (suc d) zero h = let e : k + 0 ≡ k = omega arith in rw e
+  corner-x rest k (suc d) (suc c) h =
+      let e : 2 * suc c ≡ suc (suc (2 * c)) = omega arith in
+      let f : k + suc c ≡ suc k + c = omega arith in
+      rw (e, f) (corner-x rest (suc k) d c (omega arith))
+
+  corner-y : (rest : List ℤ) (k d c : ℕ) → c < d → getD (corners p k d ++ rest) (2 * c + 1) (pos 0) ≡ p .y (k + c)
+  unfolding corners
+  corner-y rest k zero c h = absurd (omega arith)
+  corner-y rest k (suc d) zero h = let e : k + 0 ≡ k = omega arith in rw e
+  corner-y rest k (suc d) (suc c) h =
+      let e : 2 * suc c + 1 ≡ suc (suc (2 * c + 1)) = omega arith in
+      let f : k + suc c ≡ suc k + c = omega arith in
+      rw (e, f) (corner-y rest (suc k) d c (omega arith))
+
+  -- the placement written, cell by cell
+  pub written-agree : (t : Table) (ps : List ℤ) → Agree t (placement-of (written ps p (length t))) p
+  unfolding written
+  written-agree t ps =
+      let first : (c : ℕ) → 0 + c ≡ c = λ c. omega arith in
+      record {
+        x = λ c i. corner-x _ 0 (length t) c i ∙ ap (p .x) (first c);
+        y = λ c i. corner-y _ 0 (length t) c i ∙ ap (p .y) (first c);
+      }
 
 -- ---- a whole number from the natural ones that hold it
 pub less-none : (a : ℕ) → pos a -ℤ pos 0 ≡ pos a
