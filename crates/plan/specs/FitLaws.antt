@@ -9,7 +9,7 @@ use Rattle.plan.specs.Plan.{Table, Is, parent, kind, W, D, children, lev
 use Rattle.plan.specs.Kinds.{allows}
 use Rattle.plan.specs.Questions.{asked}
 use Rattle.plan.specs.QuestionLaws.{asked-yes, both-none, each-none}
-use Rattle.plan.specs.Steps.{cell-refusal, cells-refusal, children-refusal, levels-refusal, rows-refusal, table-refusal, lent-refusal}
+use Rattle.plan.specs.Steps.{cell-refusal, cells-refusal, children-refusal, levels-refusal, rows-refusal, tree-refusal, table-refusal, lent-refusal}
 use Rattle.plan.specs.StepLaws.{Passed, cell-passed, lower-read, sized-wide, sized-deep, counted-read}
 use Rattle.plan.specs.Fit.{Fit}
 
@@ -36,7 +36,7 @@ module _ (t : Table) where
   rows-few e c i = leb→le _ _ (asked-yes 12 _ c (each-none (λ c. asked 13 (leb (row t c + D t c) last-row) c) (length t) e c i))
 
   pub lent-fit : (p : ℕ) → lent-refusal t p .number ≡ 0 → Lent t p
-  unfolding lent-refusal table-refusal
+  unfolding lent-refusal table-refusal tree-refusal
   lent-fit p e =
       let (four, r) = both-none (asked 4 (between 1 most-cells (length t)) 0) _ e in
       let (one, s) = both-none (asked 1 (leb (2 * length t) p) 0) _ r in

@@ -29,9 +29,13 @@ levels-refusal t = at-each (λ c. asked 12 (leb (level t c) most-level) c) 0 (le
 unfoldable pub rows-refusal : Table → Refusal
 rows-refusal t = at-each (λ c. asked 13 (leb (row t c + D t c) last-row) c) 0 (length t)
 
+-- 11 to 13
+unfoldable pub tree-refusal : Table → Refusal
+tree-refusal t = or-else (children-refusal t) (or-else (levels-refusal t) (rows-refusal t))
+
 -- all of them
 unfoldable pub table-refusal : Table → Refusal
-table-refusal t = or-else (cells-refusal t) (or-else (children-refusal t) (or-else (levels-refusal t) (rows-refusal t)))
+table-refusal t = or-else (cells-refusal t) (tree-refusal t)
 
 -- questions 4 and 1 (positions), then those of the table
 unfoldable pub lent-refusal : Table → (positions : ℕ) → Refusal

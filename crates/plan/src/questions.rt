@@ -16,16 +16,17 @@ use crate::tree::levels;
 use crate::tree::rows;
 use whole::within;
 ghost use mathlib.Core.Path.{_≡_};
+ghost use mathlib.Core.List.{List};
 ghost use mathlib.Core.Bool.{Bool, true, false, _&&_};
 ghost use Prim.Native.Nat.{ℕ, _+_, _*_, _≤_, _<_};
 ghost use lib.Dec.{leb};
 ghost use lib.ListN.{length, getD};
 ghost use lib.IntN.{pos};
 ghost use Rattle.plan.specs.Limits.{between, «most-cells», «most-allowance»};
-ghost use Rattle.plan.specs.Trees.{Short};
+ghost use Rattle.plan.specs.Trees.{Short, Lower, Flat};
 ghost use Rattle.plan.specs.Questions.{asked, «or-else», lower, sized, near, «at-each»};
 ghost use Rattle.plan.specs.Columns.{table};
-ghost use Rattle.plan.specs.Steps.{«cell-refusal», «cells-refusal», «table-refusal», «lent-refusal», «near-refusal», «children-at», «levels-at», «rows-at»};
+ghost use Rattle.plan.specs.Steps.{«cell-refusal», «cells-refusal», «tree-refusal», «table-refusal», «lent-refusal», «near-refusal», «children-at», «levels-at», «rows-at»};
 
 // Question `number` at a cell, answered.
 pub fn asked(number: u8, yes: bool, cell: usize) -> Refusal
@@ -168,8 +169,33 @@ fn rows_refusal(rows: &[u16; 256], depths: &[u8; 256], n: usize) -> Refusal
     Refusal { number: 0, cell: 0 }
 }
 
+// Questions 11 to 13, put to cells that 6 to 8 have passed.
+pub fn tree_refusal(
+    parents: &[u16; 256],
+    kinds: &[u8; 256],
+    depths: &[u8; 256],
+    n: usize,
+) -> Refusal
+    requires { ⌜ Lower (now parents) n ⌝ }
+    requires { ⌜ Flat (now depths) n ⌝ }
+    ensures { λ r. ⌜ ((ws : List ℕ) → r ≡ tree-refusal (table (now (parents .entry)) (now (kinds .entry)) ws (now (depths .entry)) n)) ⌝ }
+{
+    let counts = child_counts(parents, n);
+    let at_children = children_refusal(kinds, &counts, n);
+    if at_children.number != 0 {
+        return at_children;
+    }
+    let deep = levels(parents, n);
+    let at_levels = levels_refusal(&deep, n);
+    if at_levels.number != 0 {
+        return at_levels;
+    }
+    let low = rows(parents, depths, n);
+    rows_refusal(&low, depths, n)
+}
+
 // Questions 6 to 8 and 11 to 13.
-pub fn table_refusal(
+fn table_refusal(
     parents: &[u16; 256],
     kinds: &[u8; 256],
     widths: &[u16; 256],
@@ -183,18 +209,7 @@ pub fn table_refusal(
     if at_cells.number != 0 {
         return at_cells;
     }
-    let counts = child_counts(parents, n);
-    let at_children = children_refusal(kinds, &counts, n);
-    if at_children.number != 0 {
-        return at_children;
-    }
-    let deep = levels(parents, n);
-    let at_levels = levels_refusal(&deep, n);
-    if at_levels.number != 0 {
-        return at_levels;
-    }
-    let low = rows(parents, depths, n);
-    rows_refusal(&low, depths, n)
+    tree_refusal(parents, kinds, depths, n)
 }
 
 // Question 4.
