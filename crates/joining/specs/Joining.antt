@@ -1,13 +1,13 @@
 -- A complete cell joins its parent: what becomes of the scratch and of the marks. Assumes nothing.
-use mathlib.Core.Path.{_≡_, refl, _∙_, ap, sym}
+use mathlib.Core.Path.{_≡_, refl}
 use mathlib.Core.List.{List}
-use mathlib.Core.Bool.{Bool, true, false, cond}
+use mathlib.Core.Bool.{Bool, cond}
 use Prim.Native.Nat.{ℕ, zero, suc, _+_, _-_, _*_, _≤_, _<_, max, min}
 use native.Mathlib.Omega.{arith}
 use lib.ListN.{length, getD, set, length-set}
 use lib.Dec.{ltb}
-use Rattle.plan.specs.Limits.{most-cells, farthest}
-use Rattle.rows.specs.Rows.{extent, Low, box-to, max-to, clash-to, upto-rows, beyond-rows}
+use Rattle.plan.specs.Limits.{farthest}
+use Rattle.rows.specs.Rows.{Low, box-to, max-to, clash-to, upto-rows, beyond-rows}
 
 -- the scratch and the marks
 pub record Memory : Type 0 where

@@ -13,11 +13,10 @@ use rows::join_upto;
 use rows::less;
 ghost use mathlib.Core.Path.{_≡_};
 ghost use mathlib.Core.Bool.{cond};
-ghost use Prim.Native.Nat.{ℕ, _+_, _-_, _*_, _≤_, _<_, max, min};
-ghost use lib.ListN.{length, getD};
-ghost use lib.Dec.{ltb};
+ghost use Prim.Native.Nat.{_+_, _-_, _*_, _≤_, _<_, max, min};
+ghost use lib.ListN.{length};
 ghost use Rattle.plan.specs.Limits.{farthest};
-ghost use Rattle.rows.specs.Rows.{Low, upto-rows, beyond-rows};
+ghost use Rattle.rows.specs.Rows.{upto-rows, beyond-rows};
 ghost use Rattle.joining.specs.Joining.{mem, mark, four, noted, height, completed, apart, settled-first, settled-by, settled, Completing, Settling, Siding};
 
 fn wide32(x: u32) -> usize

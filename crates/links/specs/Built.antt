@@ -1,8 +1,7 @@
 -- The links that are built are those of the table. Assumes nothing.
-use mathlib.Core.Path.{_≡_, refl, _∙_, ap, sym, subst}
+use mathlib.Core.Path.{_≡_, refl, _∙_, ap, sym}
 use mathlib.Core.Logic.{_≢_}
 use mathlib.Core.List.{List, [], _∷_}
-use mathlib.Core.Bool.{Bool, true, false, cond}
 use Prim.Native.Nat.{ℕ, zero, suc, pred, _+_, _-_, _*_, _≤_, _<_}
 use native.Mathlib.Omega.{arith}
 use native.Mathlib.Decide.{ℕ-discrete}
@@ -10,12 +9,11 @@ use lib.ListN.{length, getD, set, length-set}
 use lib.Seq.{getD-set-same, getD-set-other}
 use lib.Dec.{eqb}
 use borrow.Author.Tests.{eq-eqb, ne-eqb}
-use Rattle.plan.specs.Limits.{most-cells}
 use Rattle.plan.specs.Lists.{At, from, keep}
 use Rattle.plan.specs.Plan.{Table, Is, kind, parent, children, appointed}
 use Rattle.plan.specs.PlanLaws.{child-read}
 use Rattle.links.specs.Links.{link, Links}
-use Rattle.links.specs.Build.{up, chain-one, chained, count-one, counted, placed, links-of, chain-length, count-length, placed-length, placed-later, chain-else, Building, Linking, links-length}
+use Rattle.links.specs.Build.{up, chain-one, chained, count-one, counted, placed, links-of, chain-length, count-length, placed-length, chain-else, Building, Linking}
 
 -- the columns have the parents and the kinds of the table t
 pub record Reads (t : Table) (fs ks : List ℕ) (n : ℕ) : Type 0 where

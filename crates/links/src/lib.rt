@@ -1,7 +1,7 @@
 // The links of a table, made once: how the walk finds a cell's children. Only this crate knows the order of siblings.
 
 ghost use mathlib.Core.Path.{_≡_};
-ghost use Prim.Native.Nat.{ℕ, _+_, _-_, _*_, _≤_, _<_};
+ghost use Prim.Native.Nat.{_+_, _-_, _*_, _≤_, _<_};
 ghost use lib.ListN.{length, getD};
 ghost use Rattle.plan.specs.Plan.{appointed};
 ghost use Rattle.links.specs.Links.{link};

@@ -1,12 +1,12 @@
 -- The table of the columns, cell by cell. Assumes nothing.
 use mathlib.Core.Path.{_≡_, refl, _∙_, ap}
-use mathlib.Core.List.{List, [], _∷_, map}
+use mathlib.Core.List.{map}
 use Prim.Native.Nat.{ℕ, zero, suc, _+_, _<_}
 use native.Mathlib.Nat.{zero-add}
 use native.Mathlib.Omega.{arith}
 use lib.ListN.{length, getD, length-map}
 use Rattle.plan.specs.Lists.{from}
-use Rattle.plan.specs.Plan.{Cell, Table, Is, blank, parent, kind, W, D}
+use Rattle.plan.specs.Plan.{Cell, Is, blank, parent, kind, W, D}
 use Rattle.plan.specs.Columns.{cell-of, table-of}
 use Rattle.plan.specs.declared.Columns.{Columns}
 

@@ -1,5 +1,5 @@
 ghost use mathlib.Core.Path.{_≡_};
-ghost use Prim.Native.Nat.{ℕ, _+_, _-_, _*_, _≤_, _<_, max, min};
+ghost use Prim.Native.Nat.{_+_, _-_, _*_, _≤_, _<_, max};
 ghost use Rattle.plan.specs.Limits.{farthest};
 ghost use lib.ListN.{length, getD};
 ghost use Rattle.rows.specs.Rows.{Low, box-to, max-to, clash-to, shifted-of, put-one, upto-rows, beyond-rows};

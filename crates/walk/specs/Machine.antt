@@ -2,14 +2,13 @@
 use mathlib.Core.Path.{_≡_, refl, _∙_, ap, sym, subst}
 use mathlib.Core.Logic.{_≢_}
 use mathlib.Core.List.{List, [], _∷_, _++_}
-use mathlib.Core.Bool.{Bool, true, false}
-use Prim.Native.Nat.{ℕ, zero, suc, _+_, _-_, _*_, _/_, _≤_, _<_, max, min}
+use Prim.Native.Nat.{ℕ, zero, suc, _+_, _-_, _*_, _≤_, _<_}
 use native.Mathlib.Omega.{arith}
 use native.Mathlib.Numerals.{add-one}
-use lib.ListN.{length, getD, set, take, drop, length-set}
+use lib.ListN.{length, getD, set, take, drop}
 use lib.Seq.{getD-set-same, getD-set-other}
-use Rattle.rows.specs.Rows.{box-to, Low}
-use Rattle.joining.specs.Joining.{Memory, mem, mark, height, completed, settled, Completing, Settling}
+use Rattle.rows.specs.Rows.{box-to}
+use Rattle.joining.specs.Joining.{Memory, mem, height, completed, settled, Completing, Settling}
 use Rattle.joining.specs.Settle.{finished}
 use Rattle.links.specs.Links.{link}
 

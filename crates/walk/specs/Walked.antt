@@ -1,7 +1,7 @@
 -- What the walk is given, and what it leaves. Assumes nothing.
 use mathlib.Core.Path.{_≡_, refl, _∙_, ap, sym, subst}
-use mathlib.Core.Logic.{_≢_, inl, inr}
-use mathlib.Core.List.{List, [], _∷_}
+use mathlib.Core.Logic.{inl, inr}
+use mathlib.Core.List.{List, []}
 use mathlib.Core.Bool.{Bool, true, false}
 use Prim.Native.Nat.{ℕ, zero, suc, _+_, _-_, _*_, _/_, _%_, _≤_, _<_}
 use native.Mathlib.Nat.{div-add-mod'}
@@ -13,7 +13,7 @@ use lib.Dec.{ltb}
 use borrow.Author.Tests.{ltb-true, ltb-false}
 use Rattle.plan.specs.Limits.{most-cells, most-width, scratch-size, farthest}
 use Rattle.plan.specs.Lists.{At}
-use Rattle.plan.specs.Plan.{Table, Is, W, D, children, place, level, row}
+use Rattle.plan.specs.Plan.{Table, Is, W, children, place, level, row}
 use Rattle.plan.specs.PlanLaws.{child-read}
 use Rattle.plan.specs.Paths.{Below, below-split, below-root, child-less}
 use Rattle.plan.specs.Sums.{total-parts, total-subtree}
