@@ -64,14 +64,7 @@ fn note(marks: &mut [u32], c: usize, x: u32)
 }
 
 // The cell c, of depth d and width w, is complete: its box is drawn over its joined rows, and its marks are made. Its number of rows.
-pub fn complete(
-    rows: &mut [u32],
-    marks: &mut [u32],
-    at: usize,
-    c: usize,
-    d: usize,
-    w: u32,
-) -> usize
+pub fn complete(rows: &mut [u32], marks: &mut [u32], at: usize, c: usize, d: usize, w: u32) -> usize
     requires { ⌜ Completing (mem (now rows) (now marks)) at c d ⌝ }
     ensures { λ r. ⌜ (mem (now (rows .exit)) (now (marks .exit)) ≡ completed (mem (now (rows .entry)) (now (marks .entry))) at c d w) × (r ≡ height (now (marks .entry)) c d) ⌝ }
 {

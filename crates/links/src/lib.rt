@@ -8,7 +8,6 @@ ghost use Rattle.links.specs.Links.{link};
 ghost use Rattle.links.specs.Built.{Built};
 ghost use Rattle.links.specs.Build.{chained, counted, placed, Building, Appointing, Linking};
 
-
 fn wide8(x: u8) -> usize
     ensures { λ r. ⌜ r ≡ x ⌝ }
 {

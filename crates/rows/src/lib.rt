@@ -70,7 +70,10 @@ pub fn clash(rows: &[u32], k: usize, x: u32, n: usize) -> u32
     let mut g: u32 = 0;
     let mut j: usize = 0;
     while j < n {
-        g = greater(g, needed(extent_at(rows, j, k + 1), x, extent_at(rows, j, k + 2)));
+        g = greater(
+            g,
+            needed(extent_at(rows, j, k + 1), x, extent_at(rows, j, k + 2)),
+        );
         j += 1;
     }
     g

@@ -1,8 +1,8 @@
 use joining::complete;
 use joining::settle;
 use links::link_of;
-use rows::box_rows;
 use rows::ROW;
+use rows::box_rows;
 ghost use mathlib.Core.Path.{_≡_};
 ghost use mathlib.Core.List.{_∷_};
 ghost use Prim.Native.Nat.{_-_, _<_};
