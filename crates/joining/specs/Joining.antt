@@ -6,7 +6,7 @@ use Prim.Native.Nat.{ℕ, zero, suc, _+_, _-_, _*_, _≤_, _<_, max, min}
 use native.Mathlib.Omega.{arith}
 use lib.ListN.{length, getD, set, length-set}
 use lib.Dec.{ltb}
-use Rattle.plan.specs.Limits.{farthest}
+use Rattle.plan.specs.Limits.{last-row, farthest}
 use Rattle.rows.specs.Rows.{Low, box-to, max-to, clash-to, upto-rows, beyond-rows}
 
 -- the scratch and the marks
@@ -75,8 +75,8 @@ pub record Settling (m : Memory) (at f c hs : ℕ) : Type 0 where
   pub theirs : 4 * f + 4 ≤ length (m .marks)
   pub rows : 64 * hs ≤ length (m .rows)
   pub tall : 64 * mark (m .marks) f 0 ≤ length (m .rows)
-  pub small : hs ≤ 256
-  pub smallf : mark (m .marks) f 0 ≤ 256
+  pub small : hs ≤ last-row + 1
+  pub smallf : mark (m .marks) f 0 ≤ last-row + 1
   pub low : Low (m .rows)
   pub edge : mark (m .marks) f 1 ≤ farthest
   pub past : mark (m .marks) f 2 ≤ farthest

@@ -8,7 +8,7 @@ use native.Mathlib.Omega.{arith}
 use lib.ListN.{length, getD, length-set}
 use lib.Dec.{ltb}
 use borrow.Author.Tests.{ltb-true, ltb-false, lt-ltb, le-ltb}
-use Rattle.plan.specs.Limits.{farthest}
+use Rattle.plan.specs.Limits.{last-row, farthest}
 use Rattle.layout.specs.Contour.{Contour, greatest, clash, separation}
 use Rattle.layout.specs.Join.{upto, beyond, near, separationTo}
 use Rattle.rows.specs.Rows.{extent, Low, clash-to, put-to, put-to-length}
@@ -36,8 +36,8 @@ pub record Given (xs ms : List ℕ) (at f c d w m k : ℕ) (a b : Tally) (s n : 
   pub left : (j : ℕ) → extent xs j at ≡ getD (a .merge .left) j 0
   pub right : (j : ℕ) → extent xs j (at + 1) ≡ getD (a .merge .right) j 0
   pub fit : 64 * length (a .merge .left) ≤ length xs
-  pub small : d + 1 + length (b .merge .left) ≤ 256
-  pub smallf : length (a .merge .left) ≤ 256
+  pub small : d + 1 + length (b .merge .left) ≤ last-row + 1
+  pub smallf : length (a .merge .left) ≤ last-row + 1
   pub tall : mark ms f 0 ≡ length (a .merge .left)
   pub edge : mark ms f 1 ≡ a .edge
   pub past : mark ms f 2 ≡ a .merge .past

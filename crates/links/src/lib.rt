@@ -3,6 +3,7 @@
 ghost use mathlib.Core.Path.{_≡_};
 ghost use Prim.Native.Nat.{_+_, _-_, _*_, _≤_, _<_};
 ghost use lib.ListN.{length, getD};
+ghost use Rattle.plan.specs.Limits.{most-cells};
 ghost use Rattle.plan.specs.Plan.{appointed};
 ghost use Rattle.links.specs.Links.{link};
 ghost use Rattle.links.specs.Built.{Built};
@@ -73,7 +74,7 @@ fn number_siblings(parents: &[u16], n: usize, links: &mut [u16])
 
 // THE appointed child of a parent of this kind with k children: its number, counted from 1.
 pub fn appointed(kind: usize, k: usize) -> usize
-    requires { ⌜ k ≤ 256 ⌝ }
+    requires { ⌜ k ≤ most-cells ⌝ }
     ensures { λ r. ⌜ r ≡ appointed kind k ⌝ }
 {
     (k + 1 + 1) / 2

@@ -1,3 +1,5 @@
+// Row operations on the scratch: a box is drawn, extents are read, a child's rows join its parent's.
+
 ghost use mathlib.Core.Path.{_≡_};
 ghost use Prim.Native.Nat.{_+_, _-_, _*_, _≤_, _<_, max};
 ghost use Rattle.plan.specs.Limits.{farthest};
@@ -7,6 +9,7 @@ ghost use Rattle.rows.specs.Rows.{Low, box-to, max-to, clash-to, shifted
 // Numbers in a row of the scratch: a left and a right extent for each of 32 levels.
 pub const ROW: usize = 64;
 
+// The difference, 0 where it would be negative.
 pub fn less(a: u32, b: u32) -> u32
     ensures { λ r. ⌜ r ≡ a - b ⌝ }
 {
@@ -19,6 +22,7 @@ pub fn greater(a: u32, b: u32) -> u32
     if a < b { b } else { a }
 }
 
+// A number of the scratch.
 pub fn extent_at(rows: &[u32], row: usize, column: usize) -> u32
     requires { ⌜ 64 * row + column < length (now rows) ⌝ }
     ensures { λ r. ⌜ r ≡ getD (now (rows .entry)) (64 * row + column) 0 ⌝ }

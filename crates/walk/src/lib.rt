@@ -1,3 +1,5 @@
+// The walk of the tree: a loop over the chain of open cells. Each cell is opened, its children are joined one after another, and it is closed.
+
 use joining::complete;
 use joining::settle;
 use links::link_of;
