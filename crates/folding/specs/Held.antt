@@ -1,13 +1,13 @@
 -- What is kept of the joined children: its rows by number, and how large it gets. The widths bound it. Assumes nothing.
 use Prim.Native.Nat.{ℕ, zero, suc, _+_, _-_, _≤_, _<_, max}
 use mathlib.Core.Bool.{Bool, true, false, cond}
-use mathlib.Core.List.{List, [], _∷_, map}
-use mathlib.Core.Path.{_≡_, refl, sym, ap, _∙_}
+use mathlib.Core.List.{[], map}
+use mathlib.Core.Path.{_≡_, refl, sym, _∙_}
 use native.Mathlib.Omega.{arith}
 use lib.Dec.{ltb}
 use borrow.Author.Tests.{ltb-true, ltb-false}
 use lib.ListN.{length, getD, length-map}
-use Rattle.layout.specs.Contour.{Contour, greatest, cover}
+use Rattle.layout.specs.Contour.{Contour, greatest}
 use Rattle.layout.specs.ContourLaws.{separation-apart}
 use Rattle.layout.specs.HeightLaws.{length-cover}
 use Rattle.layout.specs.SpanLaws.{separation-most}

@@ -1,5 +1,5 @@
 -- A cell is complete: its box stands over its joined children, in the scratch as in its contour, and its marks are made. Assumes nothing.
-use mathlib.Core.Path.{_≡_, refl, _∙_, ap}
+use mathlib.Core.Path.{_≡_, refl, _∙_}
 use mathlib.Core.Logic.{_≢_}
 use mathlib.Core.List.{List}
 use mathlib.Core.Bool.{Bool, true, false, cond}
@@ -10,12 +10,12 @@ use lib.Dec.{ltb}
 use borrow.Author.Tests.{ltb-true, ltb-false}
 use Rattle.plan.specs.Limits.{farthest}
 use Rattle.layout.specs.Contour.{Contour, greatest}
-use Rattle.rows.specs.Rows.{extent, Low, box-to, box-to-length, max-to}
+use Rattle.rows.specs.Rows.{extent, Low, box-to, box-to-length}
 use Rattle.rows.specs.RowLaws.{box-left, box-right, box-above, box-beside}
 use Rattle.folding.specs.Fold.{Tally, boxed}
 use Rattle.folding.specs.Lists.{get-box, length-box}
 use Rattle.folding.specs.Held.{Held}
-use Rattle.joining.specs.Joining.{Memory, mem, mark, four, height, completed, Completing, length-four}
+use Rattle.joining.specs.Joining.{Memory, mem, mark, height, completed, Completing, length-four}
 use Rattle.joining.specs.Numbers.{max-is, box-low}
 use Rattle.joining.specs.MarkLaws.{mark-zero, mark-one, mark-two, mark-three, mark-other}
 

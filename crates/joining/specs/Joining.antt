@@ -1,13 +1,13 @@
 -- A complete cell joins its parent: what becomes of the scratch and of the marks. Assumes nothing.
-use mathlib.Core.Path.{_≡_, refl, _∙_, ap, sym}
+use mathlib.Core.Path.{_≡_, refl}
 use mathlib.Core.List.{List}
-use mathlib.Core.Bool.{Bool, true, false, cond}
+use mathlib.Core.Bool.{Bool, cond}
 use Prim.Native.Nat.{ℕ, zero, suc, _+_, _-_, _*_, _≤_, _<_, max, min}
 use native.Mathlib.Omega.{arith}
 use lib.ListN.{length, getD, set, length-set}
 use lib.Dec.{ltb}
-use Rattle.plan.specs.Limits.{most-cells, farthest}
-use Rattle.rows.specs.Rows.{extent, Low, box-to, max-to, clash-to, upto-rows, beyond-rows}
+use Rattle.plan.specs.Limits.{last-row, farthest}
+use Rattle.rows.specs.Rows.{Low, box-to, max-to, clash-to, upto-rows, beyond-rows}
 
 -- the scratch and the marks
 pub record Memory : Type 0 where
@@ -75,8 +75,8 @@ pub record Settling (m : Memory) (at f c hs : ℕ) : Type 0 where
   pub theirs : 4 * f + 4 ≤ length (m .marks)
   pub rows : 64 * hs ≤ length (m .rows)
   pub tall : 64 * mark (m .marks) f 0 ≤ length (m .rows)
-  pub small : hs ≤ 256
-  pub smallf : mark (m .marks) f 0 ≤ 256
+  pub small : hs ≤ last-row + 1
+  pub smallf : mark (m .marks) f 0 ≤ last-row + 1
   pub low : Low (m .rows)
   pub edge : mark (m .marks) f 1 ≤ farthest
   pub past : mark (m .marks) f 2 ≤ farthest

@@ -1,5 +1,5 @@
 -- A complete cell joins its parent: the scratch and the marks then show the children joined so far, with it. Assumes nothing.
-use mathlib.Core.Path.{_≡_, refl, _∙_, ap, sym, subst}
+use mathlib.Core.Path.{_≡_, refl, _∙_, ap, sym}
 use mathlib.Core.Logic.{_≢_}
 use mathlib.Core.List.{List, map}
 use mathlib.Core.Bool.{Bool, true, false, cond}
@@ -8,15 +8,15 @@ use native.Mathlib.Omega.{arith}
 use lib.ListN.{length, getD, length-set}
 use lib.Dec.{ltb}
 use borrow.Author.Tests.{ltb-true, ltb-false, lt-ltb, le-ltb}
-use Rattle.plan.specs.Limits.{farthest}
+use Rattle.plan.specs.Limits.{last-row, farthest}
 use Rattle.layout.specs.Contour.{Contour, greatest, clash, separation}
 use Rattle.layout.specs.Join.{upto, beyond, near, separationTo}
 use Rattle.rows.specs.Rows.{extent, Low, clash-to, put-to, put-to-length}
 use Rattle.rows.specs.RowLaws.{put-to-above, put-to-else, put-to-left, put-to-right, put-to-left-off, put-to-right-off}
 use Rattle.folding.specs.Fold.{Tally, first, later, side, add-at, add, boxed}
-use Rattle.folding.specs.Lists.{get-past, get-greatest}
+use Rattle.folding.specs.Lists.{get-past}
 use Rattle.folding.specs.Held.{Held, Fits, Between, between, upto-left, upto-past, beyond-past, upto-tall, beyond-tall, held-upto-right, held-beyond-left, held-beyond-right, held-add, box-fits}
-use Rattle.joining.specs.Joining.{Memory, mem, mark, four, noted, height, completed, apart, settled-first, settled-by, settled-at, settled, Settling, length-four}
+use Rattle.joining.specs.Joining.{Memory, mem, mark, noted, height, completed, apart, settled-first, settled-by, settled-at, settled, Settling, length-four}
 use Rattle.joining.specs.Numbers.{clash-is}
 use Rattle.joining.specs.MarkLaws.{mark-zero, mark-one, mark-two, mark-three, mark-other, noted-three, noted-else}
 use Rattle.joining.specs.Complete.{Under, Complete, complete, height-is, left-tall, right-tall}
@@ -36,8 +36,8 @@ pub record Given (xs ms : List ℕ) (at f c d w m k : ℕ) (a b : Tally) (s n : 
   pub left : (j : ℕ) → extent xs j at ≡ getD (a .merge .left) j 0
   pub right : (j : ℕ) → extent xs j (at + 1) ≡ getD (a .merge .right) j 0
   pub fit : 64 * length (a .merge .left) ≤ length xs
-  pub small : d + 1 + length (b .merge .left) ≤ 256
-  pub smallf : length (a .merge .left) ≤ 256
+  pub small : d + 1 + length (b .merge .left) ≤ last-row + 1
+  pub smallf : length (a .merge .left) ≤ last-row + 1
   pub tall : mark ms f 0 ≡ length (a .merge .left)
   pub edge : mark ms f 1 ≡ a .edge
   pub past : mark ms f 2 ≡ a .merge .past

@@ -13,11 +13,10 @@ use rows::join_upto;
 use rows::less;
 ghost use mathlib.Core.Path.{_≡_};
 ghost use mathlib.Core.Bool.{cond};
-ghost use Prim.Native.Nat.{ℕ, _+_, _-_, _*_, _≤_, _<_, max, min};
-ghost use lib.ListN.{length, getD};
-ghost use lib.Dec.{ltb};
+ghost use Prim.Native.Nat.{_+_, _-_, _*_, _≤_, _<_, max, min};
+ghost use lib.ListN.{length};
 ghost use Rattle.plan.specs.Limits.{farthest};
-ghost use Rattle.rows.specs.Rows.{Low, upto-rows, beyond-rows};
+ghost use Rattle.rows.specs.Rows.{upto-rows, beyond-rows};
 ghost use Rattle.joining.specs.Joining.{mem, mark, four, noted, height, completed, apart, settled-first, settled-by, settled, Completing, Settling, Siding};
 
 fn wide32(x: u32) -> usize
@@ -65,14 +64,7 @@ fn note(marks: &mut [u32], c: usize, x: u32)
 }
 
 // The cell c, of depth d and width w, is complete: its box is drawn over its joined rows, and its marks are made. Its number of rows.
-pub fn complete(
-    rows: &mut [u32],
-    marks: &mut [u32],
-    at: usize,
-    c: usize,
-    d: usize,
-    w: u32,
-) -> usize
+pub fn complete(rows: &mut [u32], marks: &mut [u32], at: usize, c: usize, d: usize, w: u32) -> usize
     requires { ⌜ Completing (mem (now rows) (now marks)) at c d ⌝ }
     ensures { λ r. ⌜ (mem (now (rows .exit)) (now (marks .exit)) ≡ completed (mem (now (rows .entry)) (now (marks .entry))) at c d w) × (r ≡ height (now (marks .entry)) c d) ⌝ }
 {

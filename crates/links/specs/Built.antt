@@ -1,8 +1,7 @@
 -- The links that are built are those of the table. Assumes nothing.
-use mathlib.Core.Path.{_≡_, refl, _∙_, ap, sym, subst}
+use mathlib.Core.Path.{_≡_, refl, _∙_, ap, sym}
 use mathlib.Core.Logic.{_≢_}
 use mathlib.Core.List.{List, [], _∷_}
-use mathlib.Core.Bool.{Bool, true, false, cond}
 use Prim.Native.Nat.{ℕ, zero, suc, pred, _+_, _-_, _*_, _≤_, _<_}
 use native.Mathlib.Omega.{arith}
 use native.Mathlib.Decide.{ℕ-discrete}
@@ -10,12 +9,11 @@ use lib.ListN.{length, getD, set, length-set}
 use lib.Seq.{getD-set-same, getD-set-other}
 use lib.Dec.{eqb}
 use borrow.Author.Tests.{eq-eqb, ne-eqb}
-use Rattle.plan.specs.Limits.{most-cells}
 use Rattle.plan.specs.Lists.{At, from, keep}
 use Rattle.plan.specs.Plan.{Table, Is, kind, parent, children, appointed}
 use Rattle.plan.specs.PlanLaws.{child-read}
 use Rattle.links.specs.Links.{link, Links}
-use Rattle.links.specs.Build.{up, chain-one, chained, count-one, counted, placed, links-of, chain-length, count-length, placed-length, placed-later, chain-else, Building, Linking, links-length}
+use Rattle.links.specs.Build.{up, chain-one, chained, count-one, counted, placed, links-of, chain-length, count-length, placed-length, chain-else, Building, Linking}
 
 -- the columns have the parents and the kinds of the table t
 pub record Reads (t : Table) (fs ks : List ℕ) (n : ℕ) : Type 0 where
@@ -52,26 +50,14 @@ module _ (fs : List ℕ) where
   kin-split P f d i hit miss = elim (ℕ-discrete (up fs i) f) [ yes e ↦ rw (kin-hit f d i e) (hit e) | no e ↦ rw (kin-miss f d i e) (miss e) ]
 
   -- one cell more at the end
-  kin-last-hit : (f d i : ℕ) → up fs (i + d) ≡ f → length (kin fs f (suc d) i) ≡ suc (length (kin fs f d i))
-  kin-last-hit f zero i e = let z : i + 0 ≡ i = omega arith in rw (kin-hit f 0 i (rw z at e), kin-none f i, kin-none f (suc i))
-  kin-last-hit f (suc d) i e =
+  kin-last : (f d i : ℕ) → length (kin fs f (suc d) i) ≡ length (kin fs f d i) + length (kin fs f 1 (i + d))
+  kin-last f zero i = let z : i + 0 ≡ i = omega arith in rw (z, kin-none f i) (omega arith)
+  kin-last f (suc d) i =
       let z : i + suc d ≡ suc i + d = omega arith in
-      let ih = kin-last-hit f d (suc i) (rw z at e) in
-      go (ℕ-discrete (up fs i) f) ih
+      go (ℕ-discrete (up fs i) f) (rw z (kin-last f d (suc i)))
     where
-      go : Dec (up fs i ≡ f) → length (kin fs f (suc d) (suc i)) ≡ suc (length (kin fs f d (suc i))) → length (kin fs f (suc (suc d)) i) ≡ suc (length (kin fs f (suc d) i))
-      go (yes q) ih = rw (kin-hit f (suc d) i q, kin-hit f d i q) (ap suc ih)
-      go (no q) ih = rw (kin-miss f (suc d) i q, kin-miss f d i q) ih
-
-  kin-last-miss : (f d i : ℕ) → up fs (i + d) ≢ f → length (kin fs f (suc d) i) ≡ length (kin fs f d i)
-  kin-last-miss f zero i e = let z : i + 0 ≡ i = omega arith in rw (kin-miss f 0 i (rw z at e), kin-none f i, kin-none f (suc i))
-  kin-last-miss f (suc d) i e =
-      let z : i + suc d ≡ suc i + d = omega arith in
-      let ih = kin-last-miss f d (suc i) (rw z at e) in
-      go (ℕ-discrete (up fs i) f) ih
-    where
-      go : Dec (up fs i ≡ f) → length (kin fs f (suc d) (suc i)) ≡ length (kin fs f d (suc i)) → length (kin fs f (suc (suc d)) i) ≡ length (kin fs f (suc d) i)
-      go (yes q) ih = rw (kin-hit f (suc d) i q, kin-hit f d i q) (ap suc ih)
+      go : Dec (up fs i ≡ f) → length (kin fs f (suc d) (suc i)) ≡ length (kin fs f d (suc i)) + length (kin fs f 1 (i + suc d)) → length (kin fs f (suc (suc d)) i) ≡ length (kin fs f (suc d) i) + length (kin fs f 1 (i + suc d))
+      go (yes q) ih = rw (kin-hit f (suc d) i q, kin-hit f d i q) (omega (arith, ih))
       go (no q) ih = rw (kin-miss f (suc d) i q, kin-miss f d i q) ih
 
   -- a child is not before the first cell
@@ -181,13 +167,12 @@ module _ (fs : List ℕ) (n : ℕ) (ls : List ℕ) (h : Building fs n ls) (clear
         go (yes e) ih =
             let lt : 4 * up fs (suc d) + 3 < length (set L (4 * suc d + 2) (getD L (4 * up fs (suc d) + 3) 0)) = simp (length-set, count-length) (omega (arith, len, h .before (suc d) (omega arith) (omega arith), h .room, h .few)) in
             let q : 4 * f + 3 ≡ 4 * up fs (suc d) + 3 = omega arith in
-            let last = kin-last-hit fs f d 1 (rw s at e) in
             let ih′ = rw q at ih in
-            rw (q, getD-set-same) (omega (arith, ih′, last))
+            rw (q, getD-set-same, kin-last fs f d 1, ← s, kin-hit fs f 0 (suc d) e, kin-none fs f (suc (suc d))) (omega (arith, ih′))
         go (no ne) ih =
             let e1 : 4 * f + 3 ≢ 4 * up fs (suc d) + 3 = omega arith in
             let e2 : 4 * f + 3 ≢ 4 * suc d + 2 = omega arith in
-            rw (getD-set-other, getD-set-other) (ih ∙ sym (kin-last-miss fs f d 1 (rw s at ne)))
+            rw (getD-set-other, getD-set-other, kin-last fs f d 1, ← s, kin-miss fs f 0 (suc d) ne, kin-none fs f (suc (suc d))) (omega (arith, ih))
 
     place-is : (d c : ℕ) → suc d ≤ n → 0 < c → c ≤ d → link (counted fs ms d) c 2 ≡ length (kin fs (up fs c) (c - 1) 1)
     unfolding counted

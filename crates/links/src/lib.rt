@@ -1,13 +1,13 @@
 // The links of a table, made once: how the walk finds a cell's children. Only this crate knows the order of siblings.
 
 ghost use mathlib.Core.Path.{_≡_};
-ghost use Prim.Native.Nat.{ℕ, _+_, _-_, _*_, _≤_, _<_};
+ghost use Prim.Native.Nat.{_+_, _-_, _*_, _≤_, _<_};
 ghost use lib.ListN.{length, getD};
+ghost use Rattle.plan.specs.Limits.{most-cells};
 ghost use Rattle.plan.specs.Plan.{appointed};
 ghost use Rattle.links.specs.Links.{link};
 ghost use Rattle.links.specs.Built.{Built};
 ghost use Rattle.links.specs.Build.{chained, counted, placed, Building, Appointing, Linking};
-
 
 fn wide8(x: u8) -> usize
     ensures { λ r. ⌜ r ≡ x ⌝ }
@@ -74,7 +74,7 @@ fn number_siblings(parents: &[u16], n: usize, links: &mut [u16])
 
 // THE appointed child of a parent of this kind with k children: its number, counted from 1.
 pub fn appointed(kind: usize, k: usize) -> usize
-    requires { ⌜ k ≤ 256 ⌝ }
+    requires { ⌜ k ≤ most-cells ⌝ }
     ensures { λ r. ⌜ r ≡ appointed kind k ⌝ }
 {
     (k + 1 + 1) / 2

@@ -1,13 +1,12 @@
 -- What the engine's core is given, and the marks that it makes: offsets, middles and extents of the definition. Assumes nothing.
-use mathlib.Core.Path.{_≡_, refl, _∙_, ap, sym}
+use mathlib.Core.Path.{_≡_, refl, sym}
 use mathlib.Core.List.{List}
-use Prim.Native.Nat.{ℕ, zero, suc, _+_, _*_, _≤_, _<_}
+use Prim.Native.Nat.{ℕ, zero, suc, _+_, _*_, _≤_}
 use native.Mathlib.Omega.{arith}
 use lib.ListN.{length, getD, replicate, length-replicate}
 use Rattle.plan.specs.Limits.{most-cells, scratch-size, farthest}
 use Rattle.plan.specs.Lists.{At}
 use Rattle.plan.specs.Plan.{Table, Is, children, row}
-use Rattle.plan.specs.PlanLaws.{child-read}
 use Rattle.plan.specs.Paths.{child-less}
 use Rattle.plan.specs.Fit.{Fit}
 use Rattle.plan.specs.Columns.{table-of}
@@ -17,7 +16,7 @@ use Rattle.layout.specs.Sheet.{middle, contours, whole-contour}
 use Rattle.joining.specs.Joining.{mark}
 use Rattle.links.specs.Build.{Linking}
 use Rattle.links.specs.Built.{Reads, Built}
-use Rattle.walk.specs.Machine.{Chart, chart}
+use Rattle.walk.specs.Machine.{chart}
 use Rattle.walk.specs.Claim.{Suits}
 use Rattle.walk.specs.Walked.{Walking, Walked}
 use Rattle.marks.specs.ColumnsLaws.{table-length, parent-is, kind-is, width-is, depth-is}

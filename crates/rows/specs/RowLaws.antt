@@ -1,16 +1,15 @@
--- What stands at a row and a column of the scratch after rows are put and a box is drawn.
+-- What stands at a row and a column of the scratch after rows are put and a box is drawn. Assumes nothing.
 use mathlib.Core.Path.{_≡_, refl, _∙_, ap, sym, subst}
 use mathlib.Core.Logic.{_≢_, ⊎-elim}
 use mathlib.Core.List.{List}
-use mathlib.Core.Bool.{Bool, true, false}
-use Prim.Native.Nat.{ℕ, zero, suc, _+_, _-_, _*_, _≤_, _<_, max, min}
+use Prim.Native.Nat.{ℕ, zero, suc, _+_, _-_, _*_, _≤_, _<_}
 use native.Mathlib.Nat.{eq-or-lt-of-le, le-of-suc-le-suc}
 use native.Mathlib.Omega.{arith}
 use native.Mathlib.Decide.{ℕ-discrete}
 use lib.ListN.{length, getD, set, length-set}
 use lib.Seq.{getD-set-same, getD-set-other}
 use lib.Dec.{ltb}
-use Rattle.rows.specs.Rows.{extent, box-to, put-one, put-to, put-to-more, shifted-of, upto-left, upto-rows, beyond-rows, box-to-length, put-to-length}
+use Rattle.rows.specs.Rows.{extent, box-one, box-to, put-one, put-to, put-to-more, shifted-of, upto-left, upto-rows, beyond-rows, box-to-length, put-to-length}
 
 module _ (xs : List ℕ) (at j l r : ℕ) (a : at ≤ 60) (fits : 64 * j + 64 ≤ length xs) where
   pub put-left : extent (put-one xs at j l r) j at ≡ l
@@ -109,56 +108,51 @@ column at k = go (ℕ-discrete k at) (ℕ-discrete k (at + 1)) (ℕ-discrete k (
     go (no n0) (no n1) (no n2) (yes e) = subst (Column at) (sym e) right-off
     go (no n0) (no n1) (no n2) (no n3) = other n0 n1 n2 n3
 
--- a box of n rows in the column c
+-- ---- a box of n rows in the column c
+box-else : (xs : List ℕ) (c w n i k : ℕ) → 64 * i + k ≢ 64 * n + c → 64 * i + k ≢ 64 * n + c + 1 → extent (box-one xs c w n) i k ≡ extent xs i k
+box-else xs c w n i k e0 e1 = rw (getD-set-other, getD-set-other)
+
 pub box-above : (xs : List ℕ) (c w n : ℕ) → c ≤ 62 → (i k : ℕ) → k < 64 → n ≤ i → extent (box-to xs c w n) i k ≡ extent xs i k
 unfolding box-to
 box-above xs c w zero a i k b le = refl
-box-above xs c w (suc n) a i k b le =
-    let e0 : 64 * i + k ≢ 64 * n + c = omega arith in
-    let e1 : 64 * i + k ≢ 64 * n + c + 1 = omega arith in
-    rw (getD-set-other, getD-set-other) (box-above xs c w n a i k b (omega arith))
+box-above xs c w (suc n) a i k b le = box-else (box-to xs c w n) c w n i k (omega arith) (omega arith) ∙ box-above xs c w n a i k b (omega arith)
 
 pub box-beside : (xs : List ℕ) (c w n : ℕ) → c ≤ 62 → (i k : ℕ) → k < 64 → k ≢ c → k ≢ c + 1 → extent (box-to xs c w n) i k ≡ extent xs i k
 unfolding box-to
 box-beside xs c w zero a i k b n0 n1 = refl
-box-beside xs c w (suc n) a i k b n0 n1 =
-    let e0 : 64 * i + k ≢ 64 * n + c = omega arith in
-    let e1 : 64 * i + k ≢ 64 * n + c + 1 = omega arith in
-    rw (getD-set-other, getD-set-other) (box-beside xs c w n a i k b n0 n1)
+box-beside xs c w (suc n) a i k b n0 n1 = box-else (box-to xs c w n) c w n i k (omega arith) (omega arith) ∙ box-beside xs c w n a i k b n0 n1
 
-pub box-left : (xs : List ℕ) (c w n : ℕ) → c ≤ 62 → 64 * n ≤ length xs → (j : ℕ) → j < n → extent (box-to xs c w n) j c ≡ 0
-unfolding box-to
-box-left xs c w zero a f j lt = absurd (omega arith)
-box-left xs c w (suc n) a f j lt =
-    let len = box-to-length xs c w n in
-    let f′ : 64 * n ≤ length xs = omega arith in
-    let l : 64 * n + c < length (box-to xs c w n) = omega arith in
-    let ne : 64 * n + c ≢ 64 * n + c + 1 = omega arith in
-    ⊎-elim
-    (λ e. subst (λ (i : ℕ). extent (box-to xs c w (suc n)) i c ≡ 0) (sym e)
-    (getD-set-other (set (box-to xs c w n) (64 * n + c) 0) (64 * n + c + 1) (64 * n + c) w 0 ne ∙ getD-set-same (box-to xs c w n) (64 * n + c) 0 0 l))
-    (λ l. let e0 : 64 * j + c ≢ 64 * n + c = omega arith in
-    let e1 : 64 * j + c ≢ 64 * n + c + 1 = omega arith in
-    rw (getD-set-other, getD-set-other) (box-left xs c w n a f′ j l))
-    (eq-or-lt-of-le (le-of-suc-le-suc lt))
+-- a row of the box
+module _ (xs : List ℕ) (c w k v : ℕ) (a : c ≤ 62) (b : k < 64) (here : (ys : List ℕ) (j : ℕ) → 64 * j + 64 ≤ length ys → extent (box-one ys c w j) j k ≡ v) where
+  box-row : (n : ℕ) → 64 * n ≤ length xs → (j : ℕ) → j < n → extent (box-to xs c w n) j k ≡ v
+  unfolding box-to
+  box-row zero f j lt = absurd (omega arith)
+  box-row (suc n) f j lt =
+      ⊎-elim
+      (λ e. subst (λ (i : ℕ). extent (box-to xs c w (suc n)) i k ≡ v) (sym e) (here (box-to xs c w n) n (omega (arith, box-to-length xs c w n))))
+      (λ l. box-else (box-to xs c w n) c w n j k (omega arith) (omega arith) ∙ box-row n (omega arith) j l)
+      (eq-or-lt-of-le (le-of-suc-le-suc lt))
 
-pub box-right : (xs : List ℕ) (c w n : ℕ) → c ≤ 62 → 64 * n ≤ length xs → (j : ℕ) → j < n → extent (box-to xs c w n) j (c + 1) ≡ w
-unfolding box-to
-box-right xs c w zero a f j lt = absurd (omega arith)
-box-right xs c w (suc n) a f j lt =
-    let len = box-to-length xs c w n in
-    let f′ : 64 * n ≤ length xs = omega arith in
-    let p : 64 * n + c + 1 ≡ 64 * n + (c + 1) = omega arith in
-    let l : 64 * n + c + 1 < length (set (box-to xs c w n) (64 * n + c) 0) = simp length-set (omega arith) in
-    let at-n : getD (box-to xs c w (suc n)) (64 * n + c + 1) 0 ≡ w = getD-set-same (set (box-to xs c w n) (64 * n + c) 0) (64 * n + c + 1) w 0 l in
-    ⊎-elim
-    (λ e. subst (λ (i : ℕ). extent (box-to xs c w (suc n)) i (c + 1) ≡ w) (sym e) (subst (λ (q : ℕ). getD (box-to xs c w (suc n)) q 0 ≡ w) p at-n))
-    (λ l. let e0 : 64 * j + (c + 1) ≢ 64 * n + c = omega arith in
-    let e1 : 64 * j + (c + 1) ≢ 64 * n + c + 1 = omega arith in
-    rw (getD-set-other, getD-set-other) (box-right xs c w n a f′ j l))
-    (eq-or-lt-of-le (le-of-suc-le-suc lt))
+module _ (xs : List ℕ) (c w n : ℕ) (a : c ≤ 62) (f : 64 * n ≤ length xs) (j : ℕ) (lt : j < n) where
+  pub box-left : extent (box-to xs c w n) j c ≡ 0
+  box-left = box-row xs c w c 0 a (omega arith) here n f j lt
+    where
+      here : (ys : List ℕ) (j : ℕ) → 64 * j + 64 ≤ length ys → extent (box-one ys c w j) j c ≡ 0
+      here ys j g =
+          let l : 64 * j + c < length ys = omega arith in
+          let ne : 64 * j + c ≢ 64 * j + c + 1 = omega arith in
+          rw (getD-set-other, getD-set-same)
 
--- one row more
+  pub box-right : extent (box-to xs c w n) j (c + 1) ≡ w
+  box-right = box-row xs c w (c + 1) w a (omega arith) here n f j lt
+    where
+      here : (ys : List ℕ) (j : ℕ) → 64 * j + 64 ≤ length ys → extent (box-one ys c w j) j (c + 1) ≡ w
+      here ys j g =
+          let p : 64 * j + (c + 1) ≡ 64 * j + c + 1 = omega arith in
+          let l : 64 * j + c + 1 < length (set ys (64 * j + c) 0) = simp length-set (omega arith) in
+          rw (p, getD-set-same)
+
+-- ---- one row more
 module _ (xs ys : List ℕ) (at : ℕ) (L R : ℕ → ℕ) (j : ℕ) (is : ys ≡ put-to xs at L R j) (a : at ≤ 60) (f : 64 * j ≤ length xs) where
   pub unread : (k : ℕ) → k < 64 → extent ys j k ≡ extent xs j k
   unread k b = ap (λ (zs : List ℕ). extent zs j k) is ∙ put-to-above xs at L R j a f j k b (omega arith)

@@ -1,5 +1,7 @@
+// Row operations on the scratch: a box is drawn, extents are read, a child's rows join its parent's.
+
 ghost use mathlib.Core.Path.{_≡_};
-ghost use Prim.Native.Nat.{ℕ, _+_, _-_, _*_, _≤_, _<_, max, min};
+ghost use Prim.Native.Nat.{_+_, _-_, _*_, _≤_, _<_, max};
 ghost use Rattle.plan.specs.Limits.{farthest};
 ghost use lib.ListN.{length, getD};
 ghost use Rattle.rows.specs.Rows.{Low, box-to, max-to, clash-to, shifted-of, put-one, upto-rows, beyond-rows};
@@ -7,6 +9,7 @@ ghost use Rattle.rows.specs.Rows.{Low, box-to, max-to, clash-to, shifted
 // Numbers in a row of the scratch: a left and a right extent for each of 32 levels.
 pub const ROW: usize = 64;
 
+// The difference, 0 where it would be negative.
 pub fn less(a: u32, b: u32) -> u32
     ensures { λ r. ⌜ r ≡ a - b ⌝ }
 {
@@ -19,6 +22,7 @@ pub fn greater(a: u32, b: u32) -> u32
     if a < b { b } else { a }
 }
 
+// A number of the scratch.
 pub fn extent_at(rows: &[u32], row: usize, column: usize) -> u32
     requires { ⌜ 64 * row + column < length (now rows) ⌝ }
     ensures { λ r. ⌜ r ≡ getD (now (rows .entry)) (64 * row + column) 0 ⌝ }
@@ -70,7 +74,10 @@ pub fn clash(rows: &[u32], k: usize, x: u32, n: usize) -> u32
     let mut g: u32 = 0;
     let mut j: usize = 0;
     while j < n {
-        g = greater(g, needed(extent_at(rows, j, k + 1), x, extent_at(rows, j, k + 2)));
+        g = greater(
+            g,
+            needed(extent_at(rows, j, k + 1), x, extent_at(rows, j, k + 2)),
+        );
         j += 1;
     }
     g

@@ -10,7 +10,6 @@ use Rattle.plan.specs.Limits.{most-cells, farthest}
 use Rattle.plan.specs.Lists.{At}
 use Rattle.plan.specs.Plan.{Table, Is, W, D, children, place, level, row}
 use Rattle.plan.specs.Fit.{Fit}
-use Rattle.plan.specs.PlanLaws.{child-read}
 use Rattle.plan.specs.Paths.{Below, below-split, child-less, row-child}
 use Rattle.layout.specs.Contour.{Contour, greatest, offset}
 use Rattle.layout.specs.Sheet.{middle, contours, whole-contour}

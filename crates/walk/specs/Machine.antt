@@ -2,14 +2,14 @@
 use mathlib.Core.Path.{_≡_, refl, _∙_, ap, sym, subst}
 use mathlib.Core.Logic.{_≢_}
 use mathlib.Core.List.{List, [], _∷_, _++_}
-use mathlib.Core.Bool.{Bool, true, false}
-use Prim.Native.Nat.{ℕ, zero, suc, _+_, _-_, _*_, _/_, _≤_, _<_, max, min}
+use Prim.Native.Nat.{ℕ, zero, suc, _+_, _-_, _*_, _≤_, _<_}
 use native.Mathlib.Omega.{arith}
 use native.Mathlib.Numerals.{add-one}
-use lib.ListN.{length, getD, set, take, drop, length-set}
+use lib.ListN.{length, getD, set, take, drop}
 use lib.Seq.{getD-set-same, getD-set-other}
-use Rattle.rows.specs.Rows.{box-to, Low}
-use Rattle.joining.specs.Joining.{Memory, mem, mark, height, completed, settled, Completing, Settling}
+use Rattle.plan.specs.Limits.{most-cells}
+use Rattle.rows.specs.Rows.{box-to}
+use Rattle.joining.specs.Joining.{Memory, mem, height, completed, settled, Completing, Settling}
 use Rattle.joining.specs.Settle.{finished}
 use Rattle.links.specs.Links.{link}
 
@@ -24,6 +24,7 @@ pub record Chart : Type 0 where
 abbrev pub chart : List ℕ → List ℕ → List ℕ → List ℕ → ℕ → Chart
 chart ls ws ds ts al = record { links = ls; widths = ws; depths = ds; tops = ts; allowance = al }
 
+-- W, D, the top row and the appointed place of a cell, as the chart has them
 abbrev pub wide : Chart → ℕ → ℕ
 wide b c = getD (b .widths) c 0
 
@@ -36,6 +37,7 @@ top b c = getD (b .tops) c 0
 abbrev pub apt : Chart → ℕ → ℕ
 apt b c = link (b .links) c 3
 
+-- the open cells, the latest first; the child to open next, 0 where there is none; the scratch and the marks
 pub record State : Type 0 where
   pub stack : List ℕ
   pub next : ℕ
@@ -45,13 +47,16 @@ pub record State : Type 0 where
 abbrev pub below-row : List ℕ → ℕ → Memory → Memory
 below-row xs y m = mem (take (64 * y) xs ++ m .rows) (m .marks)
 
+-- the child c of f, at the level below, is closed: only the rows from its top row on change
 unfoldable pub closed : Chart → ℕ → ℕ → ℕ → Memory → Memory
 closed b level f c m =
     below-row (m .rows) (top b c) (finished (mem (drop (64 * top b c) (m .rows)) (m .marks)) (2 * level) f c (deep b c) (wide b c) (link (b .links) c 2) (apt b f) (b .allowance))
 
+-- the root is closed, and its rows are cleared
 unfoldable pub root-closed : Memory → ℕ → ℕ → Memory
 root-closed m d w = mem (box-to (completed m 0 0 d w .rows) 0 0 (height (m .marks) 0 d)) (completed m 0 0 d w .marks)
 
+-- a next child is opened; or the latest open cell is closed, with the root last
 abbrev pub step-at : Chart → ℕ → List ℕ → Memory → State
 step-at b (suc s) cs m = record { stack = suc s ∷ cs; next = link (b .links) (suc s) 0; memory = m }
 step-at b zero [] m = record { stack = []; next = 0; memory = m }
@@ -62,8 +67,7 @@ step-at b zero (c ∷ f ∷ fs) m = record { stack = f ∷ fs; next = link (b .l
 unfoldable pub step : Chart → State → State
 step b st = step-at b (st .next) (st .stack) (st .memory)
 
--- What the calls need.
-
+-- ---- what the calls need
 pub record Finishing (m : Memory) (at f c d w : ℕ) : Type 0 where
   pub completing : Completing m (at + 2) c d
   pub settling : Settling (completed m (at + 2) c d w) at f c (height (m .marks) c d)
@@ -93,7 +97,7 @@ Shutting b (c ∷ f ∷ fs) m = Closing b (length fs) f c (m .rows) (m .marks)
 
 pub record Opening (b : Chart) (st : State) : Type 0 where
   pub links : 4 * st .next + 4 ≤ length (b .links)
-  pub small : st .next < 256
+  pub small : st .next < most-cells
   pub room : length (st .stack) < 32
 
 pub record Turning (b : Chart) (st : State) : Type 0 where
@@ -106,6 +110,10 @@ pub record Turning (b : Chart) (st : State) : Type 0 where
 abbrev pub Safe : Chart → (Memory → Type 0) → ℕ → State → Type 0
 Safe b Q zero st = (length (st .stack) ≡ 0) × Q (st .memory)
 Safe b Q (suc n) st = Turning b st × Safe b Q n (step b st)
+
+-- each cell is opened and closed once
+abbrev pub most-turns : ℕ
+most-turns = 2 * most-cells
 
 -- how many turns are left, of at most so many
 abbrev pub counted : List ℕ → ℕ → ℕ
@@ -131,8 +139,7 @@ turns-are b Q zero (suc n) st s l = absurd (omega arith)
 turns-are b Q (suc k) zero st s l = counted-none (st .stack) _ (s .0)
 turns-are b Q (suc k) (suc n) st s l = counted-some (st .stack) _ (s .0 .some) ∙ ap suc (turns-are b Q k n (step b st) (s .1) (omega arith))
 
--- The chain: an array of 32 cells and a count. The stack has its last cell on top.
-
+-- ---- the chain: an array of 32 cells and a count. The stack has its last cell on top
 unfoldable pub stack-of : List ℕ → ℕ → List ℕ
 stack-of cs zero = []
 stack-of cs (suc k) = getD cs k 0 ∷ stack-of cs k
@@ -162,8 +169,7 @@ stack-of-top cs k lt =
 abbrev pub state-of : List ℕ → ℕ → ℕ → List ℕ → List ℕ → State
 state-of cs k next xs ms = record { stack = stack-of cs k; next = next; memory = mem xs ms }
 
--- A turn, as the code takes it.
-
+-- ---- a turn, as the code takes it
 pub step-open : (b : Chart) (cs : List ℕ) (s : ℕ) (m : Memory) → 0 < s → step b (record { stack = cs; next = s; memory = m }) ≡ record { stack = s ∷ cs; next = link (b .links) s 0; memory = m }
 unfolding step
 step-open b cs zero m l = absurd (omega arith)

@@ -1,7 +1,7 @@
 -- What the walk is given, and what it leaves. Assumes nothing.
 use mathlib.Core.Path.{_≡_, refl, _∙_, ap, sym, subst}
-use mathlib.Core.Logic.{_≢_, inl, inr}
-use mathlib.Core.List.{List, [], _∷_}
+use mathlib.Core.Logic.{inl, inr}
+use mathlib.Core.List.{List, []}
 use mathlib.Core.Bool.{Bool, true, false}
 use Prim.Native.Nat.{ℕ, zero, suc, _+_, _-_, _*_, _/_, _%_, _≤_, _<_}
 use native.Mathlib.Nat.{div-add-mod'}
@@ -13,7 +13,7 @@ use lib.Dec.{ltb}
 use borrow.Author.Tests.{ltb-true, ltb-false}
 use Rattle.plan.specs.Limits.{most-cells, most-width, scratch-size, farthest}
 use Rattle.plan.specs.Lists.{At}
-use Rattle.plan.specs.Plan.{Table, Is, W, D, children, place, level, row}
+use Rattle.plan.specs.Plan.{Table, Is, W, children, place, level, row}
 use Rattle.plan.specs.PlanLaws.{child-read}
 use Rattle.plan.specs.Paths.{Below, below-split, below-root, child-less}
 use Rattle.plan.specs.Sums.{total-parts, total-subtree}
@@ -30,7 +30,7 @@ use Rattle.joining.specs.Joining.{Memory, mem, mark, height, completed}
 use Rattle.joining.specs.MarkLaws.{low-marks, low-four}
 use Rattle.joining.specs.Complete.{Under, Complete, complete, completing, height-is, left-tall, right-tall}
 use Rattle.links.specs.Links.{link}
-use Rattle.walk.specs.Machine.{Chart, State, wide, deep, root-closed, step, step-end, Safe, Turning, turns, turns-are, stack-of, state-of}
+use Rattle.walk.specs.Machine.{Chart, State, wide, deep, root-closed, step, step-end, Safe, Turning, most-turns, turns, turns-are, stack-of, state-of}
 use Rattle.walk.specs.Tree.{tail-all, Out, below-below, sum, below-most, sum-within}
 use Rattle.walk.specs.Shows.{Shows, SameMarks, Kept}
 use Rattle.walk.specs.Claim.{Suits, Right, right-keep, Rights, at, claim}
@@ -260,10 +260,10 @@ module _ (t : Table) (b : Chart) (su : Suits t b) (xs ms : List ℕ) (lx : scrat
       (claim t b su End (grown t (su .fit .sound) 0) 0 0 (deep b 0 + 1) 0 [] fresh 0 xs ms 1 root-is refl (omega (arith, su .deep-of 0 root-is)) (sym (partial-none t al 0)) refl (tail-all t 0)
       (λ x i s c w k l. blank _) start (omega (arith, weight-low)) last)
 
--- ---- what the loop keeps: some number of safe turns, of at most 512, leads to the end
+-- ---- what the loop keeps: some number of safe turns, of at most two for each cell, leads to the end
 pub record Keeps (b : Chart) (xs : List ℕ) (st : State) : Type 0 where
   pub left : ℕ
-  pub few : left ≤ 512
+  pub few : left ≤ most-turns
   pub safe : Safe b (λ m. Walked b xs (m .rows) (m .marks)) left st
 
 -- two accounts of one walk end together
@@ -332,10 +332,10 @@ module _ (b : Chart) (xs : List ℕ) (st : State) (h : Keeps b xs st) (l : 0 < l
       let (m, q, a, s) = safe-some b _ (h .left) st (h .safe) l in
       rw e (record { left = m; few = omega (arith, h .few); safe = s })
 
-  pub keeps-less : (st′ : State) → st′ ≡ step b st → turns b 512 st′ < turns b 512 st
+  pub keeps-less : (st′ : State) → st′ ≡ step b st → turns b most-turns st′ < turns b most-turns st
   keeps-less st′ e =
       let (m, q, a, s) = safe-some b _ (h .left) st (h .safe) l in
-      rw e (omega (arith, turns-are b _ 512 (h .left) st (h .safe) (h .few), turns-are b _ 512 m (step b st) s (omega (arith, h .few))))
+      rw e (omega (arith, turns-are b _ most-turns (h .left) st (h .safe) (h .few), turns-are b _ most-turns m (step b st) s (omega (arith, h .few))))
 
 safe-none : (b : Chart) (P : Memory → Type 0) (n : ℕ) (st : State) → Safe b P n st → length (st .stack) ≡ 0 → P (st .memory)
 safe-none b P zero st s e = s .1

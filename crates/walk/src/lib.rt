@@ -1,24 +1,20 @@
+// The walk of the tree: a loop over the chain of open cells. Each cell is opened, its children are joined one after another, and it is closed.
+
 use joining::complete;
 use joining::settle;
-use rows::box_rows;
+use links::link_of;
 use rows::ROW;
+use rows::box_rows;
 ghost use mathlib.Core.Path.{_≡_};
 ghost use mathlib.Core.List.{_∷_};
-ghost use Prim.Native.Nat.{ℕ, _+_, _-_, _*_, _≤_, _<_, max, min};
+ghost use Prim.Native.Nat.{_-_, _<_};
 ghost use lib.ListN.{length, getD};
 ghost use Rattle.joining.specs.Joining.{mem};
 ghost use Rattle.joining.specs.Settle.{finished};
 ghost use Rattle.walk.specs.Walked.{Walking, Walked};
-ghost use Rattle.links.specs.Links.{link};
 ghost use Rattle.walk.specs.Machine.{Finishing, Rooting, root-closed, stack-of, chart, state-of, step, Closing, closed, Turning};
 
 fn wide8(x: u8) -> usize
-    ensures { λ r. ⌜ r ≡ x ⌝ }
-{
-    x as usize
-}
-
-fn wide16(x: u16) -> usize
     ensures { λ r. ⌜ r ≡ x ⌝ }
 {
     x as usize
@@ -49,14 +45,6 @@ fn width_of(s: &[u16], i: usize) -> u32
     ensures { λ r. ⌜ r ≡ getD (now (s .entry)) i 0 ⌝ }
 {
     wide16to32(s[i])
-}
-
-// Link k of the cell c: its first child, its next sibling (0: none), its place among its siblings, the place of its appointed child.
-fn link_of(links: &[u16], c: usize, k: usize) -> usize
-    requires { ⌜ (4 * c + 4 ≤ length (now links)) × (k < 4) ⌝ }
-    ensures { λ r. ⌜ r ≡ link (now (links .entry)) c k ⌝ }
-{
-    wide16(links[4 * c + k])
 }
 
 // The finished child c, of depth d and width w, is completed and joins its parent f.

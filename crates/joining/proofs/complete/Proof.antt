@@ -1,17 +1,8 @@
 use borrow.Author.Needs.{needs}
 use Rattle.joining.specs.Joining.{completed}
-use native.Mathlib.Omega.{arith}
-use Prim.Native.Nat.{ℕ, _≤_, _<_, _-_, _+_, _*_}
-use mathlib.Core.Path.{_≡_, refl, _∙_, ap, sym}
+use Prim.Native.Nat.{_-_}
 use Rattle.joining.proofs.complete.Statement.{statement}
 use Rattle.joining.proofs.complete.Tie as tie
-use Rattle.joining.proofs.complete.Reads as reads
-use Rattle.joining.proofs.complete.Lts as lts
-use Rattle.joining.proofs.mark_of.Reads as mark-of-reads
-use Rattle.joining.proofs.put_marks.Reads as put-marks-reads
-use Rattle.joining.proofs.wide32.Reads as wide32-reads
-use Rattle.rows.proofs.box_rows.Reads as box-rows-reads
-use Rattle.rows.proofs.column_max.Reads as column-max-reads
 
 -- src/lib.rt:79:14
 add-hs : tie.Need-add-hs

@@ -1,14 +1,8 @@
 use borrow.Author.Needs.{needs}
-use native.Mathlib.Omega.{arith}
-use Prim.Native.Nat.{ℕ, _≤_, _<_, _-_, _+_, _*_}
-use mathlib.Core.Path.{_≡_, refl, _∙_, ap, sym}
+use Prim.Native.Nat.{_-_}
+use mathlib.Core.Path.{refl}
 use Rattle.joining.proofs.join_side.Statement.{statement}
 use Rattle.joining.proofs.join_side.Tie as tie
-use Rattle.joining.proofs.join_side.Reads as reads
-use Rattle.joining.proofs.join_side.Lts as lts
-use Rattle.joining.proofs.taller.Reads as taller-reads
-use Rattle.rows.proofs.join_beyond.Reads as join-beyond-reads
-use Rattle.rows.proofs.join_upto.Reads as join-upto-reads
 
 -- src/lib.rt:135:31
 add-join-beyond : tie.Need-add-join-beyond

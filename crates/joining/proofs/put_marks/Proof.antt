@@ -1,12 +1,9 @@
 use borrow.Author.Needs.{needs}
 use native.Mathlib.Omega.{arith}
-use Prim.Native.Nat.{ℕ, _≤_, _<_, _-_, _+_, _*_}
-use mathlib.Core.Path.{_≡_, refl, _∙_, ap, sym}
+use Prim.Native.Nat.{_-_}
 use lib.ListN.{length-set}
 use Rattle.joining.proofs.put_marks.Statement.{statement}
 use Rattle.joining.proofs.put_marks.Tie as tie
-use Rattle.joining.proofs.put_marks.Reads as reads
-use Rattle.joining.proofs.put_marks.Lts as lts
 
 -- src/lib.rt:52:13
 mul-b : tie.Need-mul-b

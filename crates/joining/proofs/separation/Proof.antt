@@ -1,18 +1,8 @@
 use borrow.Author.Needs.{needs}
 use Rattle.joining.specs.Joining.{mem, apart, apart-found}
-use native.Mathlib.Omega.{arith}
-use Prim.Native.Nat.{ℕ, _≤_, _<_, _-_, _+_, _*_}
-use mathlib.Core.Path.{_≡_, refl, _∙_, ap, sym}
+use Prim.Native.Nat.{_-_}
 use Rattle.joining.proofs.separation.Statement.{statement}
 use Rattle.joining.proofs.separation.Tie as tie
-use Rattle.joining.proofs.separation.Reads as reads
-use Rattle.joining.proofs.separation.Lts as lts
-use Rattle.joining.proofs.mark_of.Reads as mark-of-reads
-use Rattle.joining.proofs.shorter.Reads as shorter-reads
-use Rattle.joining.proofs.wide32.Reads as wide32-reads
-use Rattle.rows.proofs.clash.Reads as clash-reads
-use Rattle.rows.proofs.greater.Reads as greater-reads
-use Rattle.rows.proofs.less.Reads as less-reads
 
 -- src/lib.rt:101:9
 mark-of-requires : tie.Need-mark-of-requires

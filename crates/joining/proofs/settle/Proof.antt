@@ -1,14 +1,10 @@
 use borrow.Author.Needs.{needs}
 use Rattle.joining.specs.Joining.{mem, at-first, at-later}
 use native.Mathlib.Omega.{arith}
-use Prim.Native.Nat.{ℕ, _≤_, _<_, _-_, _+_, _*_}
-use mathlib.Core.Path.{_≡_, refl, _∙_, ap, sym}
+use Prim.Native.Nat.{_-_}
+use mathlib.Core.Path.{_∙_, sym}
 use Rattle.joining.proofs.settle.Statement.{statement}
 use Rattle.joining.proofs.settle.Tie as tie
-use Rattle.joining.proofs.settle.Reads as reads
-use Rattle.joining.proofs.settle.Lts as lts
-use Rattle.joining.proofs.settle_first.Reads as settle-first-reads
-use Rattle.joining.proofs.settle_later.Reads as settle-later-reads
 
 -- src/lib.rt:181:9
 settle-first-requires : tie.Need-settle-first-requires

@@ -1,14 +1,7 @@
 use borrow.Author.Needs.{needs}
-use native.Mathlib.Omega.{arith}
-use Prim.Native.Nat.{ℕ, _≤_, _<_, _-_, _+_, _*_}
-use mathlib.Core.Path.{_≡_, refl, _∙_, ap, sym}
+use Prim.Native.Nat.{_-_}
 use Rattle.joining.proofs.settle_first.Statement.{statement}
 use Rattle.joining.proofs.settle_first.Tie as tie
-use Rattle.joining.proofs.settle_first.Reads as reads
-use Rattle.joining.proofs.settle_first.Lts as lts
-use Rattle.joining.proofs.mark_of.Reads as mark-of-reads
-use Rattle.joining.proofs.put_marks.Reads as put-marks-reads
-use Rattle.rows.proofs.join_upto.Reads as join-upto-reads
 
 -- src/lib.rt:116:5
 join-upto-requires : tie.Need-join-upto-requires

@@ -1,20 +1,8 @@
 use borrow.Author.Needs.{needs}
 use Rattle.joining.specs.Joining.{later-found}
-use Rattle.joining.specs.Joining.{mem}
-use native.Mathlib.Omega.{arith}
-use Prim.Native.Nat.{ℕ, _≤_, _<_, _-_, _+_, _*_}
-use mathlib.Core.Path.{_≡_, refl, _∙_, ap, sym}
+use Prim.Native.Nat.{_-_}
 use Rattle.joining.proofs.settle_later.Statement.{statement}
 use Rattle.joining.proofs.settle_later.Tie as tie
-use Rattle.joining.proofs.settle_later.Reads as reads
-use Rattle.joining.proofs.settle_later.Lts as lts
-use Rattle.joining.proofs.join_side.Reads as join-side-reads
-use Rattle.joining.proofs.mark_of.Reads as mark-of-reads
-use Rattle.joining.proofs.note.Reads as note-reads
-use Rattle.joining.proofs.put_marks.Reads as put-marks-reads
-use Rattle.joining.proofs.separation.Reads as separation-reads
-use Rattle.joining.proofs.taller.Reads as taller-reads
-use Rattle.joining.proofs.wide32.Reads as wide32-reads
 
 -- src/lib.rt:156:9
 separation-requires : tie.Need-separation-requires

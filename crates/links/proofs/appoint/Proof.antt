@@ -1,17 +1,12 @@
 use borrow.Author.Needs.{needs}
 use Rattle.links.specs.Build.{placed-small}
 use native.Mathlib.Omega.{arith}
-use Prim.Native.Nat.{ℕ, _≤_, _<_, _-_, _+_, _*_}
-use mathlib.Core.Path.{_≡_, refl, _∙_, ap, sym}
-use lib.ListN.{length, getD, length-set}
-use Rattle.links.specs.Build.{placed, placed-more, placed-later, appointed-small}
+use Prim.Native.Nat.{_≤_, _-_}
+use mathlib.Core.Path.{_≡_, refl}
+use lib.ListN.{length, length-set}
+use Rattle.links.specs.Build.{placed, placed-more, appointed-small}
 use Rattle.links.proofs.appoint.Statement.{statement}
 use Rattle.links.proofs.appoint.Tie as tie
-use Rattle.links.proofs.appoint.Reads as reads
-use Rattle.links.proofs.appoint.Lts as lts
-use Rattle.links.proofs.appointed.Reads as appointed-reads
-use Rattle.links.proofs.kind.Reads as kind-reads
-use Rattle.links.proofs.link_of.Reads as link-of-reads
 
 abbrev Inv-loop : tie.InvT-loop
 Inv-loop kinds n links₀ c₀ links c = (c ≤ n) × (length links ≡ length links₀) × (links ≡ placed kinds links₀ c)

@@ -2,8 +2,6 @@ use borrow.Author.Needs.{needs}
 use Rattle.plan.specs.Plan.{appointed}
 use Rattle.links.proofs.appointed.Statement.{statement}
 use Rattle.links.proofs.appointed.Tie as tie
-use Rattle.links.proofs.appointed.Reads as reads
-use Rattle.links.proofs.appointed.Lts as lts
 
 -- src/lib.rt:79:6
 add-result : tie.Need-add-result

@@ -1,14 +1,11 @@
 use borrow.Author.Needs.{needs}
 use native.Mathlib.Omega.{arith}
-use Prim.Native.Nat.{ℕ, _≤_, _<_, _-_, _+_, _*_}
-use mathlib.Core.Path.{_≡_, refl, _∙_, ap, sym}
-use lib.ListN.{length, getD, length-set}
-use Rattle.links.specs.Build.{chained, counted, chain-more, count-more, count-fits}
+use Prim.Native.Nat.{_≤_, _<_, _-_}
+use mathlib.Core.Path.{_≡_, refl}
+use lib.ListN.{length, length-set}
+use Rattle.links.specs.Build.{chained, chain-more}
 use Rattle.links.proofs.chain_siblings.Statement.{statement}
 use Rattle.links.proofs.chain_siblings.Tie as tie
-use Rattle.links.proofs.chain_siblings.Reads as reads
-use Rattle.links.proofs.chain_siblings.Lts as lts
-use Rattle.links.proofs.parent.Reads as parent-reads
 
 abbrev Inv-loop : tie.InvT-loop
 Inv-loop parents n links₀ c₀ links c = (0 < c) × (c ≤ n) × (length links ≡ length links₀) × (links ≡ chained parents links₀ (n - c) c)

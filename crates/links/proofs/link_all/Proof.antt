@@ -3,11 +3,6 @@ use Rattle.links.specs.Built.{links-are}
 use Rattle.links.specs.Build.{chained-building, appointing, links-found}
 use Rattle.links.proofs.link_all.Statement.{statement}
 use Rattle.links.proofs.link_all.Tie as tie
-use Rattle.links.proofs.link_all.Reads as reads
-use Rattle.links.proofs.link_all.Lts as lts
-use Rattle.links.proofs.appoint.Reads as appoint-reads
-use Rattle.links.proofs.chain_siblings.Reads as chain-siblings-reads
-use Rattle.links.proofs.number_siblings.Reads as number-siblings-reads
 
 -- src/lib.rt:101:5
 chain-siblings-requires : tie.Need-chain-siblings-requires

@@ -1,15 +1,10 @@
 use borrow.Author.Needs.{needs}
 use mathlib.Core.Path.{_≡_}
-use Prim.Native.Nat.{_≤_, _<_}
 use lib.ListN.{length}
 use native.Mathlib.Omega.{arith}
 use Rattle.marks.specs.Marks.{Long, linking, walking, marked}
 use Rattle.marks.proofs.marks_of.Statement.{statement}
 use Rattle.marks.proofs.marks_of.Tie as tie
-use Rattle.marks.proofs.marks_of.Reads as reads
-use Rattle.marks.proofs.marks_of.Lts as lts
-use Rattle.links.proofs.link_all.Reads as link-all-reads
-use Rattle.walk.proofs.walk.Reads as walk-reads
 
 -- src/lib.rt:27:14
 slice-aggregate-link-all : tie.Need-slice-aggregate-link-all

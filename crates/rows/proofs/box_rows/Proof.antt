@@ -1,13 +1,11 @@
 use borrow.Author.Needs.{needs}
 use native.Mathlib.Omega.{arith}
-use Prim.Native.Nat.{ℕ, _≤_, _<_, _-_, _+_, _*_}
-use mathlib.Core.Path.{_≡_, refl, _∙_, ap, sym}
-use lib.ListN.{length, getD, length-set}
+use Prim.Native.Nat.{_≤_, _-_}
+use mathlib.Core.Path.{_≡_, refl}
+use lib.ListN.{length, length-set}
 use Rattle.rows.specs.Rows.{box-to, box-to-more}
 use Rattle.rows.proofs.box_rows.Statement.{statement}
 use Rattle.rows.proofs.box_rows.Tie as tie
-use Rattle.rows.proofs.box_rows.Reads as reads
-use Rattle.rows.proofs.box_rows.Lts as lts
 
 abbrev Inv-loop : tie.InvT-loop
 Inv-loop rows₀ k n w j₀ rows j = (j ≤ n) × (length rows ≡ length rows₀) × (rows ≡ box-to rows₀ k w j)

@@ -1,16 +1,10 @@
 use borrow.Author.Needs.{needs}
 use native.Mathlib.Omega.{arith}
-use Prim.Native.Nat.{ℕ, _≤_, _<_, _-_, _+_, _*_}
-use mathlib.Core.Path.{_≡_, refl, _∙_, ap, sym}
-use lib.ListN.{length, getD, length-set}
+use Prim.Native.Nat.{_≤_, _-_}
+use mathlib.Core.Path.{_≡_, refl}
 use Rattle.rows.specs.Rows.{clash-to, clash-to-more}
 use Rattle.rows.proofs.clash.Statement.{statement}
 use Rattle.rows.proofs.clash.Tie as tie
-use Rattle.rows.proofs.clash.Reads as reads
-use Rattle.rows.proofs.clash.Lts as lts
-use Rattle.rows.proofs.greater.Reads as greater-reads
-use Rattle.rows.proofs.needed.Reads as needed-reads
-use Rattle.rows.proofs.extent_at.Reads as extent-at-reads
 
 abbrev Inv-loop : tie.InvT-loop
 Inv-loop rows k x n g₀ j₀ g j = (j ≤ n) × (g ≡ clash-to rows k x j)

@@ -1,15 +1,10 @@
 use borrow.Author.Needs.{needs}
 use native.Mathlib.Omega.{arith}
-use Prim.Native.Nat.{ℕ, _≤_, _<_, _-_, _+_, _*_}
-use mathlib.Core.Path.{_≡_, refl, _∙_, ap, sym}
-use lib.ListN.{length, getD, length-set}
+use Prim.Native.Nat.{_≤_, _-_}
+use mathlib.Core.Path.{_≡_, refl}
 use Rattle.rows.specs.Rows.{max-to, max-to-more}
 use Rattle.rows.proofs.column_max.Statement.{statement}
 use Rattle.rows.proofs.column_max.Tie as tie
-use Rattle.rows.proofs.column_max.Reads as reads
-use Rattle.rows.proofs.column_max.Lts as lts
-use Rattle.rows.proofs.greater.Reads as greater-reads
-use Rattle.rows.proofs.extent_at.Reads as extent-at-reads
 
 abbrev Inv-loop : tie.InvT-loop
 Inv-loop rows k n g₀ j₀ g j = (j ≤ n) × (g ≡ max-to rows k j)

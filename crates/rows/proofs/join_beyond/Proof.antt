@@ -1,16 +1,12 @@
 use borrow.Author.Needs.{needs}
 use native.Mathlib.Omega.{arith}
-use Prim.Native.Nat.{ℕ, _≤_, _<_, _-_, _+_, _*_}
-use mathlib.Core.Path.{_≡_, refl, _∙_, ap, sym}
-use lib.ListN.{length, getD, length-set}
-use Rattle.rows.specs.Rows.{Low, extent, beyond-rows, put-to, put-to-more}
+use Prim.Native.Nat.{_≤_, _-_, _+_, _*_}
+use mathlib.Core.Path.{_≡_, refl}
+use lib.ListN.{length}
+use Rattle.rows.specs.Rows.{beyond-rows, put-to}
 use Rattle.rows.specs.RowLaws.{unread, beyond-more}
 use Rattle.rows.proofs.join_beyond.Statement.{statement}
 use Rattle.rows.proofs.join_beyond.Tie as tie
-use Rattle.rows.proofs.join_beyond.Reads as reads
-use Rattle.rows.proofs.join_beyond.Lts as lts
-use Rattle.rows.proofs.put_row.Reads as put-row-reads
-use Rattle.rows.proofs.extent_at.Reads as extent-at-reads
 
 abbrev Inv-loop : tie.InvT-loop
 Inv-loop rows₀ at x n j₀ rows j = (j ≤ n) × (length rows ≡ length rows₀) × (rows ≡ beyond-rows rows₀ at x j)

@@ -1,17 +1,12 @@
 use borrow.Author.Needs.{needs}
 use native.Mathlib.Omega.{arith}
-use Prim.Native.Nat.{ℕ, _≤_, _<_, _-_, _+_, _*_}
-use mathlib.Core.Path.{_≡_, refl, _∙_, ap, sym}
-use lib.ListN.{length, getD, length-set}
-use Rattle.rows.specs.Rows.{Low, extent, upto-rows, upto-left, put-to, put-to-more}
+use Prim.Native.Nat.{_≤_, _-_, _*_}
+use mathlib.Core.Path.{_≡_, refl, _∙_, ap}
+use lib.ListN.{length}
+use Rattle.rows.specs.Rows.{extent, upto-rows, put-to}
 use Rattle.rows.specs.RowLaws.{put-to-above, upto-more}
 use Rattle.rows.proofs.join_upto.Statement.{statement}
 use Rattle.rows.proofs.join_upto.Tie as tie
-use Rattle.rows.proofs.join_upto.Reads as reads
-use Rattle.rows.proofs.join_upto.Lts as lts
-use Rattle.rows.proofs.put_row.Reads as put-row-reads
-use Rattle.rows.proofs.extent_at.Reads as extent-at-reads
-use Rattle.rows.proofs.shifted.Reads as shifted-reads
 
 abbrev Inv-loop : tie.InvT-loop
 Inv-loop rows₀ at h g n j₀ rows j = (j ≤ n) × (length rows ≡ length rows₀) × (rows ≡ upto-rows rows₀ at h g j)

@@ -1,19 +1,10 @@
 use borrow.Author.Needs.{needs}
-use native.Mathlib.Omega.{arith}
-use Prim.Native.Nat.{ℕ, _≤_, _<_, _-_, _+_, _*_}
-use mathlib.Core.Path.{_≡_, refl, _∙_, ap, sym}
-use lib.ListN.{length, getD, length-set}
-use Rattle.joining.specs.Joining.{mem}
+use Prim.Native.Nat.{_-_, _*_}
+use mathlib.Core.Path.{refl, _∙_}
 use Rattle.walk.specs.Machine.{chart, child-ready, close-found}
 use Rattle.walk.proofs.Parts.{tail-seen, tail-put}
 use Rattle.walk.proofs.close.Statement.{statement}
 use Rattle.walk.proofs.close.Tie as tie
-use Rattle.walk.proofs.close.Reads as reads
-use Rattle.walk.proofs.close.Lts as lts
-use Rattle.walk.proofs.finish_child.Reads as finish-child-reads
-use Rattle.walk.proofs.link_of.Reads as link-of-reads
-use Rattle.walk.proofs.number.Reads as number-reads
-use Rattle.walk.proofs.width_of.Reads as width-of-reads
 
 -- src/lib.rt:75:9
 number-requires : tie.Need-number-requires

@@ -1,16 +1,9 @@
 use borrow.Author.Needs.{needs}
-use native.Mathlib.Omega.{arith}
-use Prim.Native.Nat.{ℕ, _≤_, _<_, _-_, _+_, _*_}
-use mathlib.Core.Path.{_≡_, refl, _∙_, ap, sym}
-use lib.ListN.{length, getD, length-set}
+use Prim.Native.Nat.{_-_}
 use Rattle.joining.specs.Joining.{mem}
 use Rattle.walk.specs.Machine.{settle-ready, finish-found}
 use Rattle.walk.proofs.finish_child.Statement.{statement}
 use Rattle.walk.proofs.finish_child.Tie as tie
-use Rattle.walk.proofs.finish_child.Reads as reads
-use Rattle.walk.proofs.finish_child.Lts as lts
-use Rattle.joining.proofs.complete.Reads as complete-reads
-use Rattle.joining.proofs.settle.Reads as settle-reads
 
 -- src/lib.rt:57:36
 add-complete : tie.Need-add-complete

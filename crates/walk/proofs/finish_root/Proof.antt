@@ -1,16 +1,9 @@
 use borrow.Author.Needs.{needs}
-use native.Mathlib.Omega.{arith}
-use Prim.Native.Nat.{ℕ, _≤_, _<_, _-_, _+_, _*_}
-use mathlib.Core.Path.{_≡_, refl, _∙_, ap, sym}
-use lib.ListN.{length, getD, length-set}
+use Prim.Native.Nat.{_-_}
 use Rattle.joining.specs.Joining.{mem}
 use Rattle.walk.specs.Machine.{root-found}
 use Rattle.walk.proofs.finish_root.Statement.{statement}
 use Rattle.walk.proofs.finish_root.Tie as tie
-use Rattle.walk.proofs.finish_root.Reads as reads
-use Rattle.walk.proofs.finish_root.Lts as lts
-use Rattle.joining.proofs.complete.Reads as complete-reads
-use Rattle.rows.proofs.box_rows.Reads as box-rows-reads
 
 -- src/lib.rt:66:9
 complete-requires : tie.Need-complete-requires

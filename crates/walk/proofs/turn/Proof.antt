@@ -1,22 +1,10 @@
 use borrow.Author.Needs.{needs}
 use native.Mathlib.Omega.{arith}
-use Prim.Native.Nat.{ℕ, _≤_, _<_, _-_, _+_, _*_}
-use mathlib.Core.Path.{_≡_, refl, _∙_, ap, sym}
-use lib.ListN.{length, getD, length-set}
-use Rattle.joining.specs.Joining.{mem}
+use Prim.Native.Nat.{_<_, _-_}
+use mathlib.Core.Path.{_≡_, refl}
 use Rattle.walk.specs.Machine.{chart, turn-open, turn-close, turn-end, shut-two, shut-one, turn-some, stack-of-length}
 use Rattle.walk.proofs.turn.Statement.{statement}
 use Rattle.walk.proofs.turn.Tie as tie
-use Rattle.walk.proofs.turn.Reads as reads
-use Rattle.walk.proofs.turn.Lts as lts
-use Rattle.walk.proofs.Chain.cell.Reads as cell-reads
-use Rattle.walk.proofs.Chain.popped.Reads as popped-reads
-use Rattle.walk.proofs.Chain.pushed.Reads as pushed-reads
-use Rattle.walk.proofs.close.Reads as close-reads
-use Rattle.walk.proofs.finish_root.Reads as finish-root-reads
-use Rattle.walk.proofs.link_of.Reads as link-of-reads
-use Rattle.walk.proofs.number.Reads as number-reads
-use Rattle.walk.proofs.width_of.Reads as width-of-reads
 
 -- src/lib.rt:129:33
 cast-pushed : tie.Need-cast-pushed

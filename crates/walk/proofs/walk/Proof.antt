@@ -1,23 +1,17 @@
-use borrow.Author.Needs.{needs}
 use native.Mathlib.Omega.{arith}
-use Prim.Native.Nat.{ℕ, _≤_, _<_, _-_, _+_, _*_}
-use mathlib.Core.Path.{_≡_, refl, _∙_, ap, sym}
-use lib.ListN.{length, getD, length-set}
-use Rattle.joining.specs.Joining.{mem}
-use Rattle.walk.specs.Machine.{chart, state-of, turns, stack-of-length}
+use Prim.Native.Nat.{_<_, _-_}
+use mathlib.Core.Path.{_≡_, refl, _∙_}
+use lib.ListN.{length}
+use Rattle.walk.specs.Machine.{chart, state-of, most-turns, turns, stack-of-length}
 use Rattle.walk.specs.Walked.{Keeps, keeps-start, keeps-turning, keeps-turn, keeps-less, keeps-end}
 use Rattle.walk.proofs.walk.Statement.{statement}
 use Rattle.walk.proofs.walk.Tie as tie
-use Rattle.walk.proofs.walk.Reads as reads
-use Rattle.walk.proofs.walk.Lts as lts
-use Rattle.walk.proofs.link_of.Reads as link-of-reads
-use Rattle.walk.proofs.turn.Reads as turn-reads
 
 abbrev Inv-loop : tie.InvT-loop
 Inv-loop links widths depths tops allowance rows₀ marks₀ chain₀ next₀ rows marks chain next = Keeps (chart links widths depths tops allowance) rows₀ (state-of (chain .cells) (chain .count) next rows marks) × (length rows ≡ length rows₀) × (length marks ≡ length marks₀)
 
 abbrev μ-loop : tie.MeasureT-loop
-μ-loop links widths depths tops allowance rows₀ marks₀ chain₀ next₀ rows marks chain next = turns (chart links widths depths tops allowance) 512 (state-of (chain .cells) (chain .count) next rows marks)
+μ-loop links widths depths tops allowance rows₀ marks₀ chain₀ next₀ rows marks chain next = turns (chart links widths depths tops allowance) most-turns (state-of (chain .cells) (chain .count) next rows marks)
 
 -- src/lib.rt:160:9
 link-of-requires : tie.Need-link-of-requires Inv-loop μ-loop

@@ -1,14 +1,8 @@
 use borrow.Author.Needs.{needs}
-use native.Mathlib.Omega.{arith}
-use Prim.Native.Nat.{ℕ, _≤_, _<_, _-_, _+_, _*_}
-use mathlib.Core.Path.{_≡_, refl, _∙_, ap, sym}
-use lib.ListN.{length, getD, length-set}
-use Rattle.joining.specs.Joining.{mem}
-use Rattle.walk.specs.Machine.{stack-of, stack-of-push}
+use Prim.Native.Nat.{_-_}
+use Rattle.walk.specs.Machine.{stack-of-push}
 use Rattle.walk.proofs.Chain.pushed.Statement.{statement}
 use Rattle.walk.proofs.Chain.pushed.Tie as tie
-use Rattle.walk.proofs.Chain.pushed.Reads as reads
-use Rattle.walk.proofs.Chain.pushed.Lts as lts
 
 -- src/lib.rt:95:9
 mul-self : tie.Need-mul-self
