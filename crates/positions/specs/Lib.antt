@@ -3,4 +3,3 @@ pub mod WrittenLaws
 pub mod Raised
 pub mod RaisedLaws
 pub mod Measured
-pub mod Agree

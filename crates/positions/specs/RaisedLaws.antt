@@ -20,7 +20,7 @@ use Rattle.rules.specs.Placement.{Inside}
 use Rattle.layout.specs.Contour.{offset}
 use Rattle.layout.specs.Sheet.{middle, contours, column, sheet}
 use Rattle.layout.specs.SheetLaws.{column-zero, column-child}
-use Rattle.least.specs.Theorems.{fit-inside}
+use Rattle.least.specs.Columns.{sheet-inside}
 use Rattle.marks.specs.Marks.{Marked}
 use Rattle.positions.specs.Raised.{Raised}
 
@@ -73,7 +73,7 @@ module _ (t : Table) (fit : Fit t) (al : ℕ) where
         let p : pos (getD xs f 0) ≡ sheet t al .x (parent t c) +ℤ pos farthest = so .each f (omega arith) ∙ ap (λ (z : ℕ). sheet t al .x z +ℤ pos farthest) of in
         let o = m .offset-of (parent t c) i c a in
         let k : getD ms (4 * f + 0) 0 ≡ middle t al (parent t c) (contours t al (parent t c)) = rw of (m .middle-of (parent t c) (omega arith)) in
-        let (enough, low, right, near) = moved _ _ _ _ _ p (child-x (parent t c) i c a) (fit-inside t fit al c is .0) (so .high f (omega arith)) (rw o at (m .near (4 * c + 3))) in
+        let (enough, low, right, near) = moved _ _ _ _ _ p (child-x (parent t c) i c a) (sheet-inside t fit al c is .0) (so .high f (omega arith)) (rw o at (m .near (4 * c + 3))) in
         record { enough = rw (o, k) enough; low = rw o low; right = rw (o, k) right; near = rw (o, k) near }
 
     pub raised-more : c < length xs → Raised (set xs c (child-at ms xs c f)) (c + 1) (sheet t al .x)

@@ -1,8 +1,8 @@
 -- The lent positions after a placement is written into them. Assumes nothing.
 use mathlib.Core.List.{List, [], _∷_, _++_}
-use Prim.Native.Nat.{ℕ, zero, suc, _+_, _*_}
-use lib.ListN.{getD, drop}
-use lib.IntN.{ℤ, pos}
+use Prim.Native.Nat.{ℕ, zero, suc, _*_}
+use lib.ListN.{drop}
+use lib.IntN.{ℤ}
 use Rattle.rules.specs.Placement.{Placement}
 
 -- x then y of d cells, from cell k on
@@ -13,7 +13,3 @@ corners p k (suc d) = p .x k ∷ p .y k ∷ corners p (suc k) d
 -- x then y of the cells 0 to n−1, nothing beyond
 unfoldable pub written : List ℤ → Placement → ℕ → List ℤ
 written ps p n = corners p 0 n ++ drop (2 * n) ps
-
--- the placement that positions give
-abbrev pub placement-of : List ℤ → Placement
-placement-of ps = record { x = λ c. getD ps (2 * c) (pos 0); y = λ c. getD ps (2 * c + 1) (pos 0) }

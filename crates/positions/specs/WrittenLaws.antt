@@ -8,9 +8,8 @@ use lib.Seq.{drop-cons, set-at, append-snoc}
 use lib.IntN.{ℤ, pos, _+ℤ_, _-ℤ_}
 use Rattle.whole.specs.Whole.{whole, sum, diff}
 use Rattle.plan.specs.Plan.{Table, Is}
-use Rattle.rules.specs.Placement.{Placement}
-use Rattle.positions.specs.Written.{corners, written, placement-of}
-use Rattle.positions.specs.Agree.{Agree}
+use Rattle.rules.specs.Placement.{Placement, placed, Agree}
+use Rattle.positions.specs.Written.{corners, written}
 
 module _ (p : Placement) where
   corners-length : (k d : ℕ) → length (corners p k d) ≡ 2 * d
@@ -76,14 +75,11 @@ module _ (p : Placement) where
       rw (e, f) (corner-y rest (suc k) d c (omega arith))
 
   -- the placement written, cell by cell
-  pub written-agree : (t : Table) (ps : List ℤ) → Agree t (placement-of (written ps p (length t))) p
-  unfolding written
+  pub written-agree : (t : Table) (ps : List ℤ) → Agree t (placed (written ps p (length t))) p
+  unfolding written placed
   written-agree t ps =
       let first : (c : ℕ) → 0 + c ≡ c = λ c. omega arith in
-      record {
-        x = λ c i. corner-x _ 0 (length t) c i ∙ ap (p .x) (first c);
-        y = λ c i. corner-y _ 0 (length t) c i ∙ ap (p .y) (first c);
-      }
+      λ c i. (corner-x _ 0 (length t) c i ∙ ap (p .x) (first c), corner-y _ 0 (length t) c i ∙ ap (p .y) (first c))
 
 -- ---- a whole number from the natural ones that hold it
 pub less-none : (a : ℕ) → pos a -ℤ pos 0 ≡ pos a

@@ -20,6 +20,12 @@ fn wide8(x: u8) -> usize
     x as usize
 }
 
+fn wide16(x: u16) -> usize
+    ensures { λ r. ⌜ r ≡ x ⌝ }
+{
+    x as usize
+}
+
 fn wide16to32(x: u16) -> u32
     ensures { λ r. ⌜ r ≡ x ⌝ }
 {

@@ -17,33 +17,33 @@ use Rattle.positions.proofs.write_positions.Reads as write-positions-reads
 rows-requires : tie.Need-rows-requires
 rows-requires c κs = 
     let st = c .before .before .before .before .before .before in
-    (fit-lower (st .args .t) (st .pre .lent .fit), fit-flat (st .args .t) (st .pre .lent .fit))
+    (fit-lower (st .args .t) (st .pre .fit), fit-flat (st .args .t) (st .pre .fit))
 
 -- src/lib.rt:83:14
 place-requires : tie.Need-place-requires
 place-requires c κs = 
     let st = c .before .before .before .before .before .before .before .before .before in
-    record { fit = st .pre .lent .fit; rows = c .before .before .rows .ensures _ _; scratch = st .pre .scratch }
+    record { fit = st .pre .fit; rows = c .before .before .rows .ensures _ _; scratch = st .pre .scratch }
 
 -- src/lib.rt:84:5
 write-positions-requires : tie.Need-write-positions-requires
 write-positions-requires c κs = 
     let st = c .before .before .before .before .before .before .before .before .before .before .before .before .before .before .before in
-    let f = st .pre .lent .fit in
-    (high (st .args .t) f _ _ (c .before .before .before .before .before .place .ensures .0), omega (arith, st .pre .lent .room, size (st .args .t) f))
+    let f = st .pre .fit in
+    (high (st .args .t) f _ _ (c .before .before .before .before .before .place .ensures .0), omega (arith, st .pre .room, size (st .args .t) f))
 
 -- src/lib.rt:85:17
 sheet-width-requires : tie.Need-sheet-width-requires
 sheet-width-requires c κs = 
     let st = c .before .before .before .before .before .before .before .before .before .before .before .before .before .before .before .before .before .before .before in
-    let f = st .pre .lent .fit in
+    let f = st .pre .fit in
     (high (st .args .t) f _ _ (c .before .before .before .before .before .before .before .before .before .place .ensures .0), fit-lower (st .args .t) f .some)
 
 -- src/lib.rt:85:47
 sheet-rows-requires : tie.Need-sheet-rows-requires
 sheet-rows-requires c κs = 
     let st = c .before .before .before .before .before .before .before .before .before .before .before .before .before .before .before .before .before .before .before .before .before .before in
-    let l = fit-lower (st .args .t) (st .pre .lent .fit) in
+    let l = fit-lower (st .args .t) (st .pre .fit) in
     (l .some, l .few)
 
 -- src/lib.rt:74:1
@@ -59,7 +59,7 @@ returns : tie.Need-returns
 returns c = 
     let st = c .before .before .before .before .before .before .before .before .before .before .before .before .before .before .before .before .before .before .before .before .before .before .before in
     let t = st .args .t in
-    let f = st .pre .lent .fit in
+    let f = st .pre .fit in
     let tops = c .before .before .before .before .before .before .before .before .before .before .before .before .before .before .before .before .rows .ensures (t .kind) (t .width) in
     let p = c .before .before .before .before .before .before .before .before .before .before .before .before .before .place .ensures in
     drawn t f _ tops (st .args .allowance) _ (p .0) _ (p .1) (st .args .positions .now) _ (c .before .before .before .before .before .before .before .write-positions .ensures) _ _

@@ -1,10 +1,10 @@
 use mathlib.Core.Path.{_≡_, sym}
-use Prim.Native.Nat.{_≤_}
 use lib.ListN.{length, take}
 use lib.Seq.{length-take-le}
 use Rattle.plan.specs.Limits.{scratch-size}
 use Rattle.plan.specs.Columns.{table-of}
-use Rattle.drawing.specs.LaidLaws.{refused, long, lent, laid}
+use Rattle.least.specs.Asked.{LayoutAsked}
+use Rattle.drawing.specs.LaidLaws.{refused, asks, laid}
 use borrow.Author.Needs.{needs}
 use Rattle.drawing.proofs.layout.Statement.{statement}
 use Rattle.drawing.proofs.layout.Tie as tie
@@ -24,17 +24,17 @@ returns c =
     refused (table-of (st .args .t)) (st .args .allowance) (st .args .scratch .now) (st .args .positions .now) _ (c .before .before .layout-refusal .ensures) (c .if1 .taken)
 
 -- nothing is refused: the scratch is long enough, and its first 16,384 numbers are lent on
-enough : (c : tie.Else1) → scratch-size ≤ length (c .before .before .before .before .args .scratch .now)
-enough c =
+asked : (c : tie.Else1) → LayoutAsked (table-of (c .before .before .before .before .args .t)) (c .before .before .before .before .args .allowance) (length (c .before .before .before .before .args .scratch .now)) (length (c .before .before .before .before .args .positions .now))
+asked c =
     let st = c .before .before .before .before in
-    long (table-of (st .args .t)) (st .args .allowance) (st .args .scratch .now) (st .args .positions .now) _ (c .before .before .layout-refusal .ensures) (c .if1 .left)
+    asks (table-of (st .args .t)) (st .args .allowance) (st .args .scratch .now) (st .args .positions .now) _ (c .before .before .layout-refusal .ensures) (c .if1 .left)
 
 lends : (c : tie.Else1) → length (take scratch-size (c .before .before .before .before .args .scratch .now)) ≡ scratch-size
-lends c = length-take-le scratch-size (c .before .before .before .before .args .scratch .now) (enough c)
+lends c = length-take-le scratch-size (c .before .before .before .before .args .scratch .now) (asked c .scratch)
 
 -- src/lib.rt:96:24
 slice-relend-prefix-draw : tie.Need-slice-relend-prefix-draw
-slice-relend-prefix-draw c = enough c
+slice-relend-prefix-draw c = asked c .scratch
 
 -- src/lib.rt:96:24
 slice-aggregate-draw : tie.Need-slice-aggregate-draw
@@ -43,11 +43,8 @@ slice-aggregate-draw c = sym (lends (c .before))
 -- src/lib.rt:96:5
 draw-requires : tie.Need-draw-requires
 draw-requires c κs =
-    let st = c .before .before .before .before .before .before in
-    record {
-      lent = lent (table-of (st .args .t)) (st .args .allowance) (st .args .scratch .now) (st .args .positions .now) _ (c .before .before .before .before .layout-refusal .ensures) (c .before .before .if1 .left);
-      scratch = lends (c .before .before);
-    }
+    let a = asked (c .before .before) in
+    record { fit = a .table .fit; room = a .positions; scratch = lends (c .before .before) }
 
 -- src/lib.rt:89:1
 same-length : tie.Need-same-length
