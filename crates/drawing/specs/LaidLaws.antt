@@ -1,10 +1,10 @@
 -- From the questions to the answer: for the code of Layout. Nothing that a reader must believe stands here. Assumes nothing.
 use mathlib.Core.Path.{_≡_, refl, sym, ap, _∙_}
 use mathlib.Core.List.{List, _++_}
-use Prim.Native.Nat.{ℕ, _+_, _*_, _≤_, _<_}
+use Prim.Native.Nat.{ℕ, _+_, _*_, _≤_}
 use native.Mathlib.Omega.{arith}
 use native.Mathlib.Decide.{ℕ-discrete}
-use lib.ListN.{length, getD, take, drop, replicate, length-replicate}
+use lib.ListN.{length, drop, replicate, length-replicate}
 use lib.IntN.{ℤ, pos}
 use mathlib.Core.Bool.{Bool, true, false}
 use lib.Dec.{T, leb}
@@ -67,9 +67,11 @@ module _ (t : Columns) (fit : Fit (table-of t)) where
   }
 
   pub fit-flat : Flat (t .depth) (t .count)
-  fit-flat = record { flat = λ c l.
-      let i : Is (table-of t) c = omega (arith, size) in
-      omega (arith, fit .deep c i .1, depth-at (t .parent) (t .kind) (t .width) (t .depth) (t .count) c l) }
+  fit-flat = record {
+    flat = λ c l.
+        let i : Is (table-of t) c = omega (arith, size) in
+        omega (arith, fit .deep c i .1, depth-at (t .parent) (t .kind) (t .width) (t .depth) (t .count) c l);
+  }
 
   pub high : (xs : List ℕ) (x : ℕ → ℤ) → Raised xs (t .count) x → High xs (t .count)
   high xs x r = record { few = fit-lower .few; high = r .high }

@@ -3,9 +3,8 @@ use mathlib.Core.Path.{_≡_, sym, _∙_}
 use mathlib.Core.List.{List}
 use Prim.Native.Nat.{ℕ}
 use lib.ListN.{length}
-use lib.IntN.{ℤ, pos, _-ℤ_}
-use lib.Signed.{_≤ℤ_}
-use Rattle.plan.specs.Plan.{Table, Is}
+use lib.IntN.{ℤ, pos}
+use Rattle.plan.specs.Plan.{Table}
 use Rattle.plan.specs.Fit.{Fit}
 use Rattle.plan.specs.Siblings.{next-is}
 use Rattle.plan.specs.Questions.{check, none, refusal, check-given}
@@ -18,7 +17,6 @@ use Rattle.layout.specs.Sheet.{sheet}
 use Rattle.least.specs.Theorems.{NoLess, sheet-least, sheet-accepted}
 use Rattle.positions.specs.Written.{written}
 use Rattle.positions.specs.WrittenLaws.{written-agree, written-length}
-use Rattle.drawing.specs.declared.Laid.{Laid}
 use Rattle.drawing.specs.declared.Laid.the-variants.{Sheet}
 use Rattle.drawing.specs.Laid.{positions-after, Lays}
 use Rattle.drawing.specs.LaidLaws.{unrefused, sheet-asks, sheet-wide, sheet-deep}

@@ -1,7 +1,7 @@
 -- The x of a cell, moved up, from its parent's. Assumes nothing.
 use mathlib.Core.Path.{_≡_, refl, sym, ap, _∙_}
 use mathlib.Core.List.{List}
-use Prim.Native.Nat.{ℕ, zero, suc, _+_, _-_, _*_, _≤_, _<_}
+use Prim.Native.Nat.{ℕ, _+_, _-_, _*_, _≤_, _<_}
 use native.Mathlib.Omega.{arith}
 use native.Mathlib.Decide.{ℕ-discrete}
 use lib.ListN.{length, getD, set}
@@ -18,9 +18,10 @@ use Rattle.plan.specs.declared.Columns.{Columns}
 use Rattle.plan.specs.Fit.{Fit}
 use Rattle.rules.specs.Placement.{Inside}
 use Rattle.layout.specs.Contour.{offset}
-use Rattle.layout.specs.Sheet.{middle, contours, column, sheet}
+use Rattle.layout.specs.Sheet.{middle, contours, sheet}
 use Rattle.layout.specs.SheetLaws.{column-zero, column-child}
 use Rattle.least.specs.Columns.{sheet-inside}
+use Rattle.joining.specs.Joining.{mark}
 use Rattle.marks.specs.Marks.{Marked}
 use Rattle.positions.specs.Raised.{Raised}
 
@@ -32,7 +33,7 @@ pub record Raising (t : Table) (ms : List ℕ) : Type 0 where
 
 -- the x of c, moved up, from that of its parent f
 abbrev pub child-at : (ms xs : List ℕ) (c f : ℕ) → ℕ
-child-at ms xs c f = getD xs f 0 + getD ms (4 * c + 3) 0 - getD ms (4 * f + 0) 0
+child-at ms xs c f = getD xs f 0 + mark ms c 3 - mark ms f 0
 
 -- a parent at X, less 65,535, and its child o − m to the right
 moved : (X o m : ℕ) (xf xc : ℤ) → pos X ≡ xf +ℤ pos farthest → xc ≡ (pos o -ℤ pos m) +ℤ xf → Inside xc → X ≤ 2 * farthest → o ≤ farthest
@@ -61,8 +62,8 @@ module _ (t : Table) (fit : Fit t) (al : ℕ) where
 
   module _ (ms : List ℕ) (m : Marked t al ms) (xs : List ℕ) (c f : ℕ) (some : 1 ≤ c) (is : Is t c) (of : f ≡ parent t c) (so : Raised xs c (sheet t al .x)) where
     pub record Next : Type 0 where
-      pub enough : getD ms (4 * f + 0) 0 ≤ getD xs f 0 + getD ms (4 * c + 3) 0
-      pub low : getD xs f 0 + getD ms (4 * c + 3) 0 ≤ 3 * farthest
+      pub enough : mark ms f 0 ≤ getD xs f 0 + mark ms c 3
+      pub low : getD xs f 0 + mark ms c 3 ≤ 3 * farthest
       pub right : pos (child-at ms xs c f) ≡ sheet t al .x c +ℤ pos farthest
       pub near : child-at ms xs c f ≤ 2 * farthest
 
@@ -72,7 +73,7 @@ module _ (t : Table) (fit : Fit t) (al : ℕ) where
         let below : parent t c < c = fit .sound c some is in
         let p : pos (getD xs f 0) ≡ sheet t al .x (parent t c) +ℤ pos farthest = so .each f (omega arith) ∙ ap (λ (z : ℕ). sheet t al .x z +ℤ pos farthest) of in
         let o = m .offset-of (parent t c) i c a in
-        let k : getD ms (4 * f + 0) 0 ≡ middle t al (parent t c) (contours t al (parent t c)) = rw of (m .middle-of (parent t c) (omega arith)) in
+        let k : mark ms f 0 ≡ middle t al (parent t c) (contours t al (parent t c)) = rw of (m .middle-of (parent t c) (omega arith)) in
         let (enough, low, right, near) = moved _ _ _ _ _ p (child-x (parent t c) i c a) (sheet-inside t fit al c is .0) (so .high f (omega arith)) (rw o at (m .near (4 * c + 3))) in
         record { enough = rw (o, k) enough; low = rw o low; right = rw (o, k) right; near = rw (o, k) near }
 
@@ -102,8 +103,8 @@ module _ (t : Columns) (ms : List ℕ) (r : Raising (table-of t) ms) where
   pub record Turn (xs : List ℕ) (c f : ℕ) : Type 0 where
     pub room : c < 256
     pub lower : f < c
-    pub low : getD xs f 0 + getD ms (4 * c + 3) 0 ≤ 3 * farthest
-    pub enough : getD ms (4 * f + 0) 0 ≤ getD xs f 0 + getD ms (4 * c + 3) 0
+    pub low : getD xs f 0 + mark ms c 3 ≤ 3 * farthest
+    pub enough : mark ms f 0 ≤ getD xs f 0 + mark ms c 3
     pub again : (al : ℕ) → Marked (table-of t) al ms → Raised (set xs c (child-at ms xs c f)) (c + 1) (sheet (table-of t) al .x)
 
   pub turn : (xs : List ℕ) (c f : ℕ) → length xs ≡ 256 → 1 ≤ c → c < t .count → f ≡ getD (t .parent) c 0

@@ -1,5 +1,5 @@
 -- Positions written cell by cell. Assumes nothing.
-use mathlib.Core.Path.{_≡_, refl, sym, ap, _∙_}
+use mathlib.Core.Path.{_≡_, refl, ap, _∙_}
 use mathlib.Core.List.{List, [], _∷_, _++_, append-assoc}
 use Prim.Native.Nat.{ℕ, zero, suc, _+_, _*_, _≤_, _<_}
 use native.Mathlib.Omega.{arith}
@@ -7,7 +7,7 @@ use lib.ListN.{length, getD, drop, set, length-append, length-drop}
 use lib.Seq.{drop-cons, set-at, append-snoc}
 use lib.IntN.{ℤ, pos, _+ℤ_, _-ℤ_}
 use Rattle.whole.specs.Whole.{whole, sum, diff}
-use Rattle.plan.specs.Plan.{Table, Is}
+use Rattle.plan.specs.Plan.{Table}
 use Rattle.rules.specs.Placement.{Placement, placed, Agree}
 use Rattle.positions.specs.Written.{corners, written}
 
@@ -41,10 +41,10 @@ module _ (p : Placement) where
       let b : drop (suc (2 * n)) ps ≡ getD ps (suc (2 * n)) (pos 0) ∷ drop (suc (suc (2 * n))) ps = drop-cons ps (suc (2 * n)) (pos 0) (omega arith) in
       let rest = drop (suc (suc (2 * n))) ps in
       let first : set (cs ++ getD ps (2 * n) (pos 0) ∷ getD ps (suc (2 * n)) (pos 0) ∷ rest) (2 * n) (p .x n) ≡ cs ++ p .x n ∷ getD ps (suc (2 * n)) (pos 0) ∷ rest
-          = set-at cs _ _ _ (2 * n) l in
+      = set-at cs _ _ _ (2 * n) l in
       let m : length (cs ++ (p .x n ∷ [])) ≡ 2 * n + 1 = simp length-append (omega arith) in
       let second : set ((cs ++ (p .x n ∷ [])) ++ getD ps (suc (2 * n)) (pos 0) ∷ rest) (2 * n + 1) (p .y n) ≡ (cs ++ (p .x n ∷ [])) ++ p .y n ∷ rest
-          = set-at (cs ++ (p .x n ∷ [])) _ _ _ (2 * n + 1) m in
+      = set-at (cs ++ (p .x n ∷ [])) _ _ _ (2 * n + 1) m in
       let e : n + 1 ≡ suc n = omega arith in
       let f : 2 * suc n ≡ suc (suc (2 * n)) = omega arith in
       let g : 0 + n ≡ n = omega arith in

@@ -1,11 +1,13 @@
 // Where the cells of a plan stand: their x's from the marks of the walk, written out, and the width and the rows measured from them.
 // An x lies from −65,535 to 65,535, and is held here moved up by 65,535.
+use joining::mark_of;
 use plan::Columns;
 use plan::limits::FARTHEST;
+use rows::greater;
 use whole::difference;
 ghost use mathlib.Core.Path.{_≡_};
 ghost use mathlib.Core.List.{List};
-ghost use Prim.Native.Nat.{ℕ, _+_, _-_, _*_, _≤_, _<_, min, max};
+ghost use Prim.Native.Nat.{ℕ, _+_, _-_, _*_, _≤_, _<_, min};
 ghost use lib.ListN.{length, getD, set};
 ghost use lib.IntN.{pos, _-ℤ_};
 ghost use Rattle.plan.specs.Limits.{farthest};
@@ -37,24 +39,10 @@ fn wide8(x: u8) -> u32
     x as u32
 }
 
-fn greater(a: u32, b: u32) -> u32
-    ensures { λ r. ⌜ r ≡ max a b ⌝ }
-{
-    if a < b { b } else { a }
-}
-
 fn lesser(a: u32, b: u32) -> u32
     ensures { λ r. ⌜ r ≡ min a b ⌝ }
 {
     if a < b { a } else { b }
-}
-
-// Mark k of the cell c.
-fn mark(marks: &[u32; 1024], c: usize, k: usize) -> u32
-    requires { ⌜ (c < 256) × (k < 4) ⌝ }
-    ensures { λ r. ⌜ r ≡ getD (now (marks .entry)) (4 * c + k) 0 ⌝ }
-{
-    marks[4 * c + k]
 }
 
 // The parent of a cell.
@@ -74,8 +62,8 @@ pub fn raised(t: Columns, marks: &[u32; 1024]) -> [u32; 256]
     let mut c: usize = 1;
     while c < t.count {
         let f = parent_of(&t.parent, c);
-        let right = xs[f] + mark(marks, c, 3);
-        xs[c] = right - mark(marks, f, 0);
+        let right = xs[f] + mark_of(marks, c, 3);
+        xs[c] = right - mark_of(marks, f, 0);
         c += 1;
     }
     xs

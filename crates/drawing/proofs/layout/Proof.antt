@@ -8,18 +8,12 @@ use Rattle.drawing.specs.LaidLaws.{refused, asks, laid}
 use borrow.Author.Needs.{needs}
 use Rattle.drawing.proofs.layout.Statement.{statement}
 use Rattle.drawing.proofs.layout.Tie as tie
-use Rattle.drawing.proofs.layout.Reads as reads
-use Rattle.drawing.proofs.layout.Lts as lts
-use Rattle.drawing.proofs.draw.Reads as draw-reads
-use Rattle.drawing.proofs.layout_refusal.Reads as layout-refusal-reads
 
--- src/lib.rt:92:9
 layout-refusal-requires : tie.Need-layout-refusal-requires
 layout-refusal-requires c κs = search needs
 
--- src/lib.rt:94:9
 returns : tie.Need-returns
-returns c = 
+returns c =
     let st = c .before .before .before .before in
     refused (table-of (st .args .t)) (st .args .allowance) (st .args .scratch .now) (st .args .positions .now) _ (c .before .before .layout-refusal .ensures) (c .if1 .taken)
 
@@ -32,31 +26,25 @@ asked c =
 lends : (c : tie.Else1) → length (take scratch-size (c .before .before .before .before .args .scratch .now)) ≡ scratch-size
 lends c = length-take-le scratch-size (c .before .before .before .before .args .scratch .now) (asked c .scratch)
 
--- src/lib.rt:96:24
 slice-relend-prefix-draw : tie.Need-slice-relend-prefix-draw
 slice-relend-prefix-draw c = asked c .scratch
 
--- src/lib.rt:96:24
 slice-aggregate-draw : tie.Need-slice-aggregate-draw
 slice-aggregate-draw c = sym (lends (c .before))
 
--- src/lib.rt:96:5
 draw-requires : tie.Need-draw-requires
 draw-requires c κs =
     let a = asked (c .before .before) in
     record { fit = a .table .fit; room = a .positions; scratch = lends (c .before .before) }
 
--- src/lib.rt:89:1
 same-length : tie.Need-same-length
 same-length c = search needs
 
--- src/lib.rt:89:1
 same-length-2 : tie.Need-same-length-2
 same-length-2 c = search needs
 
--- src/lib.rt:89:1
 returns-2 : tie.Need-returns-2
-returns-2 c = 
+returns-2 c =
     let st = c .before .before .before .before .before .before .before .before .before .before in
     laid (table-of (st .args .t)) (st .args .allowance) (st .args .scratch .now) (st .args .positions .now) _ (c .before .before .before .before .before .before .before .before .layout-refusal .ensures) (c .before .before .before .before .before .before .if1 .left) _ _ _ (c .before .before .before .draw .ensures)
 

@@ -1,7 +1,7 @@
-use mathlib.Core.Path.{_≡_, refl, _∙_}
-use Prim.Native.Nat.{ℕ, _+_, _-_, _*_, _≤_, _<_}
+use mathlib.Core.Path.{_≡_, refl}
+use Prim.Native.Nat.{ℕ, _-_, _≤_}
 use native.Mathlib.Omega.{arith}
-use lib.ListN.{length, getD, length-set, replicate}
+use lib.ListN.{length, length-set, replicate}
 use Rattle.plan.specs.Limits.{farthest}
 use Rattle.plan.specs.Columns.{table-of}
 use Rattle.layout.specs.Sheet.{sheet}
@@ -38,32 +38,34 @@ mul-right c = omega (arith, at-turn c .room, at-turn c .lower)
 array-read-right : tie.Need-array-read-right Inv-loop μ-loop
 array-read-right c = omega (arith, at-turn c .room, at-turn c .lower)
 
-mark-requires : tie.Need-mark-requires Inv-loop μ-loop
-mark-requires c κs = omega (arith, at-turn c .room)
+mark-of-requires : tie.Need-mark-of-requires Inv-loop μ-loop
+mark-of-requires c κs = omega (arith, at-turn (c .before) .room)
 
 add-right : tie.Need-add-right Inv-loop μ-loop
-add-right c = omega (arith, at-turn (c .before) .low, c .mark .ensures)
+add-right c = omega (arith, at-turn (c .before .before) .low, c .mark-of .ensures)
 
-mark-requires-2 : tie.Need-mark-requires-2 Inv-loop μ-loop
-mark-requires-2 c κs = omega (arith, at-turn (c .before) .room, at-turn (c .before) .lower)
+mark-of-requires-2 : tie.Need-mark-of-requires-2 Inv-loop μ-loop
+mark-of-requires-2 c κs = omega (arith, at-turn (c .before .before .before) .room, at-turn (c .before .before .before) .lower)
 
 sub-xs : tie.Need-sub-xs Inv-loop μ-loop
-sub-xs c = omega (arith, at-turn (c .before .before) .enough, c .before .mark .ensures, c .mark2 .ensures)
+sub-xs c = omega (arith, at-turn (c .before .before .before .before) .enough, c .before .before .mark-of .ensures, c .mark-of2 .ensures)
 
 mul-xs : tie.Need-mul-xs Inv-loop μ-loop
-mul-xs c = omega (arith, at-turn (c .before .before) .room)
+mul-xs c = omega (arith, at-turn (c .before .before .before .before) .room)
 
 array-write-xs : tie.Need-array-write-xs Inv-loop μ-loop
-array-write-xs c = omega (arith, at-turn (c .before .before) .room)
+array-write-xs c = omega (arith, at-turn (c .before .before .before .before) .room)
 
 add-c : tie.Need-add-c Inv-loop μ-loop
-add-c c = omega (arith, at-turn (c .before .before) .room)
+add-c c = omega (arith, at-turn (c .before .before .before .before) .room)
 
 loop-less : tie.Need-loop-less Inv-loop μ-loop
 loop-less c = search needs
 
 loop-again : tie.Need-loop-again Inv-loop μ-loop
-loop-again c = (omega arith, simp length-set (c .before .before .before .before .before .before .loop .inv .1), rw (c .before .mark .ensures, c .mark2 .ensures) (at-turn (c .before .before) .again), omega arith)
+loop-again c =
+    let l = c .before .before .before .before .before .before .before .before .loop in
+    (omega arith, simp length-set (l .inv .1), rw (c .before .before .mark-of .ensures, c .mark-of2 .ensures) (at-turn (c .before .before .before .before) .again), omega arith)
 
 returns : tie.Need-returns Inv-loop μ-loop
 returns c =
@@ -81,9 +83,9 @@ raised-spec =
     parent-of-requires
     mul-right
     array-read-right
-    mark-requires
+    mark-of-requires
     add-right
-    mark-requires-2
+    mark-of-requires-2
     sub-xs
     mul-xs
     array-write-xs
