@@ -1,3 +1,6 @@
 pub mod Order
 pub mod Kin
 pub mod Spans
+pub mod Columns
+pub mod Sizes
+pub mod Laid
