@@ -1,10 +1,9 @@
 -- The kinds: how many children each allows, and its border. Assumes nothing.
-use mathlib.Core.Bool.{Bool, true, false, _&&_}
+use mathlib.Core.Bool.{Bool, true, false}
 use Prim.Native.Nat.{ℕ, zero, suc}
-use lib.Dec.{leb}
-use Rattle.plan.specs.Limits.{most-children}
-use Rattle.plan.specs.declared.Lookup.{Lookup}
-use Rattle.plan.specs.declared.Lookup.the-variants.{Known, Unknown}
+use Rattle.plan.specs.Limits.{between, most-children}
+use Rattle.plan.specs.declared.kinds.Lookup.{Lookup}
+use Rattle.plan.specs.declared.kinds.Lookup.the-variants.{Known, Unknown}
 
 -- 1 step, 2 run, 3 repeat, 4 choice, 5 wait
 unfoldable pub about : ℕ → Lookup
@@ -22,7 +21,7 @@ known k = elim (about k) [ Known r ↦ true | Unknown ↦ false ]
 
 -- question 11: n children are allowed
 unfoldable pub allows : ℕ → ℕ → Bool
-allows k n = elim (about k) [ Known r ↦ leb (r .fewest) n && leb n (r .most) | Unknown ↦ false ]
+allows k n = elim (about k) [ Known r ↦ between (r .fewest) (r .most) n | Unknown ↦ false ]
 
 -- question 10: "border", the least units that the width must exceed the label by
 unfoldable pub border-of : ℕ → ℕ

@@ -2,8 +2,13 @@ pub mod Limits
 pub mod Lists
 pub mod Plan
 pub mod Kinds
+pub mod KindLaws
 pub mod Columns
+pub mod ColumnLaws
 pub mod Questions
+pub mod Steps
+pub mod QuestionLaws
+pub mod StepLaws
 pub mod Fit
 pub mod ListLaws
 pub mod PlanLaws

@@ -1,5 +1,11 @@
 -- The limits of document 01, each named once. Assumes nothing.
+use mathlib.Core.Bool.{Bool, _&&_}
 use Prim.Native.Nat.{ℕ}
+use lib.Dec.{leb}
+
+-- from low to high, both included
+abbrev pub between : (low high n : ℕ) → Bool
+between low high n = leb low n && leb n high
 
 -- cells of a table (question 4)
 abbrev pub most-cells : ℕ

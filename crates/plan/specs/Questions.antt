@@ -7,7 +7,7 @@ use lib.ListN.{length, getD}
 use lib.Dec.{eqb, leb, ltb}
 use lib.IntN.{ℤ, pos}
 use Rattle.whole.specs.Range.{within}
-use Rattle.plan.specs.Limits.{most-cells, most-width, most-depth, most-level, last-row, most-allowance, farthest, scratch-size, least-file, most-file, file-mark, record-size, trailer-size, first-letter, last-letter, most-label, no-parent}
+use Rattle.plan.specs.Limits.{between, most-cells, most-width, most-depth, most-level, last-row, most-allowance, farthest, scratch-size, least-file, most-file, file-mark, record-size, trailer-size, first-letter, last-letter, most-label, no-parent}
 use Rattle.plan.specs.Lists.{from, mem}
 use Rattle.plan.specs.Plan.{Table, parent, kind, W, D, children, level, row}
 use Rattle.plan.specs.Kinds.{known, allows, border-of}
@@ -116,9 +116,6 @@ root-too layout = true
 root-too check = true
 
 -- ---- what each question asks
-abbrev pub between : ℕ → ℕ → ℕ → Bool
-between low high n = leb low n && leb n high
-
 unfoldable pub enough : Lent → ℕ → Bool
 enough absent n = true
 enough (long m) n = leb n m
@@ -137,10 +134,14 @@ no-label = record { start = 0; size = 0 }
 abbrev pub label-of : File → ℕ → Label
 label-of f c = getD (f .labels) c no-label
 
--- question 6: 65,535 for cell 0, else less than the cell's own number
-unfoldable pub lower-parent : Table → ℕ → Bool
-lower-parent t zero = eqb (parent t 0) no-parent
-lower-parent t (suc m) = ltb (parent t (suc m)) (suc m)
+-- question 6: is p a parent for cell c, 65,535 for cell 0, else less than the cell's own number
+unfoldable pub lower : ℕ → ℕ → Bool
+lower zero p = eqb p no-parent
+lower (suc m) p = ltb p (suc m)
+
+-- question 8
+unfoldable pub sized : (width depth : ℕ) → Bool
+sized w d = between 1 most-width w && between 1 most-depth d
 
 -- question 15, for one number
 unfoldable pub near : ℤ → Bool
@@ -157,9 +158,9 @@ module _ (call : Call) (g : Given) where
       && in-file (g .source) (λ f. eqb (length (f .bytes) + record-size * length (g .table) + trailer-size) (f .size))
   holds positions-long c = enough (g .positions) (2 * length (g .table))
   holds letters-printable c = in-file (g .source) (λ f. every (between first-letter last-letter) (f .bytes))
-  holds parent-lower c = lower-parent (g .table) c
+  holds parent-lower c = lower c (parent (g .table) c)
   holds kind-known c = known (kind (g .table) c)
-  holds box-sized c = between 1 most-width (W (g .table) c) && between 1 most-depth (D (g .table) c)
+  holds box-sized c = sized (W (g .table) c) (D (g .table) c)
   holds label-inside c =
       in-file (g .source) (λ f. leb (label-of f c .size) most-label && leb (label-of f c .start + label-of f c .size) (length (f .bytes)))
   holds label-fits c = in-file (g .source) (λ f. leb (label-of f c .size + border-of (kind (g .table) c)) (W (g .table) c))
@@ -175,8 +176,12 @@ module _ (call : Call) (g : Given) where
 abbrev pub none : Refusal
 none = record { number = 0; cell = 0 }
 
+-- question n at cell c, whose answer is b
+unfoldable pub asked : ℕ → Bool → ℕ → Refusal
+asked n b c = cond b none (record { number = n; cell = c })
+
 -- the first of two
-abbrev pub or-else : Refusal → Refusal → Refusal
+unfoldable pub or-else : Refusal → Refusal → Refusal
 or-else a b = cond (eqb (a .number) 0) b a
 
 -- the first of those of d cells, from k on
@@ -186,7 +191,7 @@ at-each f k (suc d) = let r = at-each f (suc k) d in or-else (f k) r
 
 module _ (call : Call) (g : Given) where
   unfoldable pub ask : Question → ℕ → Refusal
-  ask q c = cond (holds call g q c) none (record { number = number q; cell = c })
+  ask q c = asked (number q) (holds call g q c) c
 
   -- those of the questions that the call puts
   unfoldable pub ask-all : List Question → ℕ → Refusal

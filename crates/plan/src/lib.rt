@@ -1,4 +1,7 @@
-// The table of a plan as the code has it.
+// The table of a plan as the code has it, and the questions put to it.
+pub mod kinds;
+pub mod limits;
+pub mod questions;
 
 // Document 01: "a run of records, one for each cell". The root's parent is 65,535.
 #[repr(C)]
@@ -25,16 +28,4 @@ pub struct Columns {
 pub struct Refusal {
     pub number: u8,
     pub cell: u16,
-}
-
-// What a kind allows: from how many children to how many; and its border.
-pub struct Kind {
-    pub fewest: u8,
-    pub most: u8,
-    pub border: u8,
-}
-
-pub enum Lookup {
-    Known(Kind),
-    Unknown,
 }

@@ -1,0 +1,69 @@
+-- The sequence, step by step: for the code that puts it. Assumes nothing.
+use mathlib.Core.Path.{_≡_, refl, sym, ap, _∙_}
+use mathlib.Core.Bool.{Bool, true, false, _&&_}
+use Prim.Native.Nat.{ℕ, zero, suc, _+_, _-_, _≤_, _<_}
+use native.Mathlib.Omega.{arith}
+use lib.Dec.{ltb, eqb}
+use borrow.Author.Tests.{eq-eqb, ne-eqb}
+use Rattle.plan.specs.declared.Refusal.{Refusal}
+use Rattle.plan.specs.Questions.{none, lower, asked, or-else, at-each}
+
+pub lower-suc : (c p : ℕ) → ¬ (c ≡ 0) → ltb p c ≡ lower c p
+unfolding lower
+lower-suc zero p h = absurd (h refl)
+lower-suc (suc m) p h = refl
+
+-- ---- two tests, the second put only where the first passes
+pub and-no : (a b : Bool) → a ≡ false → a && b ≡ false
+and-no a b e = rw e
+
+pub and-yes : (a b : Bool) → a ≡ true → a && b ≡ b
+and-yes a b e = rw e
+
+-- ---- the first of two
+pub first-none : (a b : Refusal) → a .number ≡ 0 → or-else a b ≡ b
+unfolding or-else
+first-none a b h = rw (eq-eqb (a .number) 0 h)
+
+pub first-some : (a b : Refusal) → ¬ (a .number ≡ 0) → or-else a b ≡ a
+unfolding or-else
+first-some a b h = rw (ne-eqb (a .number) 0 h)
+
+-- ---- a question put to each of the cells from k on
+module _ (f : ℕ → Refusal) where
+  each-more : (k d : ℕ) → 0 < d → at-each f k d ≡ or-else (f k) (at-each f (k + 1) (d - 1))
+  unfolding at-each
+  each-more k zero h = absurd (omega arith)
+  each-more k (suc d) h = let e : k + 1 ≡ suc k = omega arith in let g : suc d - 1 ≡ d = omega arith in rw (e, g)
+
+  pub each-stops : (c n : ℕ) → c < n → ¬ (f c .number ≡ 0) → at-each f c (n - c) ≡ f c
+  each-stops c n h g = each-more c (n - c) (omega arith) ∙ first-some (f c) _ g
+
+  pub each-goes-on : (c n : ℕ) → c < n → f c .number ≡ 0 → at-each f c (n - c) ≡ at-each f (c + 1) (n - (c + 1))
+  each-goes-on c n h g = each-more c (n - c) (omega arith) ∙ first-none (f c) _ g ∙ (let e : n - c - 1 ≡ n - (c + 1) = omega arith in rw e)
+
+  pub each-ends : (c n : ℕ) → n ≤ c → at-each f c (n - c) ≡ none
+  unfolding at-each
+  each-ends c n h = let e : n - c ≡ 0 = omega arith in rw e
+
+  -- a loop over n cells that has passed c of them, and whose next answer is r
+  module _ (c n : ℕ) (passed : at-each f 0 n ≡ at-each f c (n - c)) (h : c < n) (r : Refusal) (e : r ≡ f c) where
+    pub loop-stops : ¬ (r .number ≡ 0) → r ≡ at-each f 0 n
+    loop-stops g = e ∙ sym (passed ∙ each-stops c n h (λ z. g (ap (λ (x : Refusal). x .number) e ∙ z)))
+
+    pub loop-goes-on : r .number ≡ 0 → at-each f 0 n ≡ at-each f (c + 1) (n - (c + 1))
+    loop-goes-on g = passed ∙ each-goes-on c n h (ap (λ (x : Refusal). x .number) (sym e) ∙ g)
+
+  pub loop-ends : (c n : ℕ) → at-each f 0 n ≡ at-each f c (n - c) → n ≤ c → none ≡ at-each f 0 n
+  loop-ends c n passed h = sym (passed ∙ each-ends c n h)
+
+each-same-from : (f g : ℕ → Refusal) (k d : ℕ) → ((c : ℕ) → k ≤ c → c < k + d → f c ≡ g c) → at-each f k d ≡ at-each g k d
+unfolding at-each
+each-same-from f g k zero h = refl
+each-same-from f g k (suc d) h = cc (h k (omega arith) (omega arith), each-same-from f g (suc k) d (λ c p q. h c (omega arith) (omega arith)))
+
+pub each-same : (f g : ℕ → Refusal) (n : ℕ) → ((c : ℕ) → c < n → f c ≡ g c) → at-each f 0 n ≡ at-each g 0 n
+each-same f g n h = each-same-from f g 0 n (λ c p q. h c (omega arith))
+
+pub loop-starts : (f : ℕ → Refusal) (n : ℕ) → at-each f 0 n ≡ at-each f 0 (n - 0)
+loop-starts f n = let e : n - 0 ≡ n = omega arith in rw e

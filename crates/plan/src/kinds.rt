@@ -1,0 +1,67 @@
+// The kinds: 1 step, 2 run, 3 repeat, 4 choice, 5 wait.
+use crate::limits::between;
+use crate::limits::MOST_CHILDREN;
+ghost use mathlib.Core.Path.{_≡_};
+ghost use Prim.Native.Nat.{ℕ};
+ghost use Rattle.plan.specs.Kinds.{about, known, allows, «border-of»};
+
+// What a kind allows: from how many children to how many; and its border.
+pub struct Kind {
+    pub fewest: u8,
+    pub most: u8,
+    pub border: u8,
+}
+
+pub enum Lookup {
+    Known(Kind),
+    Unknown,
+}
+
+fn entry(fewest: u8, most: u8, border: u8) -> Lookup
+    ensures { λ r. ⌜ r ≡ Lookup.Known (record { fewest = fewest; most = most; border = border }) ⌝ }
+{
+    Lookup::Known(Kind { fewest, most, border })
+}
+
+pub fn about(kind: u8) -> Lookup
+    ensures { λ r. ⌜ r ≡ about kind ⌝ }
+{
+    match kind {
+        1 => entry(0, 0, 2),
+        2 => entry(1, MOST_CHILDREN, 2),
+        3 => entry(1, 1, 4),
+        4 => entry(2, MOST_CHILDREN, 4),
+        5 => entry(0, 1, 2),
+        _ => Lookup::Unknown,
+    }
+}
+
+// Question 7.
+pub fn known(kind: u8) -> bool
+    ensures { λ r. ⌜ r ≡ known kind ⌝ }
+{
+    match about(kind) {
+        Lookup::Known(_) => true,
+        Lookup::Unknown => false,
+    }
+}
+
+// Question 11: whether the kind allows so many children.
+pub fn allows(kind: u8, children: u16) -> bool
+    ensures { λ r. ⌜ r ≡ allows kind children ⌝ }
+{
+    match about(kind) {
+        Lookup::Known(k) => between(k.fewest as u16, k.most as u16, children),
+        Lookup::Unknown => false,
+    }
+}
+
+// Question 10: the least units that the width must exceed the label by.
+pub fn border(kind: u8) -> u8
+    ensures { λ r. ⌜ r ≡ border-of kind ⌝ }
+{
+    match about(kind) {
+        Lookup::Known(k) => k.border,
+        Lookup::Unknown => 0,
+    }
+}
