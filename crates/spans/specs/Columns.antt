@@ -5,12 +5,22 @@ use mathlib.Core.List.{List}
 use Prim.Native.Nat.{ℕ, zero, suc, _+_, _≤_, _<_}
 use native.Mathlib.Omega.{arith}
 use native.Mathlib.Decide.{ℕ-discrete}
-use lib.ListN.{length, getD, set}
+use lib.ListN.{length, getD, set, replicate, length-replicate, getD-replicate}
 use lib.Seq.{getD-set-same, getD-set-other}
 
 -- number c of a column
 abbrev pub at : List ℕ → ℕ → ℕ
 at xs c = getD xs c 0
+
+-- a column of one number
+abbrev pub all : ℕ → List ℕ
+all v = replicate 256 v
+
+pub all-long : (v : ℕ) → length (all v) ≡ 256
+all-long v = length-replicate 256 v
+
+pub all-at : (v c : ℕ) → c < 256 → at (all v) c ≡ v
+all-at v c h = getD-replicate 256 c v 0 h
 
 -- g with v at i
 pub record Put (g g′ : ℕ → ℕ) (i v : ℕ) : Type 0 where
@@ -24,6 +34,10 @@ put xs i v h = record { here = getD-set-same xs i v 0 h; off = λ c e. getD-set-
 unfoldable pub sum-to : (ℕ → ℕ) → ℕ → ℕ
 sum-to g zero = 0
 sum-to g (suc k) = sum-to g k + g k
+
+pub sum-suc : (g : ℕ → ℕ) (k : ℕ) → sum-to g (suc k) ≡ sum-to g k + g k
+unfolding sum-to
+sum-suc g k = refl
 
 pub sum-ones : (g : ℕ → ℕ) (k : ℕ) → ((c : ℕ) → c < k → g c ≡ 1) → sum-to g k ≡ k
 unfolding sum-to
