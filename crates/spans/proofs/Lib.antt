@@ -1,2 +1,5 @@
 pub mod Parents
 pub mod Folding
+pub mod Laying
+pub mod Sinking
+pub mod Numbering

@@ -12,7 +12,7 @@ use Rattle.spans.specs.Order.{Beside, beside, first-lowest, last-highest
 use Rattle.spans.specs.Sizes.{Sized}
 use Rattle.spans.specs.Spans.{Spans}
 
-module _ (t : Table) {size rest near : ℕ → ℕ} (z : Sized t size rest near) where
+module _ (t : Table) (size rest near : ℕ → ℕ) where
   -- the highest child of f before cell k
   pub data Before (k : ℕ) (tail : ℕ → ℕ) (f : ℕ) : Type 0 where
     none : ((s : ℕ) → Child t f s → s < k → ⊥) → tail f ≡ 0 → Before k tail f
@@ -30,7 +30,8 @@ module _ (t : Table) {size rest near : ℕ → ℕ} (z : Sized t size rest near)
     pub root-from : from 0 ≡ first 0
     pub root-to : to 0 ≡ end 0
 
-  pub laid-start : {first end from to tail : ℕ → ℕ} → Is t 0 → first 0 ≡ 0 → from 0 ≡ 0 → end 0 ≡ size 0 → to 0 ≡ size 0 → ((c : ℕ) → tail c ≡ 0) → Laid 1 first end from to tail
+module _ (t : Table) {size rest near : ℕ → ℕ} (z : Sized t size rest near) where
+  pub laid-start : {first end from to tail : ℕ → ℕ} → Is t 0 → first 0 ≡ 0 → from 0 ≡ 0 → end 0 ≡ size 0 → to 0 ≡ size 0 → ((c : ℕ) → Is t c → tail c ≡ 0) → Laid t size rest near 1 first end from to tail
   laid-start {first} {end} {from} {to} {tail} i a b c d bare = record {
     whole = λ x j h. let e : x ≡ 0 = omega arith in rw e (omega arith);
     room = λ x j h. let e : x ≡ 0 = omega arith in rw e (omega (arith, z .few 0 i));
@@ -38,12 +39,12 @@ module _ (t : Table) {size rest near : ℕ → ℕ} (z : Sized t size rest near)
     to-near = λ x s o h. absurd (omega (arith, o .low));
     elder = λ x u v o h. absurd (omega (arith, o .second .low));
     eldest = λ x v o g h. absurd (omega (arith, o .low));
-    latest = λ f j. Before.none (λ s o h. omega (arith, o .low)) (bare f);
+    latest = λ f j. Before.none (λ s o h. omega (arith, o .low)) (bare f j);
     root-from = omega arith;
     root-to = omega arith;
   }
 
-  pub spans : Sound t → {first end from to tail : ℕ → ℕ} → Laid (length t) first end from to tail → Spans t first end from to
+  pub spans : Sound t → {first end from to tail : ℕ → ℕ} → Laid t size rest near (length t) first end from to tail → Spans t first end from to
   spans sound {first} {end} {from} {to} l = record {
     some = λ c i. omega (arith, l .whole c i i, z .some c i);
     under = λ c i s h.
@@ -75,7 +76,7 @@ module _ (t : Table) {size rest near : ℕ → ℕ} (z : Sized t size rest near)
             l .whole v (b .second .is) (b .second .is),
           )
 
-  module _ (f j : ℕ) (own : Child t f j) (lower : f < j) {first end from to tail : ℕ → ℕ} (h : Laid j first end from to tail) where
+  module _ (f j : ℕ) (own : Child t f j) (lower : f < j) {first end from to tail : ℕ → ℕ} (h : Laid t size rest near j first end from to tail) where
     top : Is t f
     top = omega (arith, own .is)
 
@@ -89,7 +90,7 @@ module _ (t : Table) {size rest near : ℕ → ℕ} (z : Sized t size rest near)
     pub tail-fits : tail f + (rest j + size j) ≤ end f
     tail-fits = go (h .latest f top)
       where
-        go : Before j tail f → tail f + (rest j + size j) ≤ end f
+        go : Before t size rest near j tail f → tail f + (rest j + size j) ≤ end f
         go (Before.none g e) = omega (arith, end-fits)
         go (Before.some q o l g e) =
             omega (arith, z .next-rest f q j (right-before q o l g), h .down f q o l, h .whole q (o .is) l)
@@ -136,7 +137,7 @@ module _ (t : Table) {size rest near : ℕ → ℕ} (z : Sized t size rest near)
           go (yes e) = rw e (omega (arith, pe .here, pt .here))
           go (no e) = omega (arith, pe .off s e, pt .off s e, h .to-near c s o (omega arith))
 
-      elder-j : (u : ℕ) → Beside t f u j → Before j tail f → tail f ≡ size u
+      elder-j : (u : ℕ) → Beside t f u j → Before t size rest near j tail f → tail f ≡ size u
       elder-j u b (Before.none g e) = absurd (g u (b .first) (b .less))
       elder-j u b (Before.some q o l g e) = go (decLt q u) (decLt u q)
         where
@@ -154,7 +155,7 @@ module _ (t : Table) {size rest near : ℕ → ℕ} (z : Sized t size rest near)
               (λ b. omega (arith, pm .here, pf .here, elder-j u b (h .latest f top), tail-fits)) b
           go (no e) = omega (arith, pm .off v e, pf .off v e, h .elder c u v b (omega arith))
 
-      eldest-j : ((s : ℕ) → Child t f s → s < j → ⊥) → Before j tail f → tail f ≡ 0
+      eldest-j : ((s : ℕ) → Child t f s → s < j → ⊥) → Before t size rest near j tail f → tail f ≡ 0
       eldest-j g (Before.none _ e) = e
       eldest-j g (Before.some q o l _ _) = absurd (g q o l)
 
@@ -167,19 +168,19 @@ module _ (t : Table) {size rest near : ℕ → ℕ} (z : Sized t size rest near)
               (λ g. omega (arith, pm .here, pf .here, eldest-j g (h .latest f top))) g
           go (no e) = omega (arith, pm .off v e, pf .off v e, h .eldest c v o g (omega arith))
 
-      latest-next : (g : ℕ) → Is t g → Before (suc j) tail′ g
+      latest-next : (g : ℕ) → Is t g → Before t size rest near (suc j) tail′ g
       latest-next g i = go (ℕ-discrete g f) (h .latest g i)
         where
           not-j : (s : ℕ) → g ≢ f → Child t g s → s ≢ j
           not-j s e o q = e (sym (o .of) ∙ ap (parent t) q ∙ own .of)
 
-          go : Dec (g ≡ f) → Before j tail g → Before (suc j) tail′ g
+          go : Dec (g ≡ f) → Before t size rest near j tail g → Before t size rest near (suc j) tail′ g
           go (yes e) b = rw e (Before.some j own (omega arith) (λ s o x y. omega arith) (pl .here))
           go (no e) (Before.none a b) = Before.none (λ s o m. let n = not-j s e o in a s o (omega arith)) (omega (arith, pl .off g e))
           go (no e) (Before.some q o l a b) =
               Before.some q o (omega arith) (λ s p x y. let n = not-j s e p in a s p (omega arith) y) (omega (arith, pl .off g e))
 
-      pub laid-next : Sound t → Laid (suc j) first′ end′ from′ to′ tail′
+      pub laid-next : Sound t → Laid t size rest near (suc j) first′ end′ from′ to′ tail′
       laid-next sound = record {
         whole = whole-next;
         room = room-next;
