@@ -1,6 +1,6 @@
 // The kinds: 1 step, 2 run, 3 repeat, 4 choice, 5 wait.
-use crate::limits::between;
 use crate::limits::MOST_CHILDREN;
+use crate::limits::between;
 ghost use mathlib.Core.Path.{_≡_};
 ghost use Prim.Native.Nat.{ℕ};
 ghost use Rattle.plan.specs.Kinds.{about, known, allows, «border-of»};
@@ -20,7 +20,11 @@ pub enum Lookup {
 fn entry(fewest: u8, most: u8, border: u8) -> Lookup
     ensures { λ r. ⌜ r ≡ Lookup.Known (record { fewest = fewest; most = most; border = border }) ⌝ }
 {
-    Lookup::Known(Kind { fewest, most, border })
+    Lookup::Known(Kind {
+        fewest,
+        most,
+        border,
+    })
 }
 
 pub fn about(kind: u8) -> Lookup

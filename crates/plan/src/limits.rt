@@ -7,6 +7,7 @@ pub const MOST_CELLS: usize = 256;
 
 // W and D of a box (question 8).
 pub const MOST_WIDTH: u16 = 255;
+
 pub const MOST_DEPTH: u16 = 15;
 
 // Children of a parent (question 11).
@@ -14,10 +15,12 @@ pub const MOST_CHILDREN: u8 = 16;
 
 // Edges to the root (question 12), and the last row that a box may reach (13).
 pub const MOST_LEVEL: u8 = 31;
+
 pub const LAST_ROW: u16 = 255;
 
 // The allowance (14), and a coordinate, either way (15).
 pub const MOST_ALLOWANCE: u32 = 65535;
+
 pub const FARTHEST: u32 = 65535;
 
 // Numbers of 32 bits in Layout's scratch (1).
@@ -28,14 +31,20 @@ pub const NO_PARENT: u16 = 65535;
 
 // Bytes of a file (2), of a record and of the trailer (4), and the mark, low byte first (3).
 pub const LEAST_FILE: usize = 16;
+
 pub const MOST_FILE: usize = 16384;
+
 pub const RECORD_SIZE: usize = 8;
+
 pub const TRAILER_SIZE: usize = 8;
+
 pub const FILE_MARK: u16 = 0x5453;
 
 // A label's bytes (5) and length (9).
 pub const FIRST_LETTER: u8 = 32;
+
 pub const LAST_LETTER: u8 = 126;
+
 pub const MOST_LABEL: u8 = 40;
 
 // From low to high, both included.

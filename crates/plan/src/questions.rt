@@ -1,7 +1,7 @@
 // The questions put to a table, each as a refusal. A refusal of number 0 is none.
+use crate::Refusal;
 use crate::kinds::allows;
 use crate::kinds::known;
-use crate::limits::between;
 use crate::limits::LAST_ROW;
 use crate::limits::MOST_ALLOWANCE;
 use crate::limits::MOST_CELLS;
@@ -9,7 +9,7 @@ use crate::limits::MOST_DEPTH;
 use crate::limits::MOST_LEVEL;
 use crate::limits::MOST_WIDTH;
 use crate::limits::NO_PARENT;
-use crate::Refusal;
+use crate::limits::between;
 ghost use mathlib.Core.Path.{_≡_};
 ghost use mathlib.Core.Bool.{Bool, true, false};
 ghost use Prim.Native.Nat.{ℕ, _+_, _≤_, _<_};

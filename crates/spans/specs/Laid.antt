@@ -72,7 +72,10 @@ module _ (t : Table) {size rest near : ℕ → ℕ} (z : Sized t size rest near)
       meets : (c u v : ℕ) → Beside t c u v → end u ≡ first v
       meets c u v b =
           omega (
-            arith, l .down c u (b .first) (b .first .is), l .down c v (b .second) (b .second .is), z .next-rest c u v b,
+            arith,
+            l .down c u (b .first) (b .first .is),
+            l .down c v (b .second) (b .second .is),
+            z .next-rest c u v b,
             l .whole v (b .second .is) (b .second .is),
           )
 
