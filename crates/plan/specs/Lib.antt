@@ -8,7 +8,10 @@ pub mod ColumnLaws
 pub mod Questions
 pub mod Steps
 pub mod QuestionLaws
+pub mod Trees
 pub mod StepLaws
+pub mod CallLaws
+pub mod FitLaws
 pub mod Fit
 pub mod ListLaws
 pub mod PlanLaws

@@ -3,7 +3,8 @@ use mathlib.Core.Path.{_≡_, refl, sym, ap, _∙_}
 use mathlib.Core.Bool.{Bool, true, false, _&&_}
 use Prim.Native.Nat.{ℕ, zero, suc, _+_, _-_, _≤_, _<_}
 use native.Mathlib.Omega.{arith}
-use lib.Dec.{ltb, eqb}
+use native.Mathlib.Decide.{ℕ-discrete}
+use lib.Dec.{T, ltb}
 use borrow.Author.Tests.{eq-eqb, ne-eqb}
 use Rattle.plan.specs.declared.Refusal.{Refusal}
 use Rattle.plan.specs.Questions.{none, lower, asked, or-else, at-each}
@@ -28,6 +29,13 @@ first-none a b h = rw (eq-eqb (a .number) 0 h)
 pub first-some : (a b : Refusal) → ¬ (a .number ≡ 0) → or-else a b ≡ a
 unfolding or-else
 first-some a b h = rw (ne-eqb (a .number) 0 h)
+
+-- code that has the answer r to the first of two: it stops, or goes on to the second
+pub stops : (r a b : Refusal) → r ≡ a → ¬ (r .number ≡ 0) → r ≡ or-else a b
+stops r a b e h = e ∙ sym (first-some a b (λ z. h (ap (λ (x : Refusal). x .number) e ∙ z)))
+
+pub goes-on : (r a b x : Refusal) → r ≡ a → r .number ≡ 0 → x ≡ b → x ≡ or-else a b
+goes-on r a b x e h q = q ∙ sym (first-none a b (ap (λ (x : Refusal). x .number) (sym e) ∙ h))
 
 -- ---- a question put to each of the cells from k on
 module _ (f : ℕ → Refusal) where
@@ -67,3 +75,28 @@ each-same f g n h = each-same-from f g 0 n (λ c p q. h c (omega arith))
 
 pub loop-starts : (f : ℕ → Refusal) (n : ℕ) → at-each f 0 n ≡ at-each f 0 (n - 0)
 loop-starts f n = let e : n - 0 ≡ n = omega arith in rw e
+
+-- ---- no refusal: every answer is yes
+pub asked-yes : (k : ℕ) (b : Bool) (c : ℕ) → asked (suc k) b c .number ≡ 0 → T b
+unfolding asked
+asked-yes k true c e = tt
+asked-yes k false c e = absurd (omega arith)
+
+pub both-none : (a b : Refusal) → or-else a b .number ≡ 0 → (a .number ≡ 0) × (b .number ≡ 0)
+both-none a b e = go (ℕ-discrete (a .number) 0)
+  where
+    go : Dec (a .number ≡ 0) → (a .number ≡ 0) × (b .number ≡ 0)
+    go (yes z) = (z, ap (λ (r : Refusal). r .number) (sym (first-none a b z)) ∙ e)
+    go (no z) = absurd (z (ap (λ (r : Refusal). r .number) (sym (first-some a b z)) ∙ e))
+
+each-none-from : (f : ℕ → Refusal) (k d : ℕ) → at-each f k d .number ≡ 0 → (c : ℕ) → k ≤ c → c < k + d → f c .number ≡ 0
+unfolding at-each
+each-none-from f k zero e c p q = absurd (omega arith)
+each-none-from f k (suc d) e c p q = go (both-none (f k) (at-each f (suc k) d) e) (ℕ-discrete c k) (λ z. each-none-from f (suc k) d z c)
+  where
+    go : (f k .number ≡ 0) × (at-each f (suc k) d .number ≡ 0) → Dec (c ≡ k) → (at-each f (suc k) d .number ≡ 0 → suc k ≤ c → c < suc k + d → f c .number ≡ 0) → f c .number ≡ 0
+    go (a, b) (yes z) g = rw z a
+    go (a, b) (no z) g = g b (omega arith) (omega arith)
+
+pub each-none : (f : ℕ → Refusal) (n : ℕ) → at-each f 0 n .number ≡ 0 → (c : ℕ) → c < n → f c .number ≡ 0
+each-none f n e c h = each-none-from f 0 n e c (omega arith) (omega arith)

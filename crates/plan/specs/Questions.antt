@@ -28,7 +28,10 @@ pub record Label : Type 0 where
 pub record File : Type 0 where
   pub size : ℕ
   pub mark : ℕ
-  pub bytes : List ℕ
+  -- the place where the records begin, and the bytes before it
+  pub begin : ℕ
+  pub letters : List ℕ
+  -- of each record
   pub labels : List Label
 
 -- a table lent, or a table in a file
@@ -155,14 +158,14 @@ module _ (call : Call) (g : Given) where
   holds file-marked c = in-file (g .source) (λ f. eqb (f .mark) file-mark)
   holds cells-counted c =
       between 1 most-cells (length (g .table))
-      && in-file (g .source) (λ f. eqb (length (f .bytes) + record-size * length (g .table) + trailer-size) (f .size))
+      && in-file (g .source) (λ f. eqb (f .begin + record-size * length (g .table) + trailer-size) (f .size))
   holds positions-long c = enough (g .positions) (2 * length (g .table))
-  holds letters-printable c = in-file (g .source) (λ f. every (between first-letter last-letter) (f .bytes))
+  holds letters-printable c = in-file (g .source) (λ f. every (between first-letter last-letter) (f .letters))
   holds parent-lower c = lower c (parent (g .table) c)
   holds kind-known c = known (kind (g .table) c)
   holds box-sized c = sized (W (g .table) c) (D (g .table) c)
   holds label-inside c =
-      in-file (g .source) (λ f. leb (label-of f c .size) most-label && leb (label-of f c .start + label-of f c .size) (length (f .bytes)))
+      in-file (g .source) (λ f. leb (label-of f c .size) most-label && leb (label-of f c .start + label-of f c .size) (f .begin))
   holds label-fits c = in-file (g .source) (λ f. leb (label-of f c .size + border-of (kind (g .table) c)) (W (g .table) c))
   holds children-allowed c = allows (kind (g .table) c) (length (children (g .table) c))
   holds level-low c = leb (level (g .table) c) most-level

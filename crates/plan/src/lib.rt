@@ -2,6 +2,7 @@
 pub mod kinds;
 pub mod limits;
 pub mod questions;
+pub mod tree;
 
 // Document 01: "a run of records, one for each cell". The root's parent is 65,535.
 #[repr(C)]

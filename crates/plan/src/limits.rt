@@ -14,7 +14,7 @@ pub const MOST_DEPTH: u16 = 15;
 pub const MOST_CHILDREN: u8 = 16;
 
 // Edges to the root (question 12), and the last row that a box may reach (13).
-pub const MOST_LEVEL: u8 = 31;
+pub const MOST_LEVEL: u16 = 31;
 
 pub const LAST_ROW: u16 = 255;
 

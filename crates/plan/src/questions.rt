@@ -2,6 +2,7 @@
 use crate::Refusal;
 use crate::kinds::allows;
 use crate::kinds::known;
+use crate::limits::FARTHEST;
 use crate::limits::LAST_ROW;
 use crate::limits::MOST_ALLOWANCE;
 use crate::limits::MOST_CELLS;
@@ -10,13 +11,22 @@ use crate::limits::MOST_LEVEL;
 use crate::limits::MOST_WIDTH;
 use crate::limits::NO_PARENT;
 use crate::limits::between;
+use crate::tree::child_counts;
+use crate::tree::levels;
+use crate::tree::rows;
+use whole::within;
 ghost use mathlib.Core.Path.{_≡_};
-ghost use mathlib.Core.Bool.{Bool, true, false};
-ghost use Prim.Native.Nat.{ℕ, _+_, _≤_, _<_};
+ghost use mathlib.Core.List.{List};
+ghost use mathlib.Core.Bool.{Bool, true, false, _&&_};
+ghost use Prim.Native.Nat.{ℕ, _+_, _*_, _≤_, _<_};
+ghost use lib.Dec.{leb};
 ghost use lib.ListN.{length, getD};
-ghost use Rattle.plan.specs.Questions.{asked, «or-else», lower, sized, «at-each»};
+ghost use lib.IntN.{pos};
+ghost use Rattle.plan.specs.Limits.{between, «most-cells», «most-allowance»};
+ghost use Rattle.plan.specs.Trees.{Short, Lower, Flat};
+ghost use Rattle.plan.specs.Questions.{asked, «or-else», lower, sized, near, «at-each»};
 ghost use Rattle.plan.specs.Columns.{table};
-ghost use Rattle.plan.specs.Steps.{«cell-refusal», «cells-refusal»};
+ghost use Rattle.plan.specs.Steps.{«cell-refusal», «cells-refusal», «tree-refusal», «table-refusal», «lent-refusal», «near-refusal», «children-at», «levels-at», «rows-at»};
 
 // Question `number` at a cell, answered.
 pub fn asked(number: u8, yes: bool, cell: usize) -> Refusal
@@ -62,6 +72,20 @@ fn sized(width: u16, depth: u8) -> bool
     between(1, MOST_DEPTH, depth as u16)
 }
 
+fn at_most(x: u16, most: u16) -> bool
+    ensures { λ r. ⌜ r ≡ leb x most ⌝ }
+{
+    x <= most
+}
+
+// The last row of a box.
+fn box_bottom(row: u16, depth: u8) -> u16
+    requires { ⌜ row ≤ 4096 ⌝ }
+    ensures { λ r. ⌜ r ≡ row + depth ⌝ }
+{
+    row + (depth as u16)
+}
+
 // Questions 6 to 8 at one cell.
 pub fn cell_refusal(cell: usize, parent: u16, kind: u8, width: u16, depth: u8) -> Refusal
     requires { ⌜ cell < 65536 ⌝ }
@@ -89,6 +113,171 @@ pub fn cells_refusal(
     let mut c = 0;
     while c < n {
         let r = cell_refusal(c, parents[c], kinds[c], widths[c], depths[c]);
+        if r.number != 0 {
+            return r;
+        }
+        c += 1;
+    }
+    Refusal { number: 0, cell: 0 }
+}
+
+// Question 11, from the numbers of children.
+fn children_refusal(kinds: &[u8; 256], counts: &[u16; 256], n: usize) -> Refusal
+    requires { ⌜ n ≤ 256 ⌝ }
+    ensures { λ r. ⌜ r ≡ at-each (children-at (now (kinds .entry)) (now (counts .entry))) 0 n ⌝ }
+{
+    let mut c = 0;
+    while c < n {
+        let r = asked(11, allows(kinds[c], counts[c]), c);
+        if r.number != 0 {
+            return r;
+        }
+        c += 1;
+    }
+    Refusal { number: 0, cell: 0 }
+}
+
+// Question 12, from the levels.
+fn levels_refusal(levels: &[u16; 256], n: usize) -> Refusal
+    requires { ⌜ n ≤ 256 ⌝ }
+    ensures { λ r. ⌜ r ≡ at-each (levels-at (now (levels .entry))) 0 n ⌝ }
+{
+    let mut c = 0;
+    while c < n {
+        let r = asked(12, at_most(levels[c], MOST_LEVEL), c);
+        if r.number != 0 {
+            return r;
+        }
+        c += 1;
+    }
+    Refusal { number: 0, cell: 0 }
+}
+
+// Question 13, from the rows.
+fn rows_refusal(rows: &[u16; 256], depths: &[u8; 256], n: usize) -> Refusal
+    requires { ⌜ (n ≤ 256) × Short (now rows) n ⌝ }
+    ensures { λ r. ⌜ r ≡ at-each (rows-at (now (rows .entry)) (now (depths .entry))) 0 n ⌝ }
+{
+    let mut c = 0;
+    while c < n {
+        let r = asked(13, at_most(box_bottom(rows[c], depths[c]), LAST_ROW), c);
+        if r.number != 0 {
+            return r;
+        }
+        c += 1;
+    }
+    Refusal { number: 0, cell: 0 }
+}
+
+// Questions 11 to 13, put to cells that 6 to 8 have passed.
+pub fn tree_refusal(
+    parents: &[u16; 256],
+    kinds: &[u8; 256],
+    depths: &[u8; 256],
+    n: usize,
+) -> Refusal
+    requires { ⌜ Lower (now parents) n ⌝ }
+    requires { ⌜ Flat (now depths) n ⌝ }
+    ensures { λ r. ⌜ ((ws : List ℕ) → r ≡ tree-refusal (table (now (parents .entry)) (now (kinds .entry)) ws (now (depths .entry)) n)) ⌝ }
+{
+    let counts = child_counts(parents, n);
+    let at_children = children_refusal(kinds, &counts, n);
+    if at_children.number != 0 {
+        return at_children;
+    }
+    let deep = levels(parents, n);
+    let at_levels = levels_refusal(&deep, n);
+    if at_levels.number != 0 {
+        return at_levels;
+    }
+    let low = rows(parents, depths, n);
+    rows_refusal(&low, depths, n)
+}
+
+// Questions 6 to 8 and 11 to 13.
+fn table_refusal(
+    parents: &[u16; 256],
+    kinds: &[u8; 256],
+    widths: &[u16; 256],
+    depths: &[u8; 256],
+    n: usize,
+) -> Refusal
+    requires { ⌜ (1 ≤ n) × (n ≤ 256) ⌝ }
+    ensures { λ r. ⌜ r ≡ table-refusal (table (now (parents .entry)) (now (kinds .entry)) (now (widths .entry)) (now (depths .entry)) n) ⌝ }
+{
+    let at_cells = cells_refusal(parents, kinds, widths, depths, n);
+    if at_cells.number != 0 {
+        return at_cells;
+    }
+    tree_refusal(parents, kinds, depths, n)
+}
+
+// Question 4.
+fn counted(n: usize) -> bool
+    ensures { λ r. ⌜ r ≡ between 1 most-cells n ⌝ }
+{
+    if n < 1 {
+        return false;
+    }
+    n <= MOST_CELLS
+}
+
+// Questions 4, 1 (of so many positions), 6 to 8 and 11 to 13, put to a lent table.
+pub fn lent_refusal(
+    parents: &[u16; 256],
+    kinds: &[u8; 256],
+    widths: &[u16; 256],
+    depths: &[u8; 256],
+    n: usize,
+    positions: usize,
+) -> Refusal
+    ensures { λ r. ⌜ r ≡ lent-refusal (table (now (parents .entry)) (now (kinds .entry)) (now (widths .entry)) (now (depths .entry)) n) positions ⌝ }
+{
+    let few = asked(4, counted(n), 0);
+    if few.number != 0 {
+        return few;
+    }
+    let long = asked(1, 2 * n <= positions, 0);
+    if long.number != 0 {
+        return long;
+    }
+    table_refusal(parents, kinds, widths, depths, n)
+}
+
+// Question 14.
+pub fn allowance_refusal(allowance: u32) -> Refusal
+    ensures { λ r. ⌜ r ≡ asked 14 (leb allowance most-allowance) 0 ⌝ }
+{
+    asked(14, allowance <= MOST_ALLOWANCE, 0)
+}
+
+// Question 15, for one number of the positions.
+fn near(positions: &[i32], i: usize) -> bool
+    requires { ⌜ i < length (now positions) ⌝ }
+    ensures { λ r. ⌜ r ≡ near (getD (now (positions .entry)) i (pos 0)) ⌝ }
+{
+    within(positions[i], FARTHEST)
+}
+
+// The same for both of a cell.
+fn both_near(positions: &[i32], c: usize) -> bool
+    requires { ⌜ (2 * c + 1 < length (now positions)) × (c < 256) ⌝ }
+    ensures { λ r. ⌜ r ≡ (near (getD (now (positions .entry)) (2 * c) (pos 0)) && near (getD (now (positions .entry)) (2 * c + 1) (pos 0))) ⌝ }
+{
+    if !near(positions, 2 * c) {
+        return false;
+    }
+    near(positions, 2 * c + 1)
+}
+
+// Question 15, cell by cell.
+pub fn near_refusal(positions: &[i32], n: usize) -> Refusal
+    requires { ⌜ (n ≤ 256) × (2 * n ≤ length (now positions)) ⌝ }
+    ensures { λ r. ⌜ r ≡ near-refusal (now (positions .entry)) n ⌝ }
+{
+    let mut c = 0;
+    while c < n {
+        let r = asked(15, both_near(positions, c), c);
         if r.number != 0 {
             return r;
         }

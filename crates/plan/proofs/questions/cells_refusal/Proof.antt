@@ -3,7 +3,8 @@ use mathlib.Core.Path.{_≡_, refl, sym, _∙_}
 use Prim.Native.Nat.{_≤_, _-_}
 use native.Mathlib.Omega.{arith}
 use Rattle.plan.specs.Questions.{at-each}
-use Rattle.plan.specs.StepLaws.{refusal-at, cells-columns}
+use Rattle.plan.specs.StepLaws.{cells-columns}
+use Rattle.plan.specs.Steps.{cells-at}
 use borrow.Author.Needs.{needs}
 use Rattle.plan.proofs.questions.cells_refusal.Statement.{statement}
 use Rattle.plan.proofs.questions.cells_refusal.Tie as tie
@@ -13,7 +14,7 @@ use Rattle.plan.proofs.questions.cell_refusal.Reads as cell-refusal-rea
 
 abbrev Inv-loop : tie.InvT-loop
 Inv-loop parents kinds widths depths n c₀ c =
-    (c ≤ n) × (at-each (refusal-at parents kinds widths depths n) 0 n ≡ at-each (refusal-at parents kinds widths depths n) c (n - c))
+    (c ≤ n) × (at-each (cells-at parents kinds widths depths) 0 n ≡ at-each (cells-at parents kinds widths depths) c (n - c))
 
 abbrev μ-loop : tie.MeasureT-loop
 μ-loop parents kinds widths depths n c₀ c = n - c
