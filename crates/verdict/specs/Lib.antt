@@ -1,1 +1,3 @@
 pub mod Passes
+pub mod Sees
+pub mod Meaning
