@@ -19,3 +19,4 @@ pub mod Paths
 pub mod Siblings
 pub mod Sums
 pub mod Bottoms
+pub mod Near

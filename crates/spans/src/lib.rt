@@ -39,7 +39,7 @@ fn wide(x: u16) -> usize
 }
 
 // The parent of a cell, which is lower.
-fn parent_of(parents: &[u16; 256], c: usize) -> usize
+pub fn parent_of(parents: &[u16; 256], c: usize) -> usize
     requires { ⌜ (c < 256) × (getD (now parents) c 0 < c) ⌝ }
     ensures { λ r. ⌜ (r ≡ getD (now (parents .entry)) c 0) × (r < c) ⌝ }
 {

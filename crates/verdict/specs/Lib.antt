@@ -1,3 +1,4 @@
 pub mod Passes
 pub mod Sees
 pub mod Meaning
+pub mod Checked

@@ -119,15 +119,15 @@ module _ (t : Table) (p : Placement) (s : Sights) (sound : Sound t) (g : Sees t 
   module _ (al a b : ℕ) (i : Is t a) (j : Is t b) where
     -- ---- S1
     due-lift : (m : ℕ) → Is t (suc m) → at (s .due) (suc m) ≡ at (s .base) (parent t (suc m)) + 1
-    due-lift m i = g .dues (suc m) (parent t (suc m)) (record { low = omega arith; is = i; of = refl })
+    due-lift m i = g .dues .each (suc m) (parent t (suc m)) (record { low = omega arith; is = i; of = refl })
 
     one : (c : ℕ) → Is t c → (eqb (at (s .y) c) (at (s .due) c) && only (eqb c 0) (eqb (at (s .x) c) farthest)) ≡ kept1 t p c
     unfolding kept1
     one zero i =
         same-test
         (that-is (both (says-eq (at (s .y) 0) (at (s .due) 0)) (whenever (says-eq 0 0) (says-eq (at (s .x) 0) farthest)))
-        (λ h. (let e = h .1 refl in omega (whole, g .xs 0 i), omega (whole, g .ys 0 i, g .root-due, h .0)))
-        (λ h. (omega (whole, g .ys 0 i, g .root-due, h .1), λ e. omega (whole, g .xs 0 i, h .0))))
+        (λ h. (let e = h .1 refl in omega (whole, g .xs 0 i), omega (whole, g .ys 0 i, g .dues .root, h .0)))
+        (λ h. (omega (whole, g .ys 0 i, g .dues .root, h .1), λ e. omega (whole, g .xs 0 i, h .0))))
         (both (says-eqZ (p .x 0) (pos 0)) (says-eqZ (p .y 0) (pos 0)))
     one (suc m) i =
         let f : Is t (parent t (suc m)) = omega (arith, sound (suc m) (omega arith) i) in

@@ -1,0 +1,12 @@
+-- Check's answer: document 01's numbers and values for each case. Assumes nothing.
+use mathlib.Core.List.{List}
+use mathlib.Core.Bool.{cond}
+use Prim.Native.Nat.{ℕ, _+_, _*_}
+use lib.Dec.{eqb}
+use lib.ListN.{getD}
+use lib.IntN.{ℤ, pos}
+use Rattle.rules.specs.Placement.{Placement}
+
+-- the placement that positions give: x then y of each cell
+abbrev pub placement-of : List ℤ → Placement
+placement-of ps = record { x = λ c. getD ps (2 * c) (pos 0); y = λ c. getD ps (2 * c + 1) (pos 0) }
