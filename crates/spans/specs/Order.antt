@@ -49,3 +49,19 @@ module _ (t : Table) where
 
   pub last-highest : (c i u s : ℕ) → At (children t c) i u → length (children t c) ≡ suc i → Child t c s → u < s → ⊥
   last-highest c i u s h e o l = let (j, p) = child-show t c s o in omega (arith, place-less c i j u s h p l, at-less (children t c) j s p)
+
+  -- there are fewer children than cells
+  place-low : (c i s : ℕ) → At (children t c) i s → i < s
+  place-low c zero s h = omega (arith, child-read t c 0 s h .low)
+  place-low c (suc i) s h =
+      let k = at-getD (children t c) i 0 (omega (arith, at-less (children t c) (suc i) s h)) in
+      omega (arith, place-low c i _ k, children-rise c i (suc i) _ s (omega arith) k h)
+
+  pub children-few : (c : ℕ) → length (children t c) ≤ length t
+  children-few c = go (decLt 0 (length (children t c)))
+    where
+      go : Dec (0 < length (children t c)) → length (children t c) ≤ length t
+      go (yes l) =
+          let k = at-getD (children t c) (pred (length (children t c))) 0 (omega arith) in
+          omega (arith, place-low c _ _ k, child-read t c _ _ k .is)
+      go (no l) = omega arith

@@ -21,7 +21,14 @@ use Rattle.plan.specs.ColumnLaws as laws
 use Rattle.plan.specs.Trees.{Column}
 use Rattle.spans.specs.Columns.{at, all, all-long, Put, put}
 use Rattle.spans.proofs.Parents.{length-is, parent-is, parent-lower, count-some, count-few, child-of}
-use Rattle.verdict.specs.Sees.{Lifts, Short, Due}
+use Rattle.spans.specs.Order.{children-few}
+use Rattle.spans.specs.Counted.{Counted}
+use Rattle.spans.specs.Deepest.{Deepest}
+use Rattle.spans.specs.Spans.{Spans}
+use Rattle.verdict.specs.declared.search.Sights.{Sights}
+use Rattle.verdict.specs.Checked.{placement-of}
+use Rattle.verdict.specs.Passes.{Sighted}
+use Rattle.verdict.specs.Sees.{Lifts, Short, Due, Sees}
 
 -- ---- a column, cell by cell
 pub made-none : (f : ℕ → ℕ) → Column (all 0) 0 f
@@ -152,3 +159,53 @@ module _ (t : Columns) (fit : Fit (table-of t)) (many : List ℕ) where
     heads = made-next v (h .heads) (omega (arith, h .few)) (e ∙ sym (parent-is t c l));
     middles = made-next w (h .middles) (omega (arith, h .few)) (f ∙ ap (λ (k : ℕ). appointed k (at many c)) (kind-is t c l));
   }
+
+-- ---- all the columns
+module _ (t : Columns) (fit : Fit (table-of t)) (ps : List ℤ) (near : Near ps (t .count)) where
+  abbrev pub Raised : List ℕ → ℕ → Type 0
+  Raised xs o = Column xs (t .count) (λ c. bias farthest (getD ps (2 * c + o) (pos 0)))
+
+  low : (xs : List ℕ) (o : ℕ) → o ≤ 1 → Raised xs o → (c : ℕ) → c < t .count → at xs c ≤ farthest + farthest
+  low xs o k h c l = rw (h .each c l) (low-lift _ (within-at ps (t .count) c o near l k))
+
+  pub raised-short : (xs : List ℕ) (o : ℕ) → o ≤ 1 → Raised xs o → Short xs (t .count)
+  raised-short xs o k h = record { short = λ c l. omega (arith, low xs o k h c l) }
+
+  is : (c : ℕ) → c < t .count → Is (table-of t) c
+  is c l = omega (arith, length-is t)
+
+  in-count : (c : ℕ) → Is (table-of t) c → c < t .count
+  in-count c i = omega (arith, length-is t)
+
+  pub bases-short : (y base : List ℕ) → Raised y 1 → Column base (t .count) (λ c. at y c + D (table-of t) c) → Short base (t .count)
+  bases-short y base h k = record { short = λ c l. omega (arith, k .each c l, low y 1 (omega arith) h c l, fit .deep c (is c l) .1) }
+
+  pub many-short : (nth many : List ℕ) → Counted (table-of t) (at nth) (at many) → Short many (t .count)
+  many-short nth many h = record { short = λ c l. omega (arith, h .all c (is c l), children-few (table-of t) c, fit .not-too-many) }
+
+  module _ (s : Sights) (hx : Raised (s .x) 0) (hy : Raised (s .y) 1)
+      (hr : Column (s .right) (t .count) (λ c. at (s .x) c + W (table-of t) c)) (hb : Column (s .base) (t .count) (λ c. at (s .y) c + D (table-of t) c)) where
+    pub sighted : Sighted s (t .count)
+    sighted = record {
+      few = count-few t fit;
+      x-small = λ c l. omega (arith, low (s .x) 0 (omega arith) hx c l);
+      right-small = λ c l. omega (arith, hr .each c l, low (s .x) 0 (omega arith) hx c l, fit .wide c (is c l) .1);
+    }
+
+    pub sees : (many : List ℕ) → Due (table-of t) (s .base) (s .due) → Deepest (table-of t) (at (s .base)) (at (s .bottom))
+        → Spans (table-of t) (at (s .first)) (at (s .end)) (at (s .from)) (at (s .to)) → Counted (table-of t) (at (s .nth)) (at many)
+        → Column (s .parent) (t .count) (parent (table-of t)) → Column (s .middle) (t .count) (λ c. appointed (kind (table-of t) c) (at many c))
+        → Sees (table-of t) (placement-of ps) s
+    sees many hd hs sp hn hp hm = record {
+      many = at many;
+      counted = hn;
+      parents = λ c i. hp .each c (in-count c i);
+      middles = λ c i. hm .each c (in-count c i);
+      xs = λ c i. let l = in-count c i in rw (hx .each c l, add-zero) (lifted _ (near .x c l));
+      rights = λ c i. hr .each c (in-count c i);
+      ys = λ c i. let l = in-count c i in rw (hy .each c l) (lifted _ (near .y c l));
+      bases = λ c i. hb .each c (in-count c i);
+      dues = hd;
+      bottoms = hs;
+      spans = sp;
+    }
