@@ -103,7 +103,7 @@ pub fn lay(t: Columns, s: Sizes) -> Standing
     }
 }
 
-fn greater(a: u32, b: u32) -> u32
+pub fn greater(a: u32, b: u32) -> u32
     ensures { λ r. ⌜ r ≡ max a b ⌝ }
 {
     if a < b { b } else { a }

@@ -5,8 +5,27 @@ use Prim.Native.Nat.{ℕ, _+_, _*_}
 use lib.Dec.{eqb}
 use lib.ListN.{getD}
 use lib.IntN.{ℤ, pos}
+use Rattle.whole.specs.Whole.{plus}
+use Rattle.plan.specs.Plan.{Table}
+use Rattle.plan.specs.Questions.{refusal, check, check-given}
+use Rattle.plan.specs.declared.Refusal.{Refusal}
 use Rattle.rules.specs.Placement.{Placement}
+use Rattle.rules.specs.Verdict.{Answer, fine, faulty, answer}
+use Rattle.verdict.specs.declared.Checked.{Checked}
+use Rattle.verdict.specs.declared.Checked.the-variants.{Kept, Broken, Refused}
 
 -- the placement that positions give: x then y of each cell
 abbrev pub placement-of : List ℤ → Placement
 placement-of ps = record { x = λ c. getD ps (2 * c) (pos 0); y = λ c. getD ps (2 * c + 1) (pos 0) }
+
+-- "kept" with width and rows, which are not negative where no question refuses (CheckedLaws); "broken" with rule, a and b
+unfoldable pub answered : Answer → Checked
+answered (fine w r) = Kept (plus w) (plus r)
+answered (faulty r a b) = Broken r a b
+
+-- the number and the cell of a refusal, or the answer
+abbrev pub unless : Refusal → Checked → Checked
+unless r a = cond (eqb (r .number) 0) a (Refused (r .number) (r .cell))
+
+unfoldable pub checked-of : Table → List ℤ → (allowance : ℕ) → Checked
+checked-of t ps al = unless (refusal check (check-given t al ps)) (answered (answer t (placement-of ps) al))

@@ -45,7 +45,7 @@ module _ (z w : ℤ) (m n : ℕ) (h : Lifts z m) (k : Lifts w n) where
   lt-lift = same-test (that-is (says-lt m n) (λ e. omega whole) (λ e. omega whole)) (says-ltZ z w)
 
 module _ (t : Table) (p : Placement) (s : Sights) (sound : Sound t) (g : Sees t p s) where
-  right-lift : (c : ℕ) → Is t c → Lifts (right t p c) (at (s .right) c)
+  pub right-lift : (c : ℕ) → Is t c → Lifts (right t p c) (at (s .right) c)
   unfolding right
   right-lift c i = omega (whole, sum (p .x c) (pos (W t c)), g .xs c i, g .rights c i)
 
@@ -64,7 +64,7 @@ module _ (t : Table) (p : Placement) (s : Sights) (sound : Sound t) (g : Sees t 
       most-one (base t p) (base t p c) (subtree t c) (λ y. y ≤ℤ z) (h c i (within-self t sound c))
       (λ a m. h a (subtree-read t c a m .0) (subtree-read t c a m .1))
 
-  bottom-lift : (c : ℕ) → Is t c → Lifts (bottom t p c) (at (s .bottom) c)
+  pub bottom-lift : (c : ℕ) → Is t c → Lifts (bottom t p c) (at (s .bottom) c)
   bottom-lift c i =
       let r = g .bottoms .one c i in
       let low : bottom t p c ≤ℤ base t p (r .cell) =
