@@ -2,3 +2,4 @@ pub mod Tests
 pub mod Searching
 pub mod Looking
 pub mod Widening
+pub mod Judging

@@ -185,11 +185,12 @@ module _ (t : Columns) (fit : Fit (table-of t)) (ps : List ℤ) (near : Near ps 
 
   module _ (s : Sights) (hx : Raised (s .x) 0) (hy : Raised (s .y) 1)
       (hr : Column (s .right) (t .count) (λ c. at (s .x) c + W (table-of t) c)) (hb : Column (s .base) (t .count) (λ c. at (s .y) c + D (table-of t) c)) where
-    pub sighted : Sighted s (t .count)
-    sighted = record {
+    pub sighted : Deepest (table-of t) (at (s .base)) (at (s .bottom)) → Sighted s (t .count)
+    sighted hs = record {
       few = count-few t fit;
       x-small = λ c l. omega (arith, low (s .x) 0 (omega arith) hx c l);
       right-small = λ c l. omega (arith, hr .each c l, low (s .x) 0 (omega arith) hx c l, fit .wide c (is c l) .1);
+      bottom-small = λ c l. let r = hs .one c (is c l) in omega (arith, r .so, bases-short (s .y) (s .base) hy hb .short (r .cell) (in-count (r .cell) (r .is)));
     }
 
     pub sees : (many : List ℕ) → Due (table-of t) (s .base) (s .due) → Deepest (table-of t) (at (s .base)) (at (s .bottom))

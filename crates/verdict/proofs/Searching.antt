@@ -50,12 +50,12 @@ pub broken-found : {v : Verdict} {r a b : ℕ} → v ≡ broken r a b → Broken
 unfolding found-of
 broken-found e = rw e
 
-found-broken : (v : Verdict) (f : Found) {r a b : ℕ} → f ≡ found-of v → f ≡ Broken r a b → v ≡ broken r a b
+pub found-broken : (v : Verdict) (f : Found) {r a b : ℕ} → f ≡ found-of v → f ≡ Broken r a b → v ≡ broken r a b
 unfolding found-of
 found-broken kept f e g = absurd (let z : _≡_ {A = ℕ} 0 1 = cc in omega arith)
 found-broken (broken r a b) f e g = cc
 
-found-kept : (v : Verdict) (f : Found) → f ≡ found-of v → f ≡ Kept → v ≡ kept
+pub found-kept : (v : Verdict) (f : Found) → f ≡ found-of v → f ≡ Kept → v ≡ kept
 unfolding found-of
 found-kept kept f e g = refl
 found-kept (broken r a b) f e g = absurd (let z : _≡_ {A = ℕ} 0 1 = cc in omega arith)

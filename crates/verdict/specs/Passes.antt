@@ -38,6 +38,7 @@ pub record Sighted (s : Sights) (n : ℕ) : Type 0 where
   pub few : n ≤ 256
   pub x-small : (c : ℕ) → c < n → getD (s .x) c 0 < 2 ^ 31
   pub right-small : (c : ℕ) → c < n → getD (s .right) c 0 < 2 ^ 31
+  pub bottom-small : (c : ℕ) → c < n → getD (s .bottom) c 0 < 2 ^ 31
 
 -- S1, at a cell: it is as far down as is due, and the root in column 0
 unfoldable pub pass1 : ℕ → ℕ → View → Bool

@@ -53,7 +53,7 @@ heads-of-requires c κs = (c .before .before .before .before .before .before .be
 
 -- src/sights.rt:119:1
 returns : tie.Need-returns
-returns c = (sees (c .before .before .before .before .before .before .before .before .before .before .before .before .before .before .before .before .before .before .before .args .t) (c .before .before .before .before .before .before .before .before .before .before .before .before .before .before .before .before .before .before .before .pre .0) (c .before .before .before .before .before .before .before .before .before .before .before .before .before .before .before .before .before .before .before .args .positions .now) (c .before .before .before .before .before .before .before .before .before .before .before .before .before .before .before .before .before .before .before .pre .1) _ (c .before .before .before .before .before .before .before .before .before .before .before .before .before .before .before .before .before .before .raised .ensures) (c .before .before .before .before .before .before .before .before .before .before .before .before .before .before .before .before .before .raised2 .ensures) (c .before .before .before .before .before .before .before .before .before .before .before .before .before .before .before .before .edges-of .ensures .0) (c .before .before .before .before .before .before .before .before .before .before .before .before .before .before .before .before .edges-of .ensures .1) (c .before .before .before .before .before .number .result .many) (c .before .before .before .before .before .before .before .before .before .before .before .before .before .dues .ensures) (c .before .before .before .before .before .before .before .before .before .before .before .before .sink .ensures) (c .before .before .before .before .before .before .before .before .before .before .lay .ensures) (c .before .before .before .before .before .number .ensures) (c .before .before .heads-of .ensures .0) (c .before .before .heads-of .ensures .1), sighted (c .before .before .before .before .before .before .before .before .before .before .before .before .before .before .before .before .before .before .before .args .t) (c .before .before .before .before .before .before .before .before .before .before .before .before .before .before .before .before .before .before .before .pre .0) (c .before .before .before .before .before .before .before .before .before .before .before .before .before .before .before .before .before .before .before .args .positions .now) (c .before .before .before .before .before .before .before .before .before .before .before .before .before .before .before .before .before .before .before .pre .1) _ (c .before .before .before .before .before .before .before .before .before .before .before .before .before .before .before .before .before .before .raised .ensures) (c .before .before .before .before .before .before .before .before .before .before .before .before .before .before .before .before .before .raised2 .ensures) (c .before .before .before .before .before .before .before .before .before .before .before .before .before .before .before .before .edges-of .ensures .0) (c .before .before .before .before .before .before .before .before .before .before .before .before .before .before .before .before .edges-of .ensures .1))
+returns c = (sees (c .before .before .before .before .before .before .before .before .before .before .before .before .before .before .before .before .before .before .before .args .t) (c .before .before .before .before .before .before .before .before .before .before .before .before .before .before .before .before .before .before .before .pre .0) (c .before .before .before .before .before .before .before .before .before .before .before .before .before .before .before .before .before .before .before .args .positions .now) (c .before .before .before .before .before .before .before .before .before .before .before .before .before .before .before .before .before .before .before .pre .1) _ (c .before .before .before .before .before .before .before .before .before .before .before .before .before .before .before .before .before .before .raised .ensures) (c .before .before .before .before .before .before .before .before .before .before .before .before .before .before .before .before .before .raised2 .ensures) (c .before .before .before .before .before .before .before .before .before .before .before .before .before .before .before .before .edges-of .ensures .0) (c .before .before .before .before .before .before .before .before .before .before .before .before .before .before .before .before .edges-of .ensures .1) (c .before .before .before .before .before .number .result .many) (c .before .before .before .before .before .before .before .before .before .before .before .before .before .dues .ensures) (c .before .before .before .before .before .before .before .before .before .before .before .before .sink .ensures) (c .before .before .before .before .before .before .before .before .before .before .lay .ensures) (c .before .before .before .before .before .number .ensures) (c .before .before .heads-of .ensures .0) (c .before .before .heads-of .ensures .1), sighted (c .before .before .before .before .before .before .before .before .before .before .before .before .before .before .before .before .before .before .before .args .t) (c .before .before .before .before .before .before .before .before .before .before .before .before .before .before .before .before .before .before .before .pre .0) (c .before .before .before .before .before .before .before .before .before .before .before .before .before .before .before .before .before .before .before .args .positions .now) (c .before .before .before .before .before .before .before .before .before .before .before .before .before .before .before .before .before .before .before .pre .1) _ (c .before .before .before .before .before .before .before .before .before .before .before .before .before .before .before .before .before .before .raised .ensures) (c .before .before .before .before .before .before .before .before .before .before .before .before .before .before .before .before .before .raised2 .ensures) (c .before .before .before .before .before .before .before .before .before .before .before .before .before .before .before .before .edges-of .ensures .0) (c .before .before .before .before .before .before .before .before .before .before .before .before .before .before .before .before .edges-of .ensures .1) (c .before .before .before .before .before .before .before .before .before .before .before .before .sink .ensures))
 
 pub look-spec : {M : Type 1} → statement M
 look-spec =
