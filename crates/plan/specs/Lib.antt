@@ -20,3 +20,4 @@ pub mod Siblings
 pub mod Sums
 pub mod Bottoms
 pub mod Near
+pub mod TableLaws

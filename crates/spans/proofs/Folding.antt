@@ -10,7 +10,7 @@ use Rattle.plan.specs.Fit.{Fit}
 use Rattle.plan.specs.Columns.{table-of}
 use Rattle.spans.specs.Columns.{at, all, all-long, all-at, put, sum-to, sum-suc, sum-part}
 use Rattle.spans.specs.Sizes.{Sized, Folded, folded-start, folded-next, folded-end}
-use Rattle.spans.proofs.Parents.{length-is, count-some, count-few, child-of, parent-lower}
+use Rattle.plan.specs.TableLaws.{length-is, count-some, count-few, child-of, parent-lower}
 
 pub record Folding (t : Columns) (c : ℕ) (size rest near head : List ℕ) : Type 0 where
   pub low : 1 ≤ c

@@ -16,7 +16,7 @@ use Rattle.spans.specs.Sizes.{Sized}
 use Rattle.spans.specs.Spans.{Spans}
 use Rattle.spans.specs.Laid as pass
 use Rattle.spans.specs.Laid.{Laid, laid-start, laid-next}
-use Rattle.spans.proofs.Parents.{length-is, count-some, count-few, child-of, parent-lower}
+use Rattle.plan.specs.TableLaws.{length-is, count-some, count-few, child-of, parent-lower}
 
 pub record Laying (t : Columns) (s : Sizes) (c : ℕ) (first end from to tail : List ℕ) : Type 0 where
   pub low : 1 ≤ c

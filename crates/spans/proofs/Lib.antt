@@ -1,4 +1,3 @@
-pub mod Parents
 pub mod Folding
 pub mod Laying
 pub mod Sinking

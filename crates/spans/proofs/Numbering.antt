@@ -11,7 +11,7 @@ use Rattle.plan.specs.Fit.{Fit}
 use Rattle.plan.specs.Columns.{table-of}
 use Rattle.spans.specs.Columns.{at, all, all-long, all-at, put}
 use Rattle.spans.specs.Counted.{Counted, Counting, counting-start, counting-next, counted}
-use Rattle.spans.proofs.Parents.{length-is, count-some, count-few, child-of, parent-lower}
+use Rattle.plan.specs.TableLaws.{length-is, count-some, count-few, child-of, parent-lower}
 
 pub record Numbering (t : Columns) (c : ℕ) (nth many : List ℕ) : Type 0 where
   pub low : 1 ≤ c

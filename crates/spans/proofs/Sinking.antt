@@ -9,7 +9,7 @@ use Rattle.plan.specs.Fit.{Fit}
 use Rattle.plan.specs.Columns.{table-of}
 use Rattle.spans.specs.Columns.{at, put}
 use Rattle.spans.specs.Deepest.{Deepest, Sunk, sunk-start, sunk-next, deepest}
-use Rattle.spans.proofs.Parents.{length-is, count-some, count-few, child-of, parent-lower}
+use Rattle.plan.specs.TableLaws.{length-is, count-some, count-few, child-of, parent-lower}
 
 pub record Sinking (t : Columns) (bases : List ℕ) (c : ℕ) (bottoms : List ℕ) : Type 0 where
   pub low : 1 ≤ c

@@ -17,7 +17,7 @@ use Rattle.plan.specs.Columns.{table-of}
 use Rattle.rules.specs.Search.{Verdict, kept, broken}
 use Rattle.rules.specs.Verdict.{verdict, answer}
 use Rattle.spans.specs.Columns.{at}
-use Rattle.spans.proofs.Parents.{length-is, count-few, count-some}
+use Rattle.plan.specs.TableLaws.{length-is, count-few, count-some}
 use Rattle.verdict.specs.declared.Checked.{Checked}
 use Rattle.verdict.specs.declared.Checked.the-variants as checked
 use Rattle.verdict.specs.declared.search.Sights.{Sights}
@@ -26,7 +26,8 @@ use Rattle.verdict.specs.declared.search.Found.the-variants.{Kept, Broke
 use Rattle.verdict.specs.Passes.{Sighted, found-of, all-found}
 use Rattle.verdict.specs.Sees.{Sees}
 use Rattle.verdict.specs.Spread.{Bounds, Spread}
-use Rattle.verdict.specs.Checked.{placement-of, answered, unless}
+use Rattle.rules.specs.Positions.{placement-of}
+use Rattle.verdict.specs.Checked.{answered, unless}
 use Rattle.verdict.specs.Meaning.{found-verdict}
 use Rattle.verdict.specs.CheckedLaws as laws
 use Rattle.verdict.proofs.Searching.{found-broken, found-kept}

@@ -17,16 +17,15 @@ use Rattle.plan.specs.PlanLaws.{Child}
 use Rattle.plan.specs.Fit.{Fit}
 use Rattle.plan.specs.Near.{Near}
 use Rattle.plan.specs.Columns.{table-of}
-use Rattle.plan.specs.ColumnLaws as laws
 use Rattle.plan.specs.Trees.{Column}
 use Rattle.spans.specs.Columns.{at, all, all-long, Put, put}
-use Rattle.spans.proofs.Parents.{length-is, parent-is, parent-lower, count-some, count-few, child-of}
+use Rattle.plan.specs.TableLaws.{length-is, parent-is, kind-is, width-is, depth-is, parent-lower, count-some, count-few, child-of}
 use Rattle.spans.specs.Order.{children-few}
 use Rattle.spans.specs.Counted.{Counted}
 use Rattle.spans.specs.Deepest.{Deepest}
 use Rattle.spans.specs.Spans.{Spans}
 use Rattle.verdict.specs.declared.search.Sights.{Sights}
-use Rattle.verdict.specs.Checked.{placement-of}
+use Rattle.rules.specs.Positions.{placement-of}
 use Rattle.verdict.specs.Passes.{Sighted}
 use Rattle.verdict.specs.Sees.{Lifts, Short, Due, Sees}
 
@@ -60,16 +59,6 @@ pub low-lift : (z : ℤ) → Within farthest z → bias farthest z ≤ farthest 
 low-lift z w = omega (whole, w .high)
 
 -- ---- boxes
-module _ (t : Columns) where
-  pub kind-is : (c : ℕ) → c < t .count → getD (t .kind) c 0 ≡ kind (table-of t) c
-  kind-is c h = sym (laws.kind-at (t .parent) (t .kind) (t .width) (t .depth) (t .count) c h)
-
-  pub width-is : (c : ℕ) → c < t .count → getD (t .width) c 0 ≡ W (table-of t) c
-  width-is c h = sym (laws.width-at (t .parent) (t .kind) (t .width) (t .depth) (t .count) c h)
-
-  pub depth-is : (c : ℕ) → c < t .count → getD (t .depth) c 0 ≡ D (table-of t) c
-  depth-is c h = sym (laws.depth-at (t .parent) (t .kind) (t .width) (t .depth) (t .count) c h)
-
 pub record Edging (t : Columns) (x y : List ℕ) (c : ℕ) (right base : List ℕ) : Type 0 where
   pub high : c ≤ t .count
   pub few : t .count ≤ 256
@@ -157,7 +146,7 @@ module _ (t : Columns) (fit : Fit (table-of t)) (many : List ℕ) where
     high = omega arith;
     few = h .few;
     heads = made-next v (h .heads) (omega (arith, h .few)) (e ∙ sym (parent-is t c l));
-    middles = made-next w (h .middles) (omega (arith, h .few)) (f ∙ ap (λ (k : ℕ). appointed k (at many c)) (kind-is t c l));
+    middles = made-next w (h .middles) (omega (arith, h .few)) (f ∙ ap (λ (k : ℕ). appointed k (at many c)) (sym (kind-is t c l)));
   }
 
 -- ---- all the columns

@@ -1,22 +1,17 @@
 -- Check's answer: document 01's numbers and values for each case. Assumes nothing.
 use mathlib.Core.List.{List}
 use mathlib.Core.Bool.{cond}
-use Prim.Native.Nat.{ℕ, _+_, _*_}
+use Prim.Native.Nat.{ℕ}
 use lib.Dec.{eqb}
-use lib.ListN.{getD}
-use lib.IntN.{ℤ, pos}
+use lib.IntN.{ℤ}
 use Rattle.whole.specs.Whole.{plus}
 use Rattle.plan.specs.Plan.{Table}
 use Rattle.plan.specs.Questions.{refusal, check, check-given}
 use Rattle.plan.specs.declared.Refusal.{Refusal}
-use Rattle.rules.specs.Placement.{Placement}
+use Rattle.rules.specs.Positions.{placement-of}
 use Rattle.rules.specs.Verdict.{Answer, fine, faulty, answer}
 use Rattle.verdict.specs.declared.Checked.{Checked}
 use Rattle.verdict.specs.declared.Checked.the-variants.{Kept, Broken, Refused}
-
--- the placement that positions give: x then y of each cell
-abbrev pub placement-of : List ℤ → Placement
-placement-of ps = record { x = λ c. getD ps (2 * c) (pos 0); y = λ c. getD ps (2 * c + 1) (pos 0) }
 
 -- "kept" with width and rows, which are not negative where no question refuses (CheckedLaws); "broken" with rule, a and b
 unfoldable pub answered : Answer → Checked

@@ -25,7 +25,8 @@ use Rattle.rules.specs.Extents.{width-le, width-ge}
 use Rattle.spans.specs.Columns.{at}
 use Rattle.verdict.specs.declared.Checked.the-variants.{Kept, Broken}
 use Rattle.verdict.specs.declared.search.Sights.{Sights}
-use Rattle.verdict.specs.Checked.{placement-of, answered}
+use Rattle.rules.specs.Positions.{placement-of}
+use Rattle.verdict.specs.Checked.{answered}
 use Rattle.verdict.specs.Sees.{Sees}
 use Rattle.verdict.specs.Spread.{Bounds, Spread}
 use Rattle.verdict.specs.Meaning.{right-lift, bottom-lift}

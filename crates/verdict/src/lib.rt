@@ -19,7 +19,8 @@ ghost use Rattle.plan.specs.Fit.{Fit};
 ghost use Rattle.plan.specs.Near.{Near};
 ghost use Rattle.plan.specs.Questions.{refusal, check, «check-given»};
 ghost use Rattle.rules.specs.Verdict.{answer};
-ghost use Rattle.verdict.specs.Checked.{«placement-of», «answered», «checked-of»};
+ghost use Rattle.rules.specs.Positions.{«placement-of»};
+ghost use Rattle.verdict.specs.Checked.{«answered», «checked-of»};
 ghost use Rattle.verdict.specs.Spread.{Bounds, Spread};
 
 // Kept: width and rows. Broken: rule, a and b. Refused: number and cell.

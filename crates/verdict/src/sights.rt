@@ -21,7 +21,7 @@ ghost use Rattle.plan.specs.Fit.{Fit};
 ghost use Rattle.plan.specs.Near.{Near};
 ghost use Rattle.plan.specs.Trees.{Column};
 ghost use Rattle.verdict.specs.Passes.{Sighted};
-ghost use Rattle.verdict.specs.Checked.{«placement-of»};
+ghost use Rattle.rules.specs.Positions.{«placement-of»};
 ghost use Rattle.verdict.specs.Sees.{Sees, Short, Due};
 
 // The right edge and the last row of each box.

@@ -1,6 +1,6 @@
 use Rattle.spans.proofs.Laying.{Laying, laying-starts, rest-fits, tail-fits, near-fits, laying-turns, laying-ends}
 use Prim.Native.Nat.{_-_}
-use Rattle.spans.proofs.Parents.{parent-lower}
+use Rattle.plan.specs.TableLaws.{parent-lower}
 use native.Mathlib.Omega.{arith}
 use borrow.Author.Needs.{needs}
 use Rattle.spans.proofs.lay.Statement.{statement}

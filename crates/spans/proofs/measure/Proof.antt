@@ -1,5 +1,5 @@
 use Rattle.spans.proofs.Folding.{Folding, folding-starts, size-some, size-fits, folding-turns, folding-ends}
-use Rattle.spans.proofs.Parents.{parent-lower}
+use Rattle.plan.specs.TableLaws.{parent-lower}
 use native.Mathlib.Omega.{arith}
 use lib.ListN.{length-set}
 use borrow.Author.Needs.{needs}

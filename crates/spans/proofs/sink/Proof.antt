@@ -1,5 +1,5 @@
 use Rattle.spans.proofs.Sinking.{Sinking, sinking-starts, sinking-turns, sinking-ends}
-use Rattle.spans.proofs.Parents.{parent-lower}
+use Rattle.plan.specs.TableLaws.{parent-lower}
 use native.Mathlib.Omega.{arith}
 use borrow.Author.Needs.{needs}
 use Rattle.spans.proofs.sink.Statement.{statement}

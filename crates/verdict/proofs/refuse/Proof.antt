@@ -1,5 +1,5 @@
 use Prim.Native.Nat.{ℕ}
-use Rattle.spans.proofs.Parents.{length-is, count-few}
+use Rattle.plan.specs.TableLaws.{length-is, count-few}
 use Rattle.plan.specs.Steps.{near-refusal}
 use Rattle.plan.specs.FitLaws.{lent-fit}
 use Rattle.plan.specs.CallLaws.{check-refusal}

@@ -1,5 +1,5 @@
 use Rattle.verdict.proofs.Looking.{Duing, duing-starts, duing-turns, duing-ends, base-low}
-use Rattle.spans.proofs.Parents.{parent-lower}
+use Rattle.plan.specs.TableLaws.{parent-lower}
 use Prim.Native.Nat.{_-_}
 use native.Mathlib.Omega.{arith}
 use borrow.Author.Needs.{needs}

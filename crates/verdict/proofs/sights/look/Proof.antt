@@ -1,5 +1,5 @@
 use Rattle.verdict.proofs.Looking.{raised-short, bases-short, many-short, sees, sighted}
-use Rattle.spans.proofs.Parents.{count-few}
+use Rattle.plan.specs.TableLaws.{count-few}
 use native.Mathlib.Omega.{arith}
 use borrow.Author.Needs.{needs}
 use Rattle.verdict.proofs.sights.look.Statement.{statement}

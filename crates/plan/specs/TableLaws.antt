@@ -1,14 +1,14 @@
--- The parents of a table in columns. Assumes nothing.
+-- What a table in columns holds, read off the columns. Assumes nothing.
 use mathlib.Core.Path.{_≡_, sym, _∙_}
 use Prim.Native.Nat.{ℕ, _≤_, _<_}
 use native.Mathlib.Omega.{arith}
 use lib.ListN.{length, getD}
 use Rattle.plan.specs.declared.Columns.{Columns}
-use Rattle.plan.specs.Plan.{Is, parent}
+use Rattle.plan.specs.Plan.{parent, kind, W, D}
 use Rattle.plan.specs.PlanLaws.{Child}
 use Rattle.plan.specs.Fit.{Fit}
 use Rattle.plan.specs.Columns.{table-of}
 use Rattle.plan.specs.ColumnLaws as laws
 
 module _ (t : Columns) where
   pub length-is : length (table-of t) ≡ t .count
@@ -16,6 +16,15 @@ module _ (t : Columns) where
 
   pub parent-is : (c : ℕ) → c < t .count → parent (table-of t) c ≡ getD (t .parent) c 0
   parent-is c h = laws.parent-at (t .parent) (t .kind) (t .width) (t .depth) (t .count) c h
+
+  pub kind-is : (c : ℕ) → c < t .count → kind (table-of t) c ≡ getD (t .kind) c 0
+  kind-is c h = laws.kind-at (t .parent) (t .kind) (t .width) (t .depth) (t .count) c h
+
+  pub width-is : (c : ℕ) → c < t .count → W (table-of t) c ≡ getD (t .width) c 0
+  width-is c h = laws.width-at (t .parent) (t .kind) (t .width) (t .depth) (t .count) c h
+
+  pub depth-is : (c : ℕ) → c < t .count → D (table-of t) c ≡ getD (t .depth) c 0
+  depth-is c h = laws.depth-at (t .parent) (t .kind) (t .width) (t .depth) (t .count) c h
 
   module _ (fit : Fit (table-of t)) where
     pub count-some : 1 ≤ t .count
