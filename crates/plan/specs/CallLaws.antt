@@ -19,40 +19,44 @@ use Rattle.plan.specs.QuestionLaws.{first-none, first-some, each-same}
 use Rattle.plan.specs.Steps.{cell-refusal, cells-refusal, children-refusal, levels-refusal, rows-refusal, tree-refusal, table-refusal, lent-refusal, near-refusal}
 
 -- the last question
-asked-last : (n : ℕ) (b : Bool) (c : ℕ) → or-else (asked (suc n) b c) none ≡ asked (suc n) b c
+pub asked-last : (n : ℕ) (b : Bool) (c : ℕ) → or-else (asked (suc n) b c) none ≡ asked (suc n) b c
 unfolding asked
 asked-last n true c = first-none none none refl
 asked-last n false c = first-some (record { number = suc n; cell = c }) none (omega arith)
 
-and-true : (b : Bool) → b && true ≡ b
+pub and-true : (b : Bool) → b && true ≡ b
 and-true true = refl
 and-true false = refl
 
-or-assoc : (a b c : Refusal) → or-else (or-else a b) c ≡ or-else a (or-else b c)
+pub or-assoc : (a b c : Refusal) → or-else (or-else a b) c ≡ or-else a (or-else b c)
 or-assoc a b c = go (ℕ-discrete (a .number) 0)
   where
     go : Dec (a .number ≡ 0) → or-else (or-else a b) c ≡ or-else a (or-else b c)
     go (yes z) = rw (first-none a b z, first-none a (or-else b c) z)
     go (no z) = rw (first-some a b z, first-some a c z, first-some a (or-else b c) z)
 
-none-first : (r : Refusal) → or-else none r ≡ r
+pub none-first : (r : Refusal) → or-else none r ≡ r
 none-first r = first-none none r refl
 
-each-nothing : (f : ℕ → Refusal) (k d : ℕ) → ((c : ℕ) → f c ≡ none) → at-each f k d ≡ none
+pub each-nothing : (f : ℕ → Refusal) (k d : ℕ) → ((c : ℕ) → f c ≡ none) → at-each f k d ≡ none
 unfolding at-each
 each-nothing f k zero h = refl
 each-nothing f k (suc d) h = cc (h k, each-nothing f (suc k) d h, none-first none)
 
--- a call that puts 6 to 8 and 11 to 13, and not 9 and 10: what it does with the table
+-- a call that puts 11 to 13
+pub record Treed (call : Call) : Type 0 where
+  pub p11 : mem 11 (puts call) ≡ true
+  pub p12 : mem 12 (puts call) ≡ true
+  pub p13 : mem 13 (puts call) ≡ true
+
+-- a call that puts 6 to 8 besides, and not 9 and 10
 pub record Tabled (call : Call) : Type 0 where
   pub p6 : mem 6 (puts call) ≡ true
   pub p7 : mem 7 (puts call) ≡ true
   pub p8 : mem 8 (puts call) ≡ true
   pub p9 : mem 9 (puts call) ≡ false
   pub p10 : mem 10 (puts call) ≡ false
-  pub p11 : mem 11 (puts call) ≡ true
-  pub p12 : mem 12 (puts call) ≡ true
-  pub p13 : mem 13 (puts call) ≡ true
+  pub treed : Treed call
 
 module _ (call : Call) (g : Given) where
   pub put-one : (q : Question) (c : ℕ) → mem (number q) (puts call) ≡ true → ask-all call g (q ∷ []) c ≡ or-else (ask call g q c) none
@@ -63,32 +67,44 @@ module _ (call : Call) (g : Given) where
   unfolding ask-all
   put-none q c h = rw h
 
+  pub tree-steps : Treed call → (rest : Refusal)
+      → or-else (take-step call g (each (children-allowed ∷ [])))
+      (or-else (take-step call g (each (level-low ∷ [])))
+      (or-else (take-step call g (each (rows-few ∷ []))) rest))
+      ≡ or-else (tree-refusal (g .table)) rest
+  unfolding take-step tree-refusal children-refusal levels-refusal rows-refusal ask holds number
+  tree-steps h rest =
+      let n = length (g .table) in
+      let b = each-same (ask-all call g (children-allowed ∷ [])) _ n (λ c i. put-one children-allowed c (h .p11) ∙ asked-last 10 _ c) in
+      let d = each-same (ask-all call g (level-low ∷ [])) _ n (λ c i. put-one level-low c (h .p12) ∙ asked-last 11 _ c) in
+      let e = each-same (ask-all call g (rows-few ∷ [])) _ n (λ c i. put-one rows-few c (h .p13) ∙ asked-last 12 _ c) in
+      simp or-assoc (cc (b, d, e))
+
   module _ (h : Tabled call) where
     at-cells : (c : ℕ) → ask-all call g (parent-lower ∷ kind-known ∷ box-sized ∷ label-inside ∷ label-fits ∷ []) c
         ≡ cell-refusal c (parent (g .table) c) (kind (g .table) c) (W (g .table) c) (D (g .table) c)
     unfolding ask-all ask holds number cell-refusal
-    at-cells c = rw (h .p6, h .p7, h .p8, h .p9, h .p10) (ap (λ (x : Refusal). or-else (asked 6 (lower c (parent (g .table) c)) c) (or-else (asked 7 (known (kind (g .table) c)) c) x)) (asked-last 7 _ c))
+    at-cells c =
+        rw (h .p6, h .p7, h .p8, h .p9, h .p10)
+        (ap (λ (x : Refusal). or-else (asked 6 (lower c (parent (g .table) c)) c) (or-else (asked 7 (known (kind (g .table) c)) c) x)) (asked-last 7 _ c))
 
-    pub table-steps : (rest : Refusal)
+    table-steps : (rest : Refusal)
         → or-else (take-step call g (each (parent-lower ∷ kind-known ∷ box-sized ∷ label-inside ∷ label-fits ∷ [])))
         (or-else (take-step call g (each (children-allowed ∷ [])))
         (or-else (take-step call g (each (level-low ∷ [])))
         (or-else (take-step call g (each (rows-few ∷ []))) rest)))
         ≡ or-else (table-refusal (g .table)) rest
-    unfolding take-step table-refusal tree-refusal cells-refusal children-refusal levels-refusal rows-refusal ask holds number
+    unfolding take-step table-refusal cells-refusal
     table-steps rest =
-        let n = length (g .table) in
-        let a = each-same (ask-all call g (parent-lower ∷ kind-known ∷ box-sized ∷ label-inside ∷ label-fits ∷ [])) _ n (λ c i. at-cells c) in
-        let b = each-same (ask-all call g (children-allowed ∷ [])) _ n (λ c i. put-one children-allowed c (h .p11) ∙ asked-last 10 _ c) in
-        let d = each-same (ask-all call g (level-low ∷ [])) _ n (λ c i. put-one level-low c (h .p12) ∙ asked-last 11 _ c) in
-        let e = each-same (ask-all call g (rows-few ∷ [])) _ n (λ c i. put-one rows-few c (h .p13) ∙ asked-last 12 _ c) in
-        simp or-assoc (cc (a, b, d, e))
+        let a = each-same (ask-all call g (parent-lower ∷ kind-known ∷ box-sized ∷ label-inside ∷ label-fits ∷ [])) _ (length (g .table)) (λ c i. at-cells c) in
+        let b = tree-steps (h .treed) rest in
+        simp or-assoc (cc (a, b))
 
-asked-true : (n c : ℕ) → asked (suc n) true c ≡ none
+pub asked-true : (n c : ℕ) → asked (suc n) true c ≡ none
 unfolding asked
 asked-true n c = refl
 
-each-last : (f : ℕ → Refusal) (k d : ℕ) → ((c : ℕ) → or-else (f c) none ≡ f c) → or-else (at-each f k d) none ≡ at-each f k d
+pub each-last : (f : ℕ → Refusal) (k d : ℕ) → ((c : ℕ) → or-else (f c) none ≡ f c) → or-else (at-each f k d) none ≡ at-each f k d
 unfolding at-each
 each-last f k zero h = none-first none
 each-last f k (suc d) h = go (ℕ-discrete (f k .number) 0) (each-last f (suc k) d h)
@@ -106,16 +122,16 @@ unfolding lent-refusal
 lent-then t p rest = simp or-assoc
 
 module _ (call : Call) (g : Given) where
-  step-none : (q : Question) → mem (number q) (puts call) ≡ false → take-step call g (each (q ∷ [])) ≡ none
+  pub step-none : (q : Question) → mem (number q) (puts call) ≡ false → take-step call g (each (q ∷ [])) ≡ none
   unfolding take-step
   step-none q h = each-nothing (ask-all call g (q ∷ [])) 0 (length (g .table)) (λ c. put-none call g q c h)
 
-  once-none : (q : Question) → mem (number q) (puts call) ≡ false → take-step call g (once q) ≡ none
+  pub once-none : (q : Question) → mem (number q) (puts call) ≡ false → take-step call g (once q) ≡ none
   unfolding take-step
   once-none q h = put-none call g q 0 h
 
   -- a question put once, answered b
-  once-put : (q : Question) (n : ℕ) (b : Bool) → number q ≡ suc n → holds call g q 0 ≡ b → mem (number q) (puts call) ≡ true → take-step call g (once q) ≡ asked (suc n) b 0
+  pub once-put : (q : Question) (n : ℕ) (b : Bool) → number q ≡ suc n → holds call g q 0 ≡ b → mem (number q) (puts call) ≡ true → take-step call g (once q) ≡ asked (suc n) b 0
   unfolding take-step ask
   once-put q n b e f h = put-one call g q 0 h ∙ rw (e, f) (asked-last n b 0)
 
@@ -127,7 +143,7 @@ module _ (call : Call) (g : Given) where
 module _ (t : Table) where
   layout-puts : Tabled layout
   unfolding puts mem some
-  layout-puts = record { p6 = refl; p7 = refl; p8 = refl; p9 = refl; p10 = refl; p11 = refl; p12 = refl; p13 = refl }
+  layout-puts = record { p6 = refl; p7 = refl; p8 = refl; p9 = refl; p10 = refl; treed = record { p11 = refl; p12 = refl; p13 = refl } }
 
   pub layout-refusal : (al s p : ℕ) → refusal layout (layout-given t al s p) ≡ or-else (asked 1 (leb scratch-size s) 0) (or-else (lent-refusal t p) (asked 14 (leb al most-allowance) 0))
   unfolding refusal sequence take-steps number puts mem some from holds enough in-file layout-given
@@ -151,7 +167,7 @@ module _ (t : Table) where
 
   check-puts : Tabled check
   unfolding puts mem some
-  check-puts = record { p6 = refl; p7 = refl; p8 = refl; p9 = refl; p10 = refl; p11 = refl; p12 = refl; p13 = refl }
+  check-puts = record { p6 = refl; p7 = refl; p8 = refl; p9 = refl; p10 = refl; treed = record { p11 = refl; p12 = refl; p13 = refl } }
 
   pub check-refusal : (al : ℕ) (ps : List ℤ) → refusal check (check-given t al ps) ≡ or-else (lent-refusal t (length ps)) (or-else (asked 14 (leb al most-allowance) 0) (near-refusal ps (length t)))
   unfolding refusal sequence take-steps number puts mem some from holds enough in-file check-given
@@ -176,7 +192,7 @@ module _ (t : Table) where
 
   ends-puts : Tabled ends
   unfolding puts mem some
-  ends-puts = record { p6 = refl; p7 = refl; p8 = refl; p9 = refl; p10 = refl; p11 = refl; p12 = refl; p13 = refl }
+  ends-puts = record { p6 = refl; p7 = refl; p8 = refl; p9 = refl; p10 = refl; treed = record { p11 = refl; p12 = refl; p13 = refl } }
 
   pub ends-refusal : (ps : List ℤ) (c : ℕ) → refusal ends (ends-given t ps c)
       ≡ or-else (lent-refusal t (length ps)) (or-else (near-refusal ps (length t)) (asked 16 (ltb c (length t) && ltb 0 c) 0))

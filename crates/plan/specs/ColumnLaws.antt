@@ -9,12 +9,13 @@ use Rattle.plan.specs.Lists.{from}
 use Rattle.plan.specs.Plan.{Cell, Table, blank, parent, kind, W, D}
 use Rattle.plan.specs.Columns.{table}
 
-length-from : (f : ℕ → Cell) (k d : ℕ) → length (map f (from k d)) ≡ d
+-- a list made number by number
+pub length-from {ℓ} : {A : Type ℓ} (f : ℕ → A) (k d : ℕ) → length (map f (from k d)) ≡ d
 unfolding from
 length-from f k zero = refl
 length-from f k (suc d) = ap suc (length-from f (suc k) d)
 
-getD-from : (f : ℕ → Cell) (z : Cell) (k d i : ℕ) → i < d → getD (map f (from k d)) i z ≡ f (k + i)
+pub getD-from {ℓ} : {A : Type ℓ} (f : ℕ → A) (z : A) (k d i : ℕ) → i < d → getD (map f (from k d)) i z ≡ f (k + i)
 unfolding from
 getD-from f z k zero i h = absurd (omega arith)
 getD-from f z k (suc d) zero h = let e : k + 0 ≡ k = omega arith in rw e

@@ -3,6 +3,7 @@ pub mod Lists
 pub mod Plan
 pub mod Kinds
 pub mod KindLaws
+pub mod Records
 pub mod Columns
 pub mod ColumnLaws
 pub mod Questions

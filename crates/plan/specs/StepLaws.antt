@@ -56,11 +56,11 @@ cell-passed c p k w d e =
     let (y, z) = both-none (asked 7 (known k) c) _ r in
     record { is-lower = asked-yes 5 _ c x; is-known = asked-yes 6 _ c y; is-sized = asked-yes 7 _ c z }
 
-and-left : (a b : Bool) → T (a && b) → T a
+pub and-left : (a b : Bool) → T (a && b) → T a
 and-left true b h = tt
 and-left false b h = h
 
-and-right : (a b : Bool) → T (a && b) → T b
+pub and-right : (a b : Bool) → T (a && b) → T b
 and-right true b h = h
 and-right false b h = absurd h
 

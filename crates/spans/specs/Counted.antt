@@ -12,7 +12,7 @@ use Rattle.plan.specs.Lists.{At}
 use Rattle.plan.specs.ListLaws.{at-less, at-getD, at-same}
 use Rattle.plan.specs.Plan.{Table, Is, kind, parent, children, child, appointed}
 use Rattle.plan.specs.PlanLaws.{Child, child-read, child-show, child-place, appointed-at, appointed-half}
-use Rattle.rules.specs.Verdict.{flush}
+use Rattle.rules.specs.Tests.{flush}
 use Rattle.spans.specs.Columns.{Put}
 use Rattle.spans.specs.Order.{children-rise}
 

@@ -15,7 +15,7 @@ use Rattle.plan.specs.Plan.{Table, Is, Sound, parent, children, path, within, n
 use Rattle.plan.specs.PlanLaws.{child-read, child-show}
 use Rattle.plan.specs.Paths.{Below, within-below, below-is, below-within, child-less}
 use Rattle.plan.specs.Siblings.{Elder, Earlier, says-earlier, Neighbours, says-next}
-use Rattle.rules.specs.Verdict.{after-one, before-one}
+use Rattle.rules.specs.Tests.{after-one, before-one}
 use Rattle.spans.specs.Kin.{Kin, kin}
 
 pub record Spans (t : Table) (first end from to : ℕ → ℕ) : Type 0 where

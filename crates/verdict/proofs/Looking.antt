@@ -25,7 +25,7 @@ use Rattle.spans.specs.Counted.{Counted}
 use Rattle.spans.specs.Deepest.{Deepest}
 use Rattle.spans.specs.Spans.{Spans}
 use Rattle.verdict.specs.declared.search.Sights.{Sights}
-use Rattle.rules.specs.Positions.{placement-of}
+use Rattle.rules.specs.Placement.{placed}
 use Rattle.verdict.specs.Passes.{Sighted}
 use Rattle.verdict.specs.Sees.{Lifts, Short, Due, Sees}
 
@@ -185,7 +185,8 @@ module _ (t : Columns) (fit : Fit (table-of t)) (ps : List ℤ) (near : Near ps 
     pub sees : (many : List ℕ) → Due (table-of t) (s .base) (s .due) → Deepest (table-of t) (at (s .base)) (at (s .bottom))
         → Spans (table-of t) (at (s .first)) (at (s .end)) (at (s .from)) (at (s .to)) → Counted (table-of t) (at (s .nth)) (at many)
         → Column (s .parent) (t .count) (parent (table-of t)) → Column (s .middle) (t .count) (λ c. appointed (kind (table-of t) c) (at many c))
-        → Sees (table-of t) (placement-of ps) s
+        → Sees (table-of t) (placed ps) s
+    unfolding placed
     sees many hd hs sp hn hp hm = record {
       many = at many;
       counted = hn;

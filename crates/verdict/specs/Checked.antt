@@ -8,7 +8,7 @@ use Rattle.whole.specs.Whole.{plus}
 use Rattle.plan.specs.Plan.{Table}
 use Rattle.plan.specs.Questions.{refusal, check, check-given}
 use Rattle.plan.specs.declared.Refusal.{Refusal}
-use Rattle.rules.specs.Positions.{placement-of}
+use Rattle.rules.specs.Placement.{placed}
 use Rattle.rules.specs.Verdict.{Answer, fine, faulty, answer}
 use Rattle.verdict.specs.declared.Checked.{Checked}
 use Rattle.verdict.specs.declared.Checked.the-variants.{Kept, Broken, Refused}
@@ -23,4 +23,4 @@ abbrev pub unless : Refusal → Checked → Checked
 unless r a = cond (eqb (r .number) 0) a (Refused (r .number) (r .cell))
 
 unfoldable pub checked-of : Table → List ℤ → (allowance : ℕ) → Checked
-checked-of t ps al = unless (refusal check (check-given t al ps)) (answered (answer t (placement-of ps) al))
+checked-of t ps al = unless (refusal check (check-given t al ps)) (answered (answer t (placed ps) al))

@@ -25,7 +25,7 @@ use Rattle.rules.specs.Extents.{width-le, width-ge}
 use Rattle.spans.specs.Columns.{at}
 use Rattle.verdict.specs.declared.Checked.the-variants.{Kept, Broken}
 use Rattle.verdict.specs.declared.search.Sights.{Sights}
-use Rattle.rules.specs.Positions.{placement-of}
+use Rattle.rules.specs.Placement.{placed}
 use Rattle.verdict.specs.Checked.{answered}
 use Rattle.verdict.specs.Sees.{Sees}
 use Rattle.verdict.specs.Spread.{Bounds, Spread}

@@ -18,8 +18,10 @@ use Rattle.plan.specs.PlanLaws.{subtree-read, subtree-show}
 use Rattle.plan.specs.Paths.{below-split, within-below, within-self}
 use Rattle.rules.specs.Placement.{Placement, right, base, bottom, most}
 use Rattle.rules.specs.Extremes.{most-all, most-one}
-use Rattle.rules.specs.Search.{Verdict, kept, broken, scan, judge, lowest}
-use Rattle.rules.specs.Verdict.{share, flush, after-one, before-one, kept1, meets, box4, stem4, test, verdict}
+use Rattle.rules.specs.Search.{lowest}
+use Rattle.rules.specs.SearchLaws.{lowest-same}
+use Rattle.rules.specs.Tests.{share, flush, kept1, meets, box4, stem4, test}
+use Rattle.rules.specs.Verdict.{verdict}
 use Rattle.spans.specs.Columns.{at}
 use Rattle.spans.specs.Counted.{flush-is}
 use Rattle.spans.specs.Spans.{earlier-is, after-one-is, before-one-is}
@@ -89,10 +91,7 @@ module _ (t : Table) (p : Placement) (s : Sights) (sound : Sound t) (g : Sees t 
   unfolding base
   base-down c = omega (whole, sum (p .y c) (pos (D t c)))
 
-  -- rows s to e meet b's box or stem: they meet the rows from its y to its bottom
-  Rows : ℤ → ℤ → ℕ → Type 0
-  Rows y e b = (y ≤ℤ e) × (y ≤ℤ bottom t p b) × (p .y b ≤ℤ e)
-
+  -- rows y to e meet b's box or stem: they meet the rows from its y to its bottom
   says-rows : (y e : ℤ) (b : ℕ) → Is t b → Says (meets t p y e b) ((y ≤ℤ e) × (y ≤ℤ bottom t p b) × (p .y b ≤ℤ e))
   unfolding meets share
   says-rows y e b i =
@@ -190,29 +189,8 @@ module _ (t : Table) (p : Placement) (s : Sights) (sound : Sound t) (g : Sees t 
     passes-test (suc (suc (suc (suc (suc zero))))) = only-same (earlier-is t sound (g .spans) a b i j) five
     passes-test (suc (suc (suc (suc (suc (suc r)))))) = refl
 
--- the first verdict, then the others
-then : Verdict → Verdict → Verdict
-then kept w = w
-then (broken r a b) w = broken r a b
-
-scan-suc : (f : ℕ → Verdict) (k d : ℕ) → scan f k (suc d) ≡ then (f k) (scan f (suc k) d)
-unfolding scan then
-scan-suc f k d = go (f k) refl
-  where
-    go : (v : Verdict) → f k ≡ v → scan f k (suc d) ≡ then v (scan f (suc k) d)
-    go kept e = rw (e, scan)
-    go (broken r a b) e = rw (e, scan)
-
-scan-same : (f h : ℕ → Verdict) (k d : ℕ) → ((i : ℕ) → k ≤ i → i < k + d → f i ≡ h i) → scan f k d ≡ scan h k d
-unfolding scan
-scan-same f h k zero e = refl
-scan-same f h k (suc d) e =
-    scan-suc f k d ∙ cc (e k (omega arith) (omega arith), scan-same f h (suc k) d (λ i l m. e i (omega arith) (omega arith))) ∙ sym (scan-suc h k d)
-
 -- what the search finds is the verdict
 pub found-verdict : (t : Table) (p : Placement) (s : Sights) → Sound t → Sees t p s → (al : ℕ) → all-found s al (length t) ≡ verdict t p al
 unfolding all-found rule-found row-found pair verdict lowest
 found-verdict t p s sound g al =
-    scan-same _ _ 1 5 λ r l m.
-    scan-same _ _ 0 (length t) λ a u v.
-    scan-same _ _ 0 (length t) λ b x y. ap (λ (q : Bool). judge q r a b) (passes-test t p s sound g al a b (omega arith) (omega arith) r)
+    lowest-same (λ r a b. passes al r a b (view-of s a) (view-of s b)) (test t p al) (length t) (λ r a b i j. passes-test t p s sound g al a b i j r)

@@ -19,7 +19,7 @@ ghost use Rattle.plan.specs.Fit.{Fit};
 ghost use Rattle.plan.specs.Near.{Near};
 ghost use Rattle.plan.specs.Questions.{refusal, check, «check-given»};
 ghost use Rattle.rules.specs.Verdict.{answer};
-ghost use Rattle.rules.specs.Positions.{«placement-of»};
+ghost use Rattle.rules.specs.Placement.{placed};
 ghost use Rattle.verdict.specs.Checked.{«answered», «checked-of»};
 ghost use Rattle.verdict.specs.Spread.{Bounds, Spread};
 
@@ -75,7 +75,7 @@ fn width_of(right: [u32; 256], x: [u32; 256], n: usize) -> u32
 // The verdict on a placement that no question refuses.
 fn judge(t: Columns, positions: &[i32], allowance: u32) -> Checked
     requires { ⌜ Fit (table-of t) × Near (now positions) (t .count) × (allowance ≤ most-allowance) ⌝ }
-    ensures { λ r. ⌜ r ≡ answered (answer (table-of t) (placement-of (now (positions .entry))) allowance) ⌝ }
+    ensures { λ r. ⌜ r ≡ answered (answer (table-of t) (placed (now (positions .entry))) allowance) ⌝ }
 {
     let s = look(t, positions);
     let found = search(s, t.count, allowance);

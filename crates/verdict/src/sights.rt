@@ -21,7 +21,7 @@ ghost use Rattle.plan.specs.Fit.{Fit};
 ghost use Rattle.plan.specs.Near.{Near};
 ghost use Rattle.plan.specs.Trees.{Column};
 ghost use Rattle.verdict.specs.Passes.{Sighted};
-ghost use Rattle.rules.specs.Positions.{«placement-of»};
+ghost use Rattle.rules.specs.Placement.{placed};
 ghost use Rattle.verdict.specs.Sees.{Sees, Short, Due};
 
 // The right edge and the last row of each box.
@@ -118,7 +118,7 @@ fn heads_of(t: Columns, many: [u32; 256]) -> Heads
 
 pub fn look(t: Columns, positions: &[i32]) -> Sights
     requires { ⌜ Fit (table-of t) × Near (now positions) (t .count) ⌝ }
-    ensures { λ r. ⌜ Sees (table-of t) (placement-of (now (positions .entry))) r × Sighted r (t .count) ⌝ }
+    ensures { λ r. ⌜ Sees (table-of t) (placed (now (positions .entry))) r × Sighted r (t .count) ⌝ }
 {
     let x = raised(positions, t.count, 0);
     let y = raised(positions, t.count, 1);

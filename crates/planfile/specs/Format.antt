@@ -1,0 +1,62 @@
+-- Document 01, "File": what the bytes of a plan file say. Every definition is total; the questions say which files are plans. Assumes nothing.
+use mathlib.Core.List.{List, [], map}
+use Prim.Native.Nat.{ℕ, _+_, _-_, _*_}
+use lib.ListN.{length, getD, take}
+use Rattle.plan.specs.Limits.{record-size, trailer-size}
+use Rattle.plan.specs.Lists.{from}
+use Rattle.plan.specs.Records.{cells-of}
+use Rattle.plan.specs.Questions.{Lent, absent, Label, File, file, Given}
+use Rattle.plan.specs.declared.Record.{Record}
+use Rattle.planfile.specs.declared.Trailer.{Trailer}
+
+-- numbers of two bytes have the low byte first
+unfoldable pub pair : List ℕ → ℕ → ℕ
+pair f at = getD f at 0 + 256 * getD f (at + 1) 0
+
+-- the trailer, the last 8 bytes, which points back: bytes 0-1 the place where the records begin, 2-3 n, 4-5 the allowance, 6-7 the mark
+unfoldable pub trailer-of : List ℕ → Trailer
+trailer-of f =
+    let at = length f - trailer-size in
+    record { begin = pair f at; count = pair f (at + 2); allowance = pair f (at + 4); mark = pair f (at + 6) }
+
+-- the record at a place: bytes 0-1 father, 2 kind, 3 W, 4 D, 5 label length, 6-7 label start
+unfoldable pub record-at : List ℕ → ℕ → Record
+record-at f at =
+    record {
+      parent = pair f at;
+      kind = getD f (at + 2) 0;
+      width = getD f (at + 3) 0;
+      depth = getD f (at + 4) 0;
+      «label_length» = getD f (at + 5) 0;
+      «label_start» = pair f (at + 6);
+    }
+
+-- record c of the file
+unfoldable pub entry : List ℕ → ℕ → Record
+entry f c = record-at f (trailer-of f .begin + record-size * c)
+
+unfoldable pub records-of : List ℕ → List Record
+records-of f = map (entry f) (from 0 (trailer-of f .count))
+
+abbrev pub label-in : Record → Label
+label-in r = record { start = r .«label_start»; size = r .«label_length» }
+
+-- what a call on a file is given: the file, the length of the table to fill, if there is one, and the cell named
+unfoldable pub file-given : List ℕ → Lent → ℕ → Given
+file-given f room named =
+    record {
+      source = file (record {
+        size = length f;
+        mark = trailer-of f .mark;
+        begin = trailer-of f .begin;
+        letters = take (trailer-of f .begin) f;
+        labels = map label-in (records-of f);
+      });
+      table = cells-of (records-of f);
+      allowance = trailer-of f .allowance;
+      to-fill = room;
+      scratch = absent;
+      positions = absent;
+      coordinates = [];
+      named = named;
+    }

@@ -1,0 +1,77 @@
+-- A trailer and a record, field by field, as a cursor reads them; columns, record by record. Assumes nothing.
+use mathlib.Core.Path.{_≡_, refl, sym, ap, _∙_}
+use mathlib.Core.List.{List}
+use Prim.Native.Nat.{ℕ, _+_, _-_, _*_}
+use native.Mathlib.Omega.{arith}
+use native.Mathlib.Numerals.{add-one}
+use lib.ListN.{length, getD, set, replicate}
+use Rattle.plan.specs.Limits.{trailer-size}
+use Rattle.plan.specs.declared.Record.{Record}
+use Rattle.planfile.specs.Format.{pair, record-at, trailer-of}
+use Rattle.planfile.specs.Reading.{column, columns-of}
+use Rattle.planfile.specs.declared.Reading.{Reading}
+use Rattle.plan.specs.Questions.{none}
+use Rattle.planfile.specs.declared.Trailer.{Trailer}
+
+pub read-entry : (f : List ℕ) (at a b c d e p k w h l s : ℕ) → p ≡ pair f at → a ≡ at + 2 → k ≡ getD f a 0 → b ≡ a + 1 → w ≡ getD f b 0 → c ≡ b + 1 → h ≡ getD f c 0
+    → d ≡ c + 1 → l ≡ getD f d 0 → e ≡ d + 1 → s ≡ pair f e
+    → _≡_ {A = Record} (record { parent = p; kind = k; width = w; depth = h; «label_length» = l; «label_start» = s }) (record-at f at)
+unfolding record-at
+read-entry f at a b c d e p k w h l s ep ea ek eb ew ec eh ed el ee es =
+    let b′ : b ≡ at + 3 = omega arith in
+    let c′ : c ≡ at + 4 = omega arith in
+    let d′ : d ≡ at + 5 = omega arith in
+    let e′ : e ≡ at + 6 = omega arith in
+    cc
+
+pub read-trailer : (f : List ℕ) (at a b c s n al m : ℕ) → at ≡ length f - trailer-size → s ≡ pair f at → a ≡ at + 2 → n ≡ pair f a → b ≡ a + 2 → al ≡ pair f b → c ≡ b + 2 → m ≡ pair f c
+    → _≡_ {A = Trailer} (record { begin = s; count = n; allowance = al; mark = m }) (trailer-of f)
+unfolding trailer-of
+read-trailer f at a b c s n al m z es ea en eb el ec em =
+    let b′ : b ≡ at + 4 = omega arith in
+    let c′ : c ≡ at + 6 = omega arith in
+    cc
+
+-- one record more
+pub column-more : (f : ℕ → ℕ) (n : ℕ) → column f (n + 1) ≡ set (column f n) n (f n)
+unfolding column
+column-more f n = rw add-one
+
+-- the columns of the first c records from begin on; the next record stands at `at`
+pub record Filled (f : List ℕ) (begin c at : ℕ) (ps ks ws ds ls ss : List ℕ) : Type 0 where
+  pub next-at : at ≡ begin + 8 * c
+  pub parents : ps ≡ column (λ c. record-at f (begin + 8 * c) .parent) c
+  pub kinds : ks ≡ column (λ c. record-at f (begin + 8 * c) .kind) c
+  pub widths : ws ≡ column (λ c. record-at f (begin + 8 * c) .width) c
+  pub depths : ds ≡ column (λ c. record-at f (begin + 8 * c) .depth) c
+  pub lengths : ls ≡ column (λ c. record-at f (begin + 8 * c) .«label_length») c
+  pub starts : ss ≡ column (λ c. record-at f (begin + 8 * c) .«label_start») c
+
+pub filled-none : (f : List ℕ) (begin : ℕ) → Filled f begin 0 begin (replicate 256 0) (replicate 256 0) (replicate 256 0) (replicate 256 0) (replicate 256 0) (replicate 256 0)
+unfolding column
+filled-none f begin = record { next-at = omega arith; parents = refl; kinds = refl; widths = refl; depths = refl; lengths = refl; starts = refl }
+
+module _ (f : List ℕ) (begin c at : ℕ) (ps ks ws ds ls ss : List ℕ) (h : Filled f begin c at ps ks ws ds ls ss) where
+  pub filled-more : (r : Record) (next : ℕ) → r ≡ record-at f at → next ≡ at + 8
+      → Filled f begin (c + 1) next (set ps c (r .parent)) (set ks c (r .kind)) (set ws c (r .width)) (set ds c (r .depth)) (set ls c (r .«label_length»)) (set ss c (r .«label_start»))
+  filled-more r next e n =
+      let q : r ≡ record-at f (begin + 8 * c) = e ∙ ap (record-at f) (h .next-at) in
+      record {
+        next-at = omega (arith, h .next-at);
+        parents = one (λ r. r .parent) ps (h .parents) q;
+        kinds = one (λ r. r .kind) ks (h .kinds) q;
+        widths = one (λ r. r .width) ws (h .widths) q;
+        depths = one (λ r. r .depth) ds (h .depths) q;
+        lengths = one (λ r. r .«label_length») ls (h .lengths) q;
+        starts = one (λ r. r .«label_start») ss (h .starts) q;
+      }
+    where
+      one : (g : Record → ℕ) (xs : List ℕ) → xs ≡ column (λ c. g (record-at f (begin + 8 * c))) c → r ≡ record-at f (begin + 8 * c)
+          → set xs c (g r) ≡ column (λ c. g (record-at f (begin + 8 * c))) (c + 1)
+      one g xs e q = sym (column-more (λ c. g (record-at f (begin + 8 * c))) c ∙ cc)
+
+  pub filled-all : (al n : ℕ) → c ≡ n
+      → _≡_ {A = Reading} (record { refusal = none; allowance = al; columns = record { count = n; parent = ps; kind = ks; width = ws; depth = ds }; «label_length» = ls; «label_start» = ss })
+      (columns-of none al n (λ c. record-at f (begin + 8 * c)))
+  unfolding columns-of
+  filled-all al n e = rw (← e, h .parents, h .kinds, h .widths, h .depths, h .lengths, h .starts)

@@ -1,0 +1,95 @@
+// The reading place: each field that is read moves it on and hands it back.
+use plan::Record;
+ghost use mathlib.Core.Path.{_≡_};
+ghost use Prim.Native.Nat.{ℕ, _+_, _*_, _≤_, _<_};
+ghost use lib.ListN.{length, getD};
+ghost use Rattle.planfile.specs.Format.{pair, «trailer-of», «record-at»};
+
+pub struct Cursor {
+    pub at: usize,
+}
+
+// A number that was read, and the place after it.
+pub struct Byte {
+    pub value: u8,
+    pub next: Cursor,
+}
+
+pub struct Pair {
+    pub value: u16,
+    pub next: Cursor,
+}
+
+// A record that was read, and the place after it.
+pub struct Entry {
+    pub fields: Record,
+    pub next: Cursor,
+}
+
+fn wide(x: u8) -> u16
+    ensures { λ r. ⌜ r ≡ x ⌝ }
+{
+    x as u16
+}
+
+// A number of two bytes.
+fn joined(low: u8, high: u8) -> u16
+    ensures { λ r. ⌜ r ≡ low + 256 * high ⌝ }
+{
+    (low as u16) + 256 * (high as u16)
+}
+
+impl Cursor {
+    pub fn byte(self, file: &[u8]) -> Byte
+        requires { ⌜ self .at < length (now file) ⌝ }
+        ensures { λ r. ⌜ (r .value ≡ getD (now (file .entry)) (self .at) 0) × (r .next .at ≡ self .at + 1) ⌝ }
+    {
+        let at = self.at;
+        Byte {
+            value: file[at],
+            next: Cursor { at: at + 1 },
+        }
+    }
+
+    pub fn pair(self, file: &[u8]) -> Pair
+        requires { ⌜ self .at + 2 ≤ length (now file) ⌝ }
+        ensures { λ r. ⌜ (r .value ≡ pair (now (file .entry)) (self .at)) × (r .next .at ≡ self .at + 2) ⌝ }
+    {
+        let low = self.byte(file);
+        let between = low.next;
+        let high = between.byte(file);
+        let next = high.next;
+        Pair {
+            value: joined(low.value, high.value),
+            next,
+        }
+    }
+
+    // A record of 8 bytes.
+    pub fn entry(self, file: &[u8]) -> Entry
+        requires { ⌜ self .at + 8 ≤ length (now file) ⌝ }
+        ensures { λ r. ⌜ (r .fields ≡ record-at (now (file .entry)) (self .at)) × (r .next .at ≡ self .at + 8) ⌝ }
+    {
+        let parent = self.pair(file);
+        let after_parent = parent.next;
+        let kind = after_parent.byte(file);
+        let after_kind = kind.next;
+        let width = after_kind.byte(file);
+        let after_width = width.next;
+        let depth = after_width.byte(file);
+        let after_depth = depth.next;
+        let label_length = after_depth.byte(file);
+        let after_length = label_length.next;
+        let label_start = after_length.pair(file);
+        let next = label_start.next;
+        let fields = Record {
+            parent: parent.value,
+            kind: kind.value,
+            width: wide(width.value),
+            depth: depth.value,
+            label_length: label_length.value,
+            label_start: label_start.value,
+        };
+        Entry { fields, next }
+    }
+}

@@ -1,0 +1,95 @@
+// The plan file: Read, Label and Label's refusal.
+mod cursor;
+mod questions;
+mod table;
+
+use crate::cursor::Cursor;
+use crate::questions::examined;
+use crate::questions::refused;
+use crate::table::trailer;
+use plan::Columns;
+use plan::Refusal;
+use plan::limits::MOST_CELLS;
+use plan::limits::RECORD_SIZE;
+use plan::questions::asked;
+ghost use mathlib.Core.Path.{_≡_};
+ghost use Prim.Native.Nat.{_-_};
+ghost use lib.ListN.{take, drop};
+ghost use Rattle.planfile.specs.Reading.{«reading-of», «label-refusal», «label-part»};
+
+// What the last 8 bytes of a file say.
+pub struct Trailer {
+    pub begin: u16,
+    pub count: u16,
+    pub allowance: u16,
+    pub mark: u16,
+}
+
+// Read's answer: a refusal and no cell; or a refusal of 0 and 0, the allowance and the records in columns, zeros after them.
+pub struct Reading {
+    pub refusal: Refusal,
+    pub allowance: u16,
+    pub columns: Columns,
+    pub label_length: [u8; 256],
+    pub label_start: [u16; 256],
+}
+
+// The bytes of a file from start to end.
+pub struct Part {
+    pub start: usize,
+    pub end: usize,
+}
+
+// Reads a plan file for a table of so many records.
+pub fn read(file: &[u8], room: usize) -> Reading
+    ensures { λ r. ⌜ r ≡ reading-of (now (file .entry)) room ⌝ }
+{
+    let long = asked(1, MOST_CELLS <= room, 0);
+    if long.number != 0 {
+        return refused(long);
+    }
+    examined(file)
+}
+
+// Why Label refuses: number and cell, or 0 and 0.
+pub fn label_refusal(file: &[u8], cell: usize) -> Refusal
+    ensures { λ r. ⌜ r ≡ label-refusal (now (file .entry)) cell ⌝ }
+{
+    let plan = examined(file);
+    let refusal = plan.refusal;
+    if refusal.number != 0 {
+        return refusal;
+    }
+    let columns = plan.columns;
+    asked(16, cell < columns.count, 0)
+}
+
+fn label_part(file: &[u8], cell: usize) -> Part
+    ensures { λ r. ⌜ r ≡ label-part (now (file .entry)) cell ⌝ }
+{
+    let refusal = label_refusal(file, cell);
+    if refusal.number != 0 {
+        return Part { start: 0, end: 0 };
+    }
+    let t = trailer(file);
+    let cursor = Cursor {
+        at: (t.begin as usize) + RECORD_SIZE * cell,
+    };
+    let entry = cursor.entry(file);
+    let fields = entry.fields;
+    let start = fields.label_start as usize;
+    Part {
+        start,
+        end: start + (fields.label_length as usize),
+    }
+}
+
+// A cell's label, as that part of the file's own bytes; refused, the empty part at byte 0.
+pub fn label(file: &[u8], cell: usize) -> &[u8]
+    ensures { λ r. ⌜ now r ≡ take (label-part (now (file .entry)) cell .end - label-part (now (file .entry)) cell .start) (drop (label-part (now (file .entry)) cell .start) (now (file .entry))) ⌝ }
+{
+    let part = label_part(file, cell);
+    let start = part.start;
+    let end = part.end;
+    &file[start..end]
+}

@@ -1,0 +1,244 @@
+// The questions put to a file, each as a refusal. A refusal of number 0 is none.
+use crate::Reading;
+use crate::table::records;
+use crate::table::trailer;
+use plan::Columns;
+use plan::Refusal;
+use plan::kinds::border;
+use plan::limits::FILE_MARK;
+use plan::limits::FIRST_LETTER;
+use plan::limits::LAST_LETTER;
+use plan::limits::LEAST_FILE;
+use plan::limits::MOST_CELLS;
+use plan::limits::MOST_FILE;
+use plan::limits::MOST_LABEL;
+use plan::limits::RECORD_SIZE;
+use plan::limits::TRAILER_SIZE;
+use plan::questions::allowance_refusal;
+use plan::questions::asked;
+use plan::questions::cell_refusal;
+use plan::questions::or_else;
+use plan::questions::tree_refusal;
+ghost use mathlib.Core.Path.{_≡_};
+ghost use mathlib.Core.List.{List};
+ghost use mathlib.Core.Bool.{Bool, true, false, _&&_};
+ghost use Prim.Native.Nat.{ℕ, _+_, _*_, _≤_, _<_};
+ghost use lib.Dec.{leb, eqb};
+ghost use lib.ListN.{length, getD, take};
+ghost use Rattle.plan.specs.Limits.{between, «first-letter», «last-letter», «least-file», «most-file»};
+ghost use Rattle.plan.specs.Questions.{every, «at-each»};
+ghost use Rattle.planfile.specs.FileSteps.{inside, fits, counted, «record-refusal», «records-at», «header-refusal», «columns-refusal», «blank-reading», examined};
+
+// Question 2.
+fn file_sized(size: usize) -> bool
+    ensures { λ r. ⌜ r ≡ between least-file most-file size ⌝ }
+{
+    if size < LEAST_FILE {
+        return false;
+    }
+    size <= MOST_FILE
+}
+
+// Question 4.
+fn counted(size: usize, begin: usize, n: usize) -> bool
+    requires { ⌜ (begin < 65536) × (n < 65536) ⌝ }
+    ensures { λ r. ⌜ r ≡ counted size begin n ⌝ }
+{
+    if n < 1 {
+        return false;
+    }
+    if MOST_CELLS < n {
+        return false;
+    }
+    begin + RECORD_SIZE * n + TRAILER_SIZE == size
+}
+
+// Question 5, for one byte.
+fn printable(letter: u8) -> bool
+    ensures { λ r. ⌜ r ≡ between first-letter last-letter letter ⌝ }
+{
+    if letter < FIRST_LETTER {
+        return false;
+    }
+    letter <= LAST_LETTER
+}
+
+// Question 5.
+fn letters_printable(file: &[u8], begin: usize) -> bool
+    requires { ⌜ begin ≤ length (now file) ⌝ }
+    ensures { λ r. ⌜ r ≡ every (between first-letter last-letter) (take begin (now (file .entry))) ⌝ }
+{
+    let mut i = 0;
+    while i < begin {
+        if !printable(file[i]) {
+            return false;
+        }
+        i += 1;
+    }
+    true
+}
+
+// Question 9, for a label of so many bytes.
+fn inside(begin: usize, size: u8, start: u16) -> bool
+    ensures { λ r. ⌜ r ≡ inside begin size start ⌝ }
+{
+    if MOST_LABEL < size {
+        return false;
+    }
+    (start as usize) + (size as usize) <= begin
+}
+
+// Question 10.
+fn fits(size: u8, kind: u8, width: u16) -> bool
+    ensures { λ r. ⌜ r ≡ fits size kind width ⌝ }
+{
+    (size as u16) + (border(kind) as u16) <= width
+}
+
+// Questions 6 to 10 at one record.
+fn record_refusal(
+    begin: usize,
+    cell: usize,
+    parent: u16,
+    kind: u8,
+    width: u16,
+    depth: u8,
+    size: u8,
+    start: u16,
+) -> Refusal
+    requires { ⌜ cell < 65536 ⌝ }
+    ensures { λ r. ⌜ r ≡ record-refusal begin cell parent kind width depth size start ⌝ }
+{
+    let label_inside = asked(9, inside(begin, size, start), cell);
+    let label_fits = asked(10, fits(size, kind, width), cell);
+    or_else(
+        cell_refusal(cell, parent, kind, width, depth),
+        or_else(label_inside, label_fits),
+    )
+}
+
+// Questions 6 to 10, record by record.
+fn records_refusal(
+    parents: &[u16; 256],
+    kinds: &[u8; 256],
+    widths: &[u16; 256],
+    depths: &[u8; 256],
+    sizes: &[u8; 256],
+    starts: &[u16; 256],
+    n: usize,
+    begin: usize,
+) -> Refusal
+    requires { ⌜ n ≤ 256 ⌝ }
+    ensures { λ r. ⌜ r ≡ at-each (records-at begin (now (parents .entry)) (now (kinds .entry)) (now (widths .entry)) (now (depths .entry)) (now (sizes .entry)) (now (starts .entry))) 0 n ⌝ }
+{
+    let mut c = 0;
+    while c < n {
+        let r = record_refusal(
+            begin,
+            c,
+            parents[c],
+            kinds[c],
+            widths[c],
+            depths[c],
+            sizes[c],
+            starts[c],
+        );
+        if r.number != 0 {
+            return r;
+        }
+        c += 1;
+    }
+    Refusal { number: 0, cell: 0 }
+}
+
+// Questions 2 to 5.
+fn header_refusal(file: &[u8]) -> Refusal
+    ensures { λ r. ⌜ r ≡ header-refusal (now (file .entry)) ⌝ }
+{
+    let size = file.len();
+    let sized = asked(2, file_sized(size), 0);
+    if sized.number != 0 {
+        return sized;
+    }
+    let t = trailer(file);
+    let marked = asked(3, t.mark == FILE_MARK, 0);
+    if marked.number != 0 {
+        return marked;
+    }
+    let begin = t.begin as usize;
+    let full = asked(4, counted(size, begin, t.count as usize), 0);
+    if full.number != 0 {
+        return full;
+    }
+    asked(5, letters_printable(file, begin), 0)
+}
+
+// Questions 6 to 14, put to the records that were read.
+fn body_refusal(plan: Reading, begin: usize) -> Refusal
+    requires { ⌜ (1 ≤ plan .columns .count) × (plan .columns .count ≤ 256) ⌝ }
+    ensures { λ r. ⌜ r ≡ columns-refusal plan begin ⌝ }
+{
+    let columns = plan.columns;
+    let parents = columns.parent;
+    let kinds = columns.kind;
+    let widths = columns.width;
+    let depths = columns.depth;
+    let sizes = plan.label_length;
+    let starts = plan.label_start;
+    let n = columns.count;
+    let at_records = records_refusal(
+        &parents,
+        &kinds,
+        &widths,
+        &depths,
+        &sizes,
+        &starts,
+        n,
+        begin,
+    );
+    if at_records.number != 0 {
+        return at_records;
+    }
+    let at_tree = tree_refusal(&parents, &kinds, &depths, n);
+    if at_tree.number != 0 {
+        return at_tree;
+    }
+    allowance_refusal(plan.allowance as u32)
+}
+
+// No cell, with the refusal.
+pub fn refused(refusal: Refusal) -> Reading
+    ensures { λ r. ⌜ r ≡ blank-reading refusal ⌝ }
+{
+    Reading {
+        refusal,
+        allowance: 0,
+        columns: Columns {
+            count: 0,
+            parent: [0u16; 256],
+            kind: [0u8; 256],
+            width: [0u16; 256],
+            depth: [0u8; 256],
+        },
+        label_length: [0u8; 256],
+        label_start: [0u16; 256],
+    }
+}
+
+// Questions 2 to 14, and the plan where none refuses it.
+pub fn examined(file: &[u8]) -> Reading
+    ensures { λ r. ⌜ r ≡ examined (now (file .entry)) ⌝ }
+{
+    let at_header = header_refusal(file);
+    if at_header.number != 0 {
+        return refused(at_header);
+    }
+    let t = trailer(file);
+    let begin = t.begin as usize;
+    let plan = records(file, begin, t.count as usize, t.allowance);
+    let at_body = body_refusal(plan, begin);
+    if at_body.number != 0 {
+        return refused(at_body);
+    }
+    plan
+}

@@ -1,0 +1,76 @@
+// The trailer and the records of a file, read field by field.
+use crate::Reading;
+use crate::Trailer;
+use crate::cursor::Cursor;
+use plan::Columns;
+use plan::Record;
+use plan::Refusal;
+use plan::limits::TRAILER_SIZE;
+ghost use mathlib.Core.Path.{_≡_};
+ghost use Prim.Native.Nat.{ℕ, _+_, _*_, _≤_, _<_};
+ghost use lib.ListN.{length, getD};
+ghost use Rattle.plan.specs.Questions.{none};
+ghost use Rattle.planfile.specs.Format.{«trailer-of», «record-at»};
+ghost use Rattle.planfile.specs.Reading.{«columns-of»};
+
+pub fn trailer(file: &[u8]) -> Trailer
+    requires { ⌜ 8 ≤ length (now file) ⌝ }
+    ensures { λ r. ⌜ r ≡ trailer-of (now (file .entry)) ⌝ }
+{
+    let start = Cursor {
+        at: file.len() - TRAILER_SIZE,
+    };
+    let begin = start.pair(file);
+    let after_begin = begin.next;
+    let count = after_begin.pair(file);
+    let after_count = count.next;
+    let allowance = after_count.pair(file);
+    let after_allowance = allowance.next;
+    let mark = after_allowance.pair(file);
+    Trailer {
+        begin: begin.value,
+        count: count.value,
+        allowance: allowance.value,
+        mark: mark.value,
+    }
+}
+
+// The columns of the n records from begin on, with a refusal of none.
+pub fn records(file: &[u8], begin: usize, n: usize, allowance: u16) -> Reading
+    requires { ⌜ (n ≤ 256) × (begin + 8 * n ≤ length (now file)) ⌝ }
+    ensures { λ r. ⌜ r ≡ columns-of none allowance n (λ c. record-at (now (file .entry)) (begin + 8 * c)) ⌝ }
+{
+    let mut parent = [0u16; 256];
+    let mut kind = [0u8; 256];
+    let mut width = [0u16; 256];
+    let mut depth = [0u8; 256];
+    let mut label_length = [0u8; 256];
+    let mut label_start = [0u16; 256];
+    let mut cursor = Cursor { at: begin };
+    let mut c: usize = 0;
+    while c < n {
+        let entry = cursor.entry(file);
+        let fields = entry.fields;
+        parent[c] = fields.parent;
+        kind[c] = fields.kind;
+        width[c] = fields.width;
+        depth[c] = fields.depth;
+        label_length[c] = fields.label_length;
+        label_start[c] = fields.label_start;
+        cursor = entry.next;
+        c += 1;
+    }
+    Reading {
+        refusal: Refusal { number: 0, cell: 0 },
+        allowance,
+        columns: Columns {
+            count: n,
+            parent,
+            kind,
+            width,
+            depth,
+        },
+        label_length,
+        label_start,
+    }
+}
