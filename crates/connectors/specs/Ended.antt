@@ -12,7 +12,7 @@ use Rattle.connectors.specs.declared.Ended.{Ended}
 use Rattle.connectors.specs.declared.Ended.the-variants.{Joined, Refused}
 
 -- THE half of a width, "rounded down before adding"
-unfoldable pub half : ℕ → ℕ
+abbrev pub half : ℕ → ℕ
 half w = w / 2
 
 -- "for a son, (father x + W/2, father y + D) and (son x + W/2, son y)"

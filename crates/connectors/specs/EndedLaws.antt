@@ -22,7 +22,6 @@ use Rattle.connectors.specs.Ended.{half}
 
 -- half a width, twice, is the width or one less
 pub half-down : (w : ℕ) → (half w + half w ≤ w) × (w ≤ half w + half w + 1)
-unfolding half
 half-down w = (omega arith, omega arith)
 
 says-lt : (a b : ℕ) → Says (ltb a b) (a < b)

@@ -5,6 +5,7 @@ use plan::questions::lent_refusal;
 use plan::questions::near_refusal;
 use plan::Columns;
 use plan::Refusal;
+use spans::parent_of;
 use whole::difference;
 use whole::raise_at;
 ghost use mathlib.Core.Path.{_≡_};
@@ -34,12 +35,6 @@ fn half(width: u16) -> u32
     ensures { λ r. ⌜ r ≡ half width ⌝ }
 {
     (width as u32) / 2
-}
-
-fn wide(x: u16) -> usize
-    ensures { λ r. ⌜ r ≡ x ⌝ }
-{
-    x as usize
 }
 
 fn wide8(x: u8) -> u32
@@ -91,7 +86,7 @@ fn join(t: Columns, positions: &[i32], cell: usize) -> Ended
     requires { ⌜ Fit (table-of t) × Near (now positions) (t .count) × (cell < t .count) × (0 < cell) ⌝ }
     ensures { λ r. ⌜ r ≡ joined (table-of t) (placed (now (positions .entry))) cell ⌝ }
 {
-    let p = wide(t.parent[cell]);
+    let p = parent_of(&t.parent, cell);
     Ended::Joined(
         moved(positions, 2 * p, half(t.width[p])),
         moved(positions, 2 * p + 1, wide8(t.depth[p])),
