@@ -1,7 +1,7 @@
 // Check and Ends on sheets G to J of document 01, a double fault, the farthest coordinates, and each rule broken alone. A line for each case.
 use connectors::ends;
 use connectors::Ended;
-use io::number::print_decimal;
+use io::print_decimal;
 use io::write_all;
 use libc::STDOUT_FILENO;
 use plan::Columns;
@@ -16,8 +16,12 @@ fn at16(xs: &[u16], i: usize) -> u16 {
     if i < xs.len() { xs[i] } else { 0 }
 }
 
+fn at8(xs: &[u8], i: usize) -> u8 {
+    if i < xs.len() { xs[i] } else { 0 }
+}
+
 // n cells of depth 1: parents, kinds and widths.
-fn table(count: usize, parents: &[u16], kinds: &[u16], widths: &[u16]) -> Columns {
+fn table(count: usize, parents: &[u16], kinds: &[u8], widths: &[u16]) -> Columns {
     let mut parent = [0u16; 256];
     let mut kind = [0u8; 256];
     let mut width = [0u16; 256];
@@ -26,11 +30,7 @@ fn table(count: usize, parents: &[u16], kinds: &[u16], widths: &[u16]) -> Column
     while c < 256 {
         parent[c] = at16(parents, c);
         width[c] = at16(widths, c);
-        if at16(kinds, c) == 1 {
-            kind[c] = 1;
-        } else {
-            kind[c] = 2;
-        }
+        kind[c] = at8(kinds, c);
         c += 1;
     }
     Columns {
