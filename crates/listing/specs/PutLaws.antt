@@ -1,0 +1,41 @@
+-- Texts written one after the other. Assumes nothing.
+use mathlib.Core.Path.{_≡_, refl, sym, ap, _∙_}
+use mathlib.Core.List.{List, [], _∷_, _++_, append-assoc}
+use Prim.Native.Nat.{ℕ, suc, _+_, _≤_, _<_}
+use native.Mathlib.Numerals.{add-one}
+use native.Mathlib.Omega.{arith}
+use lib.ListN.{length, take, drop, getD, set, length-append}
+use lib.Seq.{sets, sets-eq, take-suc, length-take-le}
+use Rattle.listing.specs.Put.{Put, Written}
+
+sets-append : (s t l : List ℕ) (i : ℕ) → sets l i (s ++ t) ≡ sets (sets l i s) (i + length s) t
+sets-append [] t l i = let e : i + 0 ≡ i = omega arith in rw e
+sets-append (a ∷ s) t l i = let e : i + suc (length s) ≡ suc i + length s = omega arith in rw e (sets-append s t (set l i a) (suc i))
+
+-- one text after another
+pub then : {a b c s t : List ℕ} {i j k : ℕ} → Put a i s b j → Put b j t c k → Put a i (s ++ t) c k
+then {a} {b} {c} {s} {t} {i} {j} {k} p q =
+    record {
+      bytes = q .bytes ∙ rw (p .bytes, p .place) (sym (sets-append s t a i));
+      place = rw (length-append s t) (omega (arith, p .place, q .place));
+    }
+
+-- no text, and one byte
+pub put-none : (a : List ℕ) (i : ℕ) → Put a i [] a i
+put-none a i = record { bytes = refl; place = omega arith }
+
+pub put-one : (a : List ℕ) (i b : ℕ) → Put a i (b ∷ []) (set a i b) (i + 1)
+put-one a i b = record { bytes = refl; place = refl }
+
+-- a turn of the loop that copies a text
+pub put-more : {a b : List ℕ} (s : List ℕ) {i : ℕ} (n : ℕ) → Put a i (take n s) b (i + n) → n < length s → Put a i (take (n + 1) s) (set b (i + n) (getD s n 0)) (i + (n + 1))
+put-more {a} {b} s {i} n p h =
+    let e : take (n + 1) s ≡ take n s ++ (getD s n 0 ∷ []) = rw (add-one) (take-suc s n 0 h) in
+    let f : i + (n + 1) ≡ i + n + 1 = omega arith in
+    rw (e, f) (then p (put-one b (i + n) (getD s n 0)))
+
+-- a text written from the beginning of a buffer that holds it
+pub written : {a b s : List ℕ} {n : ℕ} → Put a 0 s b n → n ≤ length a → Written a s b n
+written {a} {b} {s} {n} p h =
+    let e : n ≡ length s = omega (arith, p .place) in
+    record { bytes = p .bytes ∙ sets-eq s a 0 (omega (arith, e)) ∙ ap (λ k. s ++ drop k a) (sym (p .place)); size = e }
