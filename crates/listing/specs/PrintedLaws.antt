@@ -49,6 +49,9 @@ at-most (suc k) n h =
     [ yes l ↦ rw (decimal-one n l) (omega arith)
     | no l ↦ rw (decimal-more n (omega arith), length-append) (omega (arith, fewer (omega (arith, p)))) ]
 
+pub nine : {n : ℕ} → 10 ≤ n → n < 2 ^ 32 → length (decimal (n / 10)) ≤ 9
+nine {n} l h = at-most 8 (n / 10) (omega arith)
+
 pub ten : {n : ℕ} → n < 2 ^ 32 → length (decimal n) ≤ 10
 ten {n} h = at-most 9 n (omega arith)
 

@@ -1,11 +1,13 @@
 -- Texts written one after the other. Assumes nothing.
 use mathlib.Core.Path.{_≡_, refl, sym, ap, _∙_}
 use mathlib.Core.List.{List, [], _∷_, _++_, append-assoc}
-use Prim.Native.Nat.{ℕ, suc, _+_, _≤_, _<_}
+use Prim.Native.Nat.{ℕ, suc, _+_, _/_, _%_, _≤_, _<_}
 use native.Mathlib.Numerals.{add-one}
 use native.Mathlib.Omega.{arith}
 use lib.ListN.{length, take, drop, getD, set, length-append}
-use lib.Seq.{sets, sets-eq, take-suc, length-take-le}
+use lib.Seq.{sets, sets-eq, take-suc, take-all}
+use Rattle.listing.specs.Printed.{decimal}
+use Rattle.listing.specs.PrintedLaws.{decimal-one, decimal-more}
 use Rattle.listing.specs.Put.{Put, Written}
 
 sets-append : (s t l : List ℕ) (i : ℕ) → sets l i (s ++ t) ≡ sets (sets l i s) (i + length s) t
@@ -27,12 +29,26 @@ put-none a i = record { bytes = refl; place = omega arith }
 pub put-one : (a : List ℕ) (i b : ℕ) → Put a i (b ∷ []) (set a i b) (i + 1)
 put-one a i b = record { bytes = refl; place = refl }
 
--- a turn of the loop that copies a text
-pub put-more : {a b : List ℕ} (s : List ℕ) {i : ℕ} (n : ℕ) → Put a i (take n s) b (i + n) → n < length s → Put a i (take (n + 1) s) (set b (i + n) (getD s n 0)) (i + (n + 1))
-put-more {a} {b} s {i} n p h =
-    let e : take (n + 1) s ≡ take n s ++ (getD s n 0 ∷ []) = rw (add-one) (take-suc s n 0 h) in
-    let f : i + (n + 1) ≡ i + n + 1 = omega arith in
-    rw (e, f) (then p (put-one b (i + n) (getD s n 0)))
+-- the loop that copies a text, byte by byte
+pub put-start : (a : List ℕ) (i : ℕ) → Put a i [] a (i + 0)
+put-start a i = record { bytes = refl; place = refl }
+
+module _ {a b : List ℕ} (s : List ℕ) {i n : ℕ} (p : Put a i (take n s) b (i + n)) where
+  pub put-more : n < length s → Put a i (take (n + 1) s) (set b (i + n) (getD s n 0)) (i + (n + 1))
+  put-more h =
+      let e : take (n + 1) s ≡ take n s ++ (getD s n 0 ∷ []) = rw add-one (take-suc s n 0 h) in
+      let f : i + (n + 1) ≡ i + n + 1 = omega arith in
+      rw (e, f) (then p (put-one b (i + n) (getD s n 0)))
+
+  pub put-all : length s ≤ n → Put a i s b (i + n)
+  put-all h = rw (take-all n s h) at p
+
+-- the digits of a number, the last one last
+pub decimal-digit : {a b : List ℕ} {i k n d : ℕ} → n < 10 → d ≡ 48 + n → Put a i (d ∷ []) b k → Put a i (decimal n) b k
+decimal-digit {n = n} l e p = rw (decimal-one n l, ← e) p
+
+pub decimal-last : {a b c : List ℕ} {i j k n d : ℕ} → 10 ≤ n → Put a i (decimal (n / 10)) b j → d ≡ 48 + n % 10 → Put b j (d ∷ []) c k → Put a i (decimal n) c k
+decimal-last {n = n} l p e q = rw (decimal-more n l, ← e) (then p q)
 
 -- a text written from the beginning of a buffer that holds it
 pub written : {a b s : List ℕ} {n : ℕ} → Put a 0 s b n → n ≤ length a → Written a s b n
