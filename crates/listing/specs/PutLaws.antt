@@ -1,14 +1,16 @@
 -- Texts written one after the other. Assumes nothing.
 use mathlib.Core.Path.{_≡_, refl, sym, ap, _∙_}
 use mathlib.Core.List.{List, [], _∷_, _++_, append-assoc}
-use Prim.Native.Nat.{ℕ, suc, _+_, _/_, _%_, _≤_, _<_}
+use Prim.Native.Nat.{ℕ, suc, _+_, _-_, _/_, _%_, _≤_, _<_}
 use native.Mathlib.Numerals.{add-one}
 use native.Mathlib.Omega.{arith}
-use lib.ListN.{length, take, drop, getD, set, length-append}
+use lib.ListN.{length, take, drop, getD, set, replicate, length-append, length-replicate}
 use lib.Seq.{sets, sets-eq, take-suc, take-all}
-use Rattle.listing.specs.Printed.{decimal}
+use Rattle.listing.specs.Printed.{Bytes, decimal}
 use Rattle.listing.specs.PrintedLaws.{decimal-one, decimal-more}
-use Rattle.listing.specs.Put.{Put, Written}
+use Rattle.listing.specs.Put.{Put}
+use Rattle.listing.specs.Line.{line-size, line-of}
+use Rattle.listing.specs.declared.Line.{Line}
 
 sets-append : (s t l : List ℕ) (i : ℕ) → sets l i (s ++ t) ≡ sets (sets l i s) (i + length s) t
 sets-append [] t l i = let e : i + 0 ≡ i = omega arith in rw e
@@ -50,8 +52,10 @@ decimal-digit {n = n} l e p = rw (decimal-one n l, ← e) p
 pub decimal-last : {a b c : List ℕ} {i j k n d : ℕ} → 10 ≤ n → Put a i (decimal (n / 10)) b j → d ≡ 48 + n % 10 → Put b j (d ∷ []) c k → Put a i (decimal n) c k
 decimal-last {n = n} l p e q = rw (decimal-more n l, ← e) (then p q)
 
--- a text written from the beginning of a buffer that holds it
-pub written : {a b s : List ℕ} {n : ℕ} → Put a 0 s b n → n ≤ length a → Written a s b n
-written {a} {b} {s} {n} p h =
-    let e : n ≡ length s = omega (arith, p .place) in
-    record { bytes = p .bytes ∙ sets-eq s a 0 (omega (arith, e)) ∙ ap (λ k. s ++ drop k a) (sym (p .place)); size = e }
+-- a text written at the beginning of a line's buffer
+drop-replicate : (k n : ℕ) → drop k (replicate n 0) ≡ replicate (n - k) 0
+drop-replicate k n = ?
+
+pub line-is : {s t b : Bytes} {n : ℕ} → Put (replicate line-size 0) 0 s b n → n ≤ line-size → s ≡ t → _≡_ {A = Line} (record { bytes = b; length = n }) (line-of t)
+unfolding line-of
+line-is {s} {t} {b} {n} p h e = ?

@@ -1,5 +1,5 @@
 use native.Mathlib.Omega.{arith}
-use Rattle.listing.specs.PrintedLaws.{nine}
+use Rattle.listing.specs.PrintedLaws.{nine, ten}
 use Rattle.listing.specs.PutLaws.{decimal-digit, decimal-last}
 use borrow.Author.Needs.{needs}
 use Prim.Native.Nat.{ℕ, _<_}
@@ -53,7 +53,7 @@ decimal-returns : (t : ℕ) → decimal-lts.Need-returns (
   decimal-below t,
   decimal.Post,
 ) (decimal-at t) decimal.Post
-decimal-returns t c = decimal-digit (c .before .before .before .if1 .taken) (c .before .before .digit .ensures) (c .put .ensures)
+decimal-returns t c = (decimal-digit (c .before .before .before .if1 .taken) (c .before .before .digit .ensures) (c .put .ensures), omega arith)
 
 -- src/lib.rt:51:9
 decimal-decimal-requires : (t : ℕ) → decimal-lts.Need-decimal-requires (
@@ -86,7 +86,7 @@ decimal-put-requires-2 : (t : ℕ) → decimal-lts.Need-put-requires-2 (
   decimal-below t,
   decimal.Post,
 ) (decimal-at t) decimal.Post
-decimal-put-requires-2 t c κs = omega (arith, nine (c .before .before .before .before .if1 .left) (c .before .before .before .before .before .fits .n .fits), c .before .before .decimal .ensures .place)
+decimal-put-requires-2 t c κs = omega (arith, nine (c .before .before .before .before .if1 .left) (c .before .before .before .before .before .fits .n .fits), c .before .before .decimal .ensures .0 .place)
 
 -- src/lib.rt:44:1
 decimal-returns-2 : (t : ℕ) → decimal-lts.Need-returns-2 (
@@ -97,7 +97,8 @@ decimal-returns-2 : (t : ℕ) → decimal-lts.Need-returns-2 (
   decimal-below t,
   decimal.Post,
 ) (decimal-at t) decimal.Post
-decimal-returns-2 t c = decimal-last (c .before .before .before .before .before .if1 .left) (c .before .before .before .decimal .ensures) (c .before .before .digit2 .ensures) (c .put2 .ensures)
+decimal-returns-2 t c = let p = decimal-last (c .before .before .before .before .before .if1 .left) (c .before .before .before .decimal .ensures .0) (c .before .before .digit2 .ensures) (c .put2 .ensures) in
+    (p, omega (arith, p .place, ten (c .before .before .before .before .before .before .fits .n .fits)))
 
 pub +decimal-spec : {M : Type 1} → statement M
 +decimal-spec = close μ-decimal λ t. decimal-lts.spec (
