@@ -1,7 +1,7 @@
 -- Texts written one after the other. Assumes nothing.
 use mathlib.Core.Path.{_≡_, refl, sym, ap, _∙_}
 use mathlib.Core.List.{List, [], _∷_, _++_, append-assoc}
-use Prim.Native.Nat.{ℕ, suc, _+_, _-_, _/_, _%_, _≤_, _<_}
+use Prim.Native.Nat.{ℕ, zero, suc, _+_, _-_, _/_, _%_, _≤_, _<_}
 use native.Mathlib.Numerals.{add-one}
 use native.Mathlib.Omega.{arith}
 use lib.ListN.{length, take, drop, getD, set, replicate, length-append, length-replicate}
@@ -53,9 +53,16 @@ pub decimal-last : {a b c : List ℕ} {i j k n d : ℕ} → 10 ≤ n → Put a i
 decimal-last {n = n} l p e q = rw (decimal-more n l, ← e) (then p q)
 
 -- a text written at the beginning of a line's buffer
-drop-replicate : (k n : ℕ) → drop k (replicate n 0) ≡ replicate (n - k) 0
-drop-replicate k n = ?
+drop-zeros : (k n : ℕ) → drop k (replicate {A = ℕ} n 0) ≡ replicate (n - k) 0
+drop-zeros zero n = let e : n - 0 ≡ n = omega arith in rw e
+drop-zeros (suc k) zero = let e : 0 - suc k ≡ 0 = omega arith in rw e
+drop-zeros (suc k) (suc n) = let e : suc n - suc k ≡ n - k = omega arith in rw e (drop-zeros k n)
 
 pub line-is : {s t b : Bytes} {n : ℕ} → Put (replicate line-size 0) 0 s b n → n ≤ line-size → s ≡ t → _≡_ {A = Line} (record { bytes = b; length = n }) (line-of t)
 unfolding line-of
-line-is {s} {t} {b} {n} p h e = ?
+line-is {s} {t} {b} {n} p h e =
+    let z : 0 + length s ≡ length s = omega arith in
+    let l : length s ≤ length (replicate {A = ℕ} line-size 0) = rw (length-replicate {A = ℕ} line-size 0) (omega (arith, p .place)) in
+    let f : b ≡ s ++ replicate (line-size - length s) 0 = p .bytes ∙ sets-eq s _ 0 (rw z l) ∙ ap (λ r. s ++ r) (ap (λ k. drop k (replicate {A = ℕ} line-size 0)) z ∙ drop-zeros (length s) line-size) in
+    let k : n ≡ length s = p .place ∙ z in
+    rw (f, k, e)
