@@ -4,3 +4,4 @@ pub mod LineLaws
 pub mod Line
 pub mod Put
 pub mod PutLaws
+pub mod Examples
