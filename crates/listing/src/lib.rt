@@ -10,7 +10,7 @@ ghost use Rattle.plan.specs.Limits.{«most-label»};
 ghost use Rattle.listing.specs.Printed.{space, decimal, signed, «sheet-line», «cell-line», «refused-line»};
 ghost use Rattle.listing.specs.LineLaws.{spaced};
 ghost use Rattle.listing.specs.Put.{Put};
-ghost use Rattle.listing.specs.Line.{«line-of»};
+ghost use Rattle.listing.specs.Line.{«line-size», «line-of»};
 
 const SPACE: u8 = 32;
 const LINE_FEED: u8 = 10;
@@ -116,7 +116,7 @@ fn label_field(label: &[u8], out: &mut [u8; 128], at: usize) -> usize
 
 // The first line: cells, allowance, width and rows.
 pub fn sheet_line(cells: u32, allowance: u32, width: u32, rows: u32) -> Line
-    ensures { λ r. ⌜ r ≡ line-of (sheet-line cells allowance width rows) ⌝ }
+    ensures { λ r. ⌜ (r ≡ line-of (sheet-line cells allowance width rows)) × (r .length ≤ line-size) ⌝ }
 {
     let mut out = [0u8; 128];
     let a = copy(b"sheet", &mut out, 0);
@@ -134,7 +134,7 @@ pub fn sheet_line(cells: u32, allowance: u32, width: u32, rows: u32) -> Line
 // A cell's line.
 pub fn cell_line(cell: u32, x: i32, y: i32, width: u32, depth: u32, label: &[u8]) -> Line
     requires { ⌜ length (now label) ≤ most-label ⌝ }
-    ensures { λ r. ⌜ r ≡ line-of (cell-line cell x y width depth (now (label .entry))) ⌝ }
+    ensures { λ r. ⌜ (r ≡ line-of (cell-line cell x y width depth (now (label .entry)))) × (r .length ≤ line-size) ⌝ }
 {
     let mut out = [0u8; 128];
     let a = decimal(cell, &mut out, 0);
@@ -152,7 +152,7 @@ pub fn cell_line(cell: u32, x: i32, y: i32, width: u32, depth: u32, label: &[u8]
 
 // The line of a refusal: its number and its cell.
 pub fn refused_line(number: u32, cell: u32) -> Line
-    ensures { λ r. ⌜ r ≡ line-of (refused-line number cell) ⌝ }
+    ensures { λ r. ⌜ (r ≡ line-of (refused-line number cell)) × (r .length ≤ line-size) ⌝ }
 {
     let mut out = [0u8; 128];
     let a = copy(b"refused", &mut out, 0);

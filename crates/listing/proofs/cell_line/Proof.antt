@@ -45,7 +45,7 @@ put-requires c κs = search needs
 
 -- src/lib.rt:135:1
 returns : tie.Need-returns
-returns c = line-is (then (then (then (then (then (then (c .before .before .before .before .before .before .before .before .before .before .before .before .decimal .ensures .0) (c .before .before .before .before .before .before .before .before .before .before .signed-field .ensures .0)) (c .before .before .before .before .before .before .before .before .signed-field2 .ensures .0)) (c .before .before .before .before .before .before .field .ensures .0)) (c .before .before .before .before .field2 .ensures .0)) (c .before .before .label-field .ensures .0)) (c .put .ensures)) (omega arith) (cell-line-is _ _ _ _ _ _ ∙ rw (toZ-ofZ w32 _ (c .before .before .before .before .before .before .before .before .before .before .before .before .before .before .before .fits .x), toZ-ofZ w32 _ (c .before .before .before .before .before .before .before .before .before .before .before .before .before .before .before .fits .y)))
+returns c = (line-is (then (then (then (then (then (then (c .before .before .before .before .before .before .before .before .before .before .before .before .decimal .ensures .0) (c .before .before .before .before .before .before .before .before .before .before .signed-field .ensures .0)) (c .before .before .before .before .before .before .before .before .signed-field2 .ensures .0)) (c .before .before .before .before .before .before .field .ensures .0)) (c .before .before .before .before .field2 .ensures .0)) (c .before .before .label-field .ensures .0)) (c .put .ensures)) (omega arith) (cell-line-is _ _ _ _ _ _ ∙ rw (toZ-ofZ w32 _ (c .before .before .before .before .before .before .before .before .before .before .before .before .before .before .before .fits .x), toZ-ofZ w32 _ (c .before .before .before .before .before .before .before .before .before .before .before .before .before .before .before .fits .y))), omega arith)
 
 pub cell-line-spec : {M : Type 1} → statement M
 cell-line-spec =

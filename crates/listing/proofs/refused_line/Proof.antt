@@ -32,7 +32,7 @@ put-requires c κs = search needs
 
 -- src/lib.rt:154:1
 returns : tie.Need-returns
-returns c = line-is (then (then (then (c .before .before .before .before .before .before .copy .ensures) (c .before .before .before .before .field .ensures .0)) (c .before .before .field2 .ensures .0)) (c .put .ensures)) (omega arith) (refused-line-is _ _)
+returns c = (line-is (then (then (then (c .before .before .before .before .before .before .copy .ensures) (c .before .before .before .before .field .ensures .0)) (c .before .before .field2 .ensures .0)) (c .put .ensures)) (omega arith) (refused-line-is _ _), omega arith)
 
 pub refused-line-spec : {M : Type 1} → statement M
 refused-line-spec =

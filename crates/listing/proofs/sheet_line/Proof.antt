@@ -40,7 +40,7 @@ put-requires c κs = search needs
 
 -- src/lib.rt:118:1
 returns : tie.Need-returns
-returns c = line-is (then (then (then (then (then (c .before .before .before .before .before .before .before .before .before .before .copy .ensures) (c .before .before .before .before .before .before .before .before .field .ensures .0)) (c .before .before .before .before .before .before .field2 .ensures .0)) (c .before .before .before .before .field3 .ensures .0)) (c .before .before .field4 .ensures .0)) (c .put .ensures)) (omega arith) (sheet-line-is _ _ _ _)
+returns c = (line-is (then (then (then (then (then (c .before .before .before .before .before .before .before .before .before .before .copy .ensures) (c .before .before .before .before .before .before .before .before .field .ensures .0)) (c .before .before .before .before .before .before .field2 .ensures .0)) (c .before .before .before .before .field3 .ensures .0)) (c .before .before .field4 .ensures .0)) (c .put .ensures)) (omega arith) (sheet-line-is _ _ _ _), omega arith)
 
 pub sheet-line-spec : {M : Type 1} → statement M
 sheet-line-spec =
