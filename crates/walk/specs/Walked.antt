@@ -30,7 +30,8 @@ use Rattle.joining.specs.Joining.{Memory, mem, mark, height, completed}
 use Rattle.joining.specs.MarkLaws.{low-marks, low-four}
 use Rattle.joining.specs.Complete.{Under, Complete, complete, completing, height-is, left-tall, right-tall}
 use Rattle.links.specs.Links.{link}
-use Rattle.walk.specs.Machine.{Chart, State, wide, deep, root-closed, step, step-end, Safe, Turning, most-turns, turns, turns-are, stack-of, state-of}
+use Rattle.walk.specs.Machine.{Chart, State, wide, deep, root-closed, step, step-end, Safe, Turning, most-turns, turns, turns-are}
+use Rattle.walk.specs.Turns.{stack-of, state-of}
 use Rattle.walk.specs.Tree.{tail-all, Out, below-below, sum, below-most, sum-within}
 use Rattle.walk.specs.Shows.{Shows, SameMarks, Kept}
 use Rattle.walk.specs.Claim.{Suits, Right, right-keep, Rights, at, claim}
@@ -250,7 +251,7 @@ module _ (t : Table) (b : Chart) (su : Suits t b) (xs ms : List ℕ) (lx : scrat
         }
 
     last : Safe b End 1 (at 0 [] 0 ys ns)
-    last = (ending, subst (Safe b End 0) (sym (step-end b 0 0 (mem ys ns) refl)) (refl, end))
+    last = (ending, subst (Safe b End 0) (sym (step-end b 0 (mem ys ns))) (refl, end))
 
   -- the whole walk is safe, and ends well
   safe : Safe b End (2 * sum (λ x. 1) F + 1) (at 0 [] (link (b .links) 0 0) xs ms)

@@ -12,7 +12,8 @@ ghost use lib.ListN.{length, getD};
 ghost use Rattle.joining.specs.Joining.{mem};
 ghost use Rattle.joining.specs.Settle.{finished};
 ghost use Rattle.walk.specs.Walked.{Walking, Walked};
-ghost use Rattle.walk.specs.Machine.{Finishing, Rooting, root-closed, stack-of, chart, state-of, step, Closing, closed, Turning};
+ghost use Rattle.walk.specs.Machine.{Finishing, Rooting, root-closed, chart, step, Closing, closed, Turning};
+ghost use Rattle.walk.specs.Turns.{stack-of, state-of};
 
 fn wide8(x: u8) -> usize
     ensures { λ r. ⌜ r ≡ x ⌝ }

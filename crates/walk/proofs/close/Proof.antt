@@ -1,7 +1,8 @@
 use borrow.Author.Needs.{needs}
 use Prim.Native.Nat.{_-_, _*_}
 use mathlib.Core.Path.{refl, _∙_}
-use Rattle.walk.specs.Machine.{chart, child-ready, close-found}
+use Rattle.walk.specs.Machine.{chart}
+use Rattle.walk.specs.Turns.{child-ready, close-found}
 use Rattle.walk.proofs.Parts.{tail-seen, tail-put}
 use Rattle.walk.proofs.close.Statement.{statement}
 use Rattle.walk.proofs.close.Tie as tie

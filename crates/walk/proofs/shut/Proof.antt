@@ -1,19 +1,11 @@
 use borrow.Author.Needs.{needs}
-use Rattle.walk.specs.Machine.{chart, turn-close, turn-end, shut-two, shut-one, turn-some}
+use Rattle.walk.specs.Machine.{chart}
+use Rattle.walk.specs.Turns.{turn-close, turn-end, shut-two, shut-one, turn-some}
 use mathlib.Core.Path.{_≡_, refl}
-use Prim.Native.Nat.{_≤_, _<_, _-_, _+_, _*_}
+use Prim.Native.Nat.{_<_, _-_}
 use native.Mathlib.Omega.{arith}
 use Rattle.walk.proofs.shut.Statement.{statement}
 use Rattle.walk.proofs.shut.Tie as tie
-use Rattle.walk.proofs.shut.Reads as reads
-use Rattle.walk.proofs.shut.Lts as lts
-use Rattle.links.proofs.link_of.Reads as link-of-reads
-use Rattle.walk.proofs.Chain.cell.Reads as cell-reads
-use Rattle.walk.proofs.Chain.popped.Reads as popped-reads
-use Rattle.walk.proofs.close.Reads as close-reads
-use Rattle.walk.proofs.finish_root.Reads as finish-root-reads
-use Rattle.walk.proofs.number.Reads as number-reads
-use Rattle.walk.proofs.width_of.Reads as width-of-reads
 
 -- src/lib.rt:160:17
 sub-level : tie.Need-sub-level
@@ -22,7 +14,7 @@ sub-level c =
     let a = st .args in
     let b = chart (a .links .now) (a .widths .now) (a .depths .now) (a .tops .now) (a .allowance) in
     let ch = a .chain in
-    let so = turn-some b (ch .cells) (ch .count) 0 (a .rows .now) (a .marks .now) (st .pre) in
+    let so = turn-some b (ch .cells) (ch .count) (a .rows .now) (a .marks .now) (st .pre) in
     omega arith
 
 -- src/lib.rt:162:34
@@ -32,9 +24,9 @@ number-requires c κs =
     let a = st .args in
     let b = chart (a .links .now) (a .widths .now) (a .depths .now) (a .tops .now) (a .allowance) in
     let ch = a .chain in
-    let so = turn-some b (ch .cells) (ch .count) 0 (a .rows .now) (a .marks .now) (st .pre) in
+    let so = turn-some b (ch .cells) (ch .count) (a .rows .now) (a .marks .now) (st .pre) in
     let ek : ch .count ≡ 1 = omega (arith, so, c .before .before .if1 .taken) in
-    shut-one b (ch .cells) (ch .count) 0 (a .rows .now) (a .marks .now) (st .pre) refl ek .depths
+    shut-one b (ch .cells) (ch .count) (a .rows .now) (a .marks .now) (st .pre) ek .depths
 
 -- src/lib.rt:162:53
 width-of-requires : tie.Need-width-of-requires
@@ -43,9 +35,9 @@ width-of-requires c κs =
     let a = st .args in
     let b = chart (a .links .now) (a .widths .now) (a .depths .now) (a .tops .now) (a .allowance) in
     let ch = a .chain in
-    let so = turn-some b (ch .cells) (ch .count) 0 (a .rows .now) (a .marks .now) (st .pre) in
+    let so = turn-some b (ch .cells) (ch .count) (a .rows .now) (a .marks .now) (st .pre) in
     let ek : ch .count ≡ 1 = omega (arith, so, c .before .before .before .if1 .taken) in
-    shut-one b (ch .cells) (ch .count) 0 (a .rows .now) (a .marks .now) (st .pre) refl ek .widths
+    shut-one b (ch .cells) (ch .count) (a .rows .now) (a .marks .now) (st .pre) ek .widths
 
 -- src/lib.rt:162:9
 finish-root-requires : tie.Need-finish-root-requires
@@ -54,9 +46,9 @@ finish-root-requires c κs =
     let a = st .args in
     let b = chart (a .links .now) (a .widths .now) (a .depths .now) (a .tops .now) (a .allowance) in
     let ch = a .chain in
-    let so = turn-some b (ch .cells) (ch .count) 0 (a .rows .now) (a .marks .now) (st .pre) in
+    let so = turn-some b (ch .cells) (ch .count) (a .rows .now) (a .marks .now) (st .pre) in
     let ek : ch .count ≡ 1 = omega (arith, so, c .before .before .before .before .if1 .taken) in
-    rw (c .before .number .ensures) (shut-one b (ch .cells) (ch .count) 0 (a .rows .now) (a .marks .now) (st .pre) refl ek .rooting)
+    rw (c .before .number .ensures) (shut-one b (ch .cells) (ch .count) (a .rows .now) (a .marks .now) (st .pre) ek .rooting)
 
 -- src/lib.rt:164:20
 popped-requires : tie.Need-popped-requires
@@ -65,7 +57,7 @@ popped-requires c κs =
     let a = st .args in
     let b = chart (a .links .now) (a .widths .now) (a .depths .now) (a .tops .now) (a .allowance) in
     let ch = a .chain in
-    let so = turn-some b (ch .cells) (ch .count) 0 (a .rows .now) (a .marks .now) (st .pre) in
+    let so = turn-some b (ch .cells) (ch .count) (a .rows .now) (a .marks .now) (st .pre) in
     omega arith
 
 -- src/lib.rt:163:9
@@ -83,9 +75,9 @@ returns c =
     let a = st .args in
     let b = chart (a .links .now) (a .widths .now) (a .depths .now) (a .tops .now) (a .allowance) in
     let ch = a .chain in
-    let so = turn-some b (ch .cells) (ch .count) 0 (a .rows .now) (a .marks .now) (st .pre) in
+    let so = turn-some b (ch .cells) (ch .count) (a .rows .now) (a .marks .now) (st .pre) in
     let ek : ch .count ≡ 1 = omega (arith, so, c .before .before .before .before .before .before .before .before .before .before .if1 .taken) in
-    turn-end b (ch .cells) (ch .count) 0 (a .rows .now) (a .marks .now) (c .popped .result .cells) (c .popped .result .count) refl ek (c .before .before .before .before .before .before .before .number .ensures) (c .before .before .before .before .before .before .width-of .ensures) (c .popped .ensures) (c .before .before .before .before .before .finish-root .ensures)
+    turn-end b (ch .cells) (ch .count) (a .rows .now) (a .marks .now) (c .popped .result .cells) (c .popped .result .count) ek (c .before .before .before .before .before .before .before .number .ensures) (c .before .before .before .before .before .before .width-of .ensures) (c .popped .ensures) (c .before .before .before .before .before .finish-root .ensures)
 
 -- src/lib.rt:168:9
 cell-requires : tie.Need-cell-requires
@@ -94,7 +86,7 @@ cell-requires c κs =
     let a = st .args in
     let b = chart (a .links .now) (a .widths .now) (a .depths .now) (a .tops .now) (a .allowance) in
     let ch = a .chain in
-    let so = turn-some b (ch .cells) (ch .count) 0 (a .rows .now) (a .marks .now) (st .pre) in
+    let so = turn-some b (ch .cells) (ch .count) (a .rows .now) (a .marks .now) (st .pre) in
     omega arith
 
 -- src/lib.rt:175:9
@@ -112,7 +104,7 @@ cell-requires-2 c κs =
     let a = st .args in
     let b = chart (a .links .now) (a .widths .now) (a .depths .now) (a .tops .now) (a .allowance) in
     let ch = a .chain in
-    let so = turn-some b (ch .cells) (ch .count) 0 (a .rows .now) (a .marks .now) (st .pre) in
+    let so = turn-some b (ch .cells) (ch .count) (a .rows .now) (a .marks .now) (st .pre) in
     omega arith
 
 -- src/lib.rt:169:5
@@ -122,9 +114,9 @@ close-requires c κs =
     let a = st .args in
     let b = chart (a .links .now) (a .widths .now) (a .depths .now) (a .tops .now) (a .allowance) in
     let ch = a .chain in
-    let so = turn-some b (ch .cells) (ch .count) 0 (a .rows .now) (a .marks .now) (st .pre) in
+    let so = turn-some b (ch .cells) (ch .count) (a .rows .now) (a .marks .now) (st .pre) in
     let lt : 1 < ch .count = omega (arith, so, c .before .before .before .before .if1 .left) in
-    shut-two b (ch .cells) (ch .count) 0 (a .rows .now) (a .marks .now) (st .pre) refl lt (c .before .before .before .cell .ensures) (c .before .before .cell2 .ensures) refl
+    shut-two b (ch .cells) (ch .count) (a .rows .now) (a .marks .now) (st .pre) lt (c .before .before .before .cell .ensures) (c .before .before .cell2 .ensures) refl
 
 -- src/lib.rt:182:16
 popped-requires-2 : tie.Need-popped-requires-2
@@ -137,9 +129,9 @@ link-of-requires c κs =
     let a = st .args in
     let b = chart (a .links .now) (a .widths .now) (a .depths .now) (a .tops .now) (a .allowance) in
     let ch = a .chain in
-    let so = turn-some b (ch .cells) (ch .count) 0 (a .rows .now) (a .marks .now) (st .pre) in
+    let so = turn-some b (ch .cells) (ch .count) (a .rows .now) (a .marks .now) (st .pre) in
     let lt : 1 < ch .count = omega (arith, so, c .before .before .before .before .before .before .before .before .before .before .if1 .left) in
-    (shut-two b (ch .cells) (ch .count) 0 (a .rows .now) (a .marks .now) (st .pre) refl lt (c .before .before .before .before .before .before .before .before .before .cell .ensures) (c .before .before .before .before .before .before .before .before .cell2 .ensures) refl .links, omega arith)
+    (shut-two b (ch .cells) (ch .count) (a .rows .now) (a .marks .now) (st .pre) lt (c .before .before .before .before .before .before .before .before .before .cell .ensures) (c .before .before .before .before .before .before .before .before .cell2 .ensures) refl .links, omega arith)
 
 -- src/lib.rt:147:1
 same-length-3 : tie.Need-same-length-3
@@ -156,9 +148,9 @@ returns-2 c =
     let a = st .args in
     let b = chart (a .links .now) (a .widths .now) (a .depths .now) (a .tops .now) (a .allowance) in
     let ch = a .chain in
-    let so = turn-some b (ch .cells) (ch .count) 0 (a .rows .now) (a .marks .now) (st .pre) in
+    let so = turn-some b (ch .cells) (ch .count) (a .rows .now) (a .marks .now) (st .pre) in
     let lt : 1 < ch .count = omega (arith, so, c .before .before .before .before .before .before .before .before .before .before .before .if1 .left) in
-    turn-close b (ch .cells) (ch .count) 0 (a .rows .now) (a .marks .now) (c .before .popped2 .result .cells) (c .before .popped2 .result .count) refl lt (c .before .before .before .before .before .before .before .before .before .before .cell .ensures) (c .before .before .before .before .before .before .before .before .before .cell2 .ensures) refl (c .link-of .ensures) (c .before .popped2 .ensures) (c .before .before .before .before .before .before .close .ensures)
+    turn-close b (ch .cells) (ch .count) (a .rows .now) (a .marks .now) (c .before .popped2 .result .cells) (c .before .popped2 .result .count) lt (c .before .before .before .before .before .before .before .before .before .before .cell .ensures) (c .before .before .before .before .before .before .before .before .before .cell2 .ensures) refl (c .link-of .ensures) (c .before .popped2 .ensures) (c .before .before .before .before .before .before .close .ensures)
 
 pub shut-spec : {M : Type 1} → statement M
 shut-spec =

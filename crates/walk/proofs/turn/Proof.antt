@@ -1,15 +1,11 @@
 use borrow.Author.Needs.{needs}
-use Rattle.walk.specs.Machine.{chart, turn-open, stack-of-length}
-use mathlib.Core.Path.{_≡_, refl}
-use Prim.Native.Nat.{_≤_, _<_, _-_, _+_, _*_}
+use Rattle.walk.specs.Machine.{chart}
+use Rattle.walk.specs.Turns.{turn-open, stack-of-length}
+use mathlib.Core.Path.{_≡_}
+use Prim.Native.Nat.{_<_, _-_}
 use native.Mathlib.Omega.{arith}
 use Rattle.walk.proofs.turn.Statement.{statement}
 use Rattle.walk.proofs.turn.Tie as tie
-use Rattle.walk.proofs.turn.Reads as reads
-use Rattle.walk.proofs.turn.Lts as lts
-use Rattle.links.proofs.link_of.Reads as link-of-reads
-use Rattle.walk.proofs.Chain.pushed.Reads as pushed-reads
-use Rattle.walk.proofs.shut.Reads as shut-reads
 
 -- src/lib.rt:204:33
 cast-pushed : tie.Need-cast-pushed

@@ -2,7 +2,8 @@ use native.Mathlib.Omega.{arith}
 use Prim.Native.Nat.{_<_, _-_}
 use mathlib.Core.Path.{_≡_, refl, _∙_}
 use lib.ListN.{length}
-use Rattle.walk.specs.Machine.{chart, state-of, most-turns, turns, stack-of-length}
+use Rattle.walk.specs.Machine.{chart, most-turns, turns}
+use Rattle.walk.specs.Turns.{state-of, stack-of-length}
 use Rattle.walk.specs.Walked.{Keeps, keeps-start, keeps-turning, keeps-turn, keeps-less, keeps-end}
 use Rattle.walk.proofs.walk.Statement.{statement}
 use Rattle.walk.proofs.walk.Tie as tie

@@ -1,6 +1,6 @@
 use borrow.Author.Needs.{needs}
 use Prim.Native.Nat.{_-_}
-use Rattle.walk.specs.Machine.{stack-of-push}
+use Rattle.walk.specs.Turns.{stack-of-push}
 use Rattle.walk.proofs.Chain.pushed.Statement.{statement}
 use Rattle.walk.proofs.Chain.pushed.Tie as tie
 
