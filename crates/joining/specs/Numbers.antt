@@ -21,7 +21,7 @@ low-rows xs h i =
     let e : 64 * (i / 64) + i % 64 ≡ i = omega (arith, div-add-mod' i 64) in
     rw e at (h (i / 64) (i % 64) (omega arith))
 
-pub set-low : (xs : List ℕ) (i v : ℕ) → Low xs → v ≤ farthest → Low (set xs i v)
+set-low : (xs : List ℕ) (i v : ℕ) → Low xs → v ≤ farthest → Low (set xs i v)
 set-low xs i v h l q = go (ℕ-discrete q i)
   where
     inside : Dec (i < length xs) → getD (set xs i v) i 0 ≤ farthest

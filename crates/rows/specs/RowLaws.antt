@@ -12,7 +12,7 @@ use lib.Dec.{ltb}
 use Rattle.rows.specs.Rows.{extent, box-one, box-to, put-one, put-to, put-to-more, shifted-of, upto-left, upto-rows, beyond-rows, box-to-length, put-to-length}
 
 module _ (xs : List ℕ) (at j l r : ℕ) (a : at ≤ 60) (fits : 64 * j + 64 ≤ length xs) where
-  pub put-left : extent (put-one xs at j l r) j at ≡ l
+  put-left : extent (put-one xs at j l r) j at ≡ l
   put-left =
       let lt : 64 * j + at < length xs = omega arith in
       let e1 : 64 * j + at ≢ 64 * j + at + 1 = omega arith in
@@ -20,7 +20,7 @@ module _ (xs : List ℕ) (at j l r : ℕ) (a : at ≤ 60) (fits : 64 * j + 64 �
       let e3 : 64 * j + at ≢ 64 * j + at + 3 = omega arith in
       rw (getD-set-other, getD-set-other, getD-set-other, getD-set-same)
 
-  pub put-right : extent (put-one xs at j l r) j (at + 1) ≡ r
+  put-right : extent (put-one xs at j l r) j (at + 1) ≡ r
   put-right =
       let p : 64 * j + (at + 1) ≡ 64 * j + at + 1 = omega arith in
       let lt : 64 * j + at + 1 < length (set xs (64 * j + at) l) = simp length-set (omega arith) in
@@ -28,24 +28,24 @@ module _ (xs : List ℕ) (at j l r : ℕ) (a : at ≤ 60) (fits : 64 * j + 64 �
       let e3 : 64 * j + at + 1 ≢ 64 * j + at + 3 = omega arith in
       rw (p, getD-set-other, getD-set-other, getD-set-same)
 
-  pub put-left-off : extent (put-one xs at j l r) j (at + 2) ≡ 0
+  put-left-off : extent (put-one xs at j l r) j (at + 2) ≡ 0
   put-left-off =
       let p : 64 * j + (at + 2) ≡ 64 * j + at + 2 = omega arith in
       let lt : 64 * j + at + 2 < length (set (set xs (64 * j + at) l) (64 * j + at + 1) r) = simp length-set (omega arith) in
       let e3 : 64 * j + at + 2 ≢ 64 * j + at + 3 = omega arith in
       rw (p, getD-set-other, getD-set-same)
 
-  pub put-right-off : extent (put-one xs at j l r) j (at + 3) ≡ 0
+  put-right-off : extent (put-one xs at j l r) j (at + 3) ≡ 0
   put-right-off =
       let p : 64 * j + (at + 3) ≡ 64 * j + at + 3 = omega arith in
       let lt : 64 * j + at + 3 < length (set (set (set xs (64 * j + at) l) (64 * j + at + 1) r) (64 * j + at + 2) 0) = simp length-set (omega arith) in
       rw (p, getD-set-same)
 
   -- another row, or another column
-  pub put-elsewhere : (i k : ℕ) → k < 64 → 64 * i + k ≢ 64 * j + at → 64 * i + k ≢ 64 * j + at + 1 → 64 * i + k ≢ 64 * j + at + 2 → 64 * i + k ≢ 64 * j + at + 3 → extent (put-one xs at j l r) i k ≡ extent xs i k
+  put-elsewhere : (i k : ℕ) → k < 64 → 64 * i + k ≢ 64 * j + at → 64 * i + k ≢ 64 * j + at + 1 → 64 * i + k ≢ 64 * j + at + 2 → 64 * i + k ≢ 64 * j + at + 3 → extent (put-one xs at j l r) i k ≡ extent xs i k
   put-elsewhere i k lt e0 e1 e2 e3 = rw (getD-set-other, getD-set-other, getD-set-other, getD-set-other)
 
-  pub put-row-other : (i k : ℕ) → k < 64 → i ≢ j → extent (put-one xs at j l r) i k ≡ extent xs i k
+  put-row-other : (i k : ℕ) → k < 64 → i ≢ j → extent (put-one xs at j l r) i k ≡ extent xs i k
   put-row-other i k lt ne = put-elsewhere i k lt (omega arith) (omega arith) (omega arith) (omega arith)
 
 -- the rows from n on are as they were

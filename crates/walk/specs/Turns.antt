@@ -34,7 +34,7 @@ pub stack-of-push : (cs : List ℕ) (k v : ℕ) → k < length cs → stack-of (
 unfolding stack-of
 stack-of-push cs k v lt = rw (add-one, getD-set-same cs k v 0 lt, stack-of-set cs k v k (omega arith))
 
-pub stack-of-top : (cs : List ℕ) (k : ℕ) → 0 < k → stack-of cs k ≡ getD cs (k - 1) 0 ∷ stack-of cs (k - 1)
+stack-of-top : (cs : List ℕ) (k : ℕ) → 0 < k → stack-of cs k ≡ getD cs (k - 1) 0 ∷ stack-of cs (k - 1)
 unfolding stack-of
 stack-of-top cs k lt =
     let e : k ≡ suc (k - 1) = omega arith in
@@ -45,10 +45,10 @@ state-of cs k next xs ms = record { stack = stack-of cs k; next = next; memory =
 
 -- ---- a turn, as the code takes it
 module _ (cs : List ℕ) (k : ℕ) where
-  pub two : 1 < k → stack-of cs k ≡ getD cs (k - 1) 0 ∷ getD cs (k - 1 - 1) 0 ∷ stack-of cs (k - 1 - 1)
+  two : 1 < k → stack-of cs k ≡ getD cs (k - 1) 0 ∷ getD cs (k - 1 - 1) 0 ∷ stack-of cs (k - 1 - 1)
   two lt = stack-of-top cs k (omega arith) ∙ ap (λ (l : List ℕ). getD cs (k - 1) 0 ∷ l) (stack-of-top cs (k - 1) (omega arith))
 
-  pub one : k ≡ 1 → stack-of cs k ≡ getD cs 0 0 ∷ []
+  one : k ≡ 1 → stack-of cs k ≡ getD cs 0 0 ∷ []
   unfolding stack-of
   one e = rw e
 
@@ -75,7 +75,7 @@ turn-end b cs k xs ms cs′ k′ ek ed ew es em =
     let em′ = rw (ed, ew) at em in
     (λ i. record { stack = (es ∙ bottom) i; next = 0; memory = em′ i }) ∙ sym go
 
--- what a turn needs, told of the chain
+-- ---- what a turn needs, told of the chain
 pub shut-two : (b : Chart) (cs : List ℕ) (k : ℕ) (xs ms : List ℕ) {c f level : ℕ} → Turning b (state-of cs k 0 xs ms) → 1 < k → c ≡ getD cs (k - 1) 0 → f ≡ getD cs (k - 1 - 1) 0 → level ≡ k - 1 - 1
     → Closing b level f c xs ms
 shut-two b cs k xs ms {c} {f} {level} h lt ec ef el =
@@ -90,7 +90,7 @@ shut-one b cs k xs ms h e = subst (λ (l : List ℕ). Shutting b l (mem xs ms)) 
 pub turn-some : (b : Chart) (cs : List ℕ) (k : ℕ) (xs ms : List ℕ) → Turning b (state-of cs k 0 xs ms) → (0 < k) × (k ≤ 32)
 turn-some b cs k xs ms h = let e = stack-of-length cs k in (omega (arith, h .some), omega (arith, h .many))
 
--- the numbers that the code finds on its way
+-- ---- the numbers that the code finds on its way
 pub settle-ready : (m : Memory) (at f c d w : ℕ) {hs : ℕ} {xs ms : List ℕ} → Finishing m at f c d w → mem xs ms ≡ completed m (at + 2) c d w → hs ≡ height (m .marks) c d → Settling (mem xs ms) at f c hs
 settle-ready m at f c d w h e eh = rw (e, eh) (h .settling)
 
