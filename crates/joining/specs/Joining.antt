@@ -7,7 +7,7 @@ use native.Mathlib.Omega.{arith}
 use lib.ListN.{length, getD, set, length-set}
 use lib.Dec.{ltb}
 use Rattle.plan.specs.Limits.{last-row, farthest}
-use Rattle.rows.specs.Rows.{Low, box-to, max-to, clash-to, upto-rows, beyond-rows}
+use Rattle.rows.specs.Rows.{row-size, Low, box-to, max-to, clash-to, upto-rows, beyond-rows}
 
 -- the scratch and the marks
 pub record Memory : Type 0 where
@@ -68,15 +68,15 @@ settled m at f c hs place apt al = settled-at m at f c hs place apt al
 pub record Completing (m : Memory) (at c d : ℕ) : Type 0 where
   pub column : at ≤ 62
   pub own : 4 * c + 4 ≤ length (m .marks)
-  pub rows : 64 * height (m .marks) c d ≤ length (m .rows)
+  pub rows : row-size * height (m .marks) c d ≤ length (m .rows)
   pub behind : mark (m .marks) c 2 ≤ mark (m .marks) c 3
 
 pub record Settling (m : Memory) (at f c hs : ℕ) : Type 0 where
   pub column : at ≤ 60
   pub own : 4 * c + 4 ≤ length (m .marks)
   pub theirs : 4 * f + 4 ≤ length (m .marks)
-  pub rows : 64 * hs ≤ length (m .rows)
-  pub tall : 64 * mark (m .marks) f 0 ≤ length (m .rows)
+  pub rows : row-size * hs ≤ length (m .rows)
+  pub tall : row-size * mark (m .marks) f 0 ≤ length (m .rows)
   pub small : hs ≤ last-row + 1
   pub smallf : mark (m .marks) f 0 ≤ last-row + 1
   pub low : Low (m .rows)
@@ -87,8 +87,8 @@ pub record Settling (m : Memory) (at f c hs : ℕ) : Type 0 where
 
 pub record Siding (xs : List ℕ) (at hf hs past g : ℕ) : Type 0 where
   pub column : at ≤ 60
-  pub rows : 64 * hs ≤ length xs
-  pub tall : 64 * hf ≤ length xs
+  pub rows : row-size * hs ≤ length xs
+  pub tall : row-size * hf ≤ length xs
   pub low : Low xs
   pub small-past : past ≤ farthest
   pub small-step : g ≤ 2 * farthest + 1
@@ -97,7 +97,7 @@ pub record Siding (xs : List ℕ) (at hf hs past g : ℕ) : Type 0 where
 clash-low : (xs : List ℕ) (k x n : ℕ) → Low xs → clash-to xs k x n ≤ 2 * farthest + 1
 unfolding clash-to
 clash-low xs k x zero h = omega arith
-clash-low xs k x (suc n) h = omega (arith, clash-low xs k x n h, h (64 * n + (k + 1)), h (64 * n + (k + 2)))
+clash-low xs k x (suc n) h = omega (arith, clash-low xs k x n h, h (row-size * n + (k + 1)), h (row-size * n + (k + 2)))
 
 apart-low : (m : Memory) (at f c hs al : ℕ) → Settling m at f c hs → apart m at f c hs al ≤ 2 * farthest + 1
 unfolding apart

@@ -5,7 +5,7 @@ use Prim.Native.Nat.{ℕ, zero, suc, _+_, _-_, _*_, _≤_, _<_}
 use native.Mathlib.Omega.{arith}
 use lib.ListN.{length, getD, take, drop}
 use Rattle.plan.specs.Limits.{most-cells}
-use Rattle.rows.specs.Rows.{box-to}
+use Rattle.rows.specs.Rows.{row-size, box-to}
 use Rattle.joining.specs.Joining.{Memory, mem, height, completed, Completing, Settling}
 use Rattle.joining.specs.Settle.{finished}
 use Rattle.links.specs.Links.{link}
@@ -42,12 +42,12 @@ pub record State : Type 0 where
 
 -- the part of the scratch from row y on, changed
 abbrev pub below-row : List ℕ → ℕ → Memory → Memory
-below-row xs y m = mem (take (64 * y) xs ++ m .rows) (m .marks)
+below-row xs y m = mem (take (row-size * y) xs ++ m .rows) (m .marks)
 
 -- the child c of f, at the level below, is closed: only the rows from its top row on change
 unfoldable pub closed : Chart → ℕ → ℕ → ℕ → Memory → Memory
 closed b level f c m =
-    below-row (m .rows) (top b c) (finished (mem (drop (64 * top b c) (m .rows)) (m .marks)) (2 * level) f c (deep b c) (wide b c) (link (b .links) c 2) (apt b f) (b .allowance))
+    below-row (m .rows) (top b c) (finished (mem (drop (row-size * top b c) (m .rows)) (m .marks)) (2 * level) f c (deep b c) (wide b c) (link (b .links) c 2) (apt b f) (b .allowance))
 
 -- the root is closed, and its rows are cleared
 unfoldable pub root-closed : Memory → ℕ → ℕ → Memory
@@ -79,8 +79,8 @@ pub record Closing (b : Chart) (level f c : ℕ) (xs ms : List ℕ) : Type 0 whe
   pub depths : c < length (b .depths)
   pub tops : c < length (b .tops)
   pub shallow : level ≤ 30
-  pub start : 64 * top b c ≤ length xs
-  pub finishing : Finishing (mem (drop (64 * top b c) xs) ms) (2 * level) f c (deep b c) (wide b c)
+  pub start : row-size * top b c ≤ length xs
+  pub finishing : Finishing (mem (drop (row-size * top b c) xs) ms) (2 * level) f c (deep b c) (wide b c)
 
 pub record Ending (b : Chart) (m : Memory) : Type 0 where
   pub widths : 0 < length (b .widths)

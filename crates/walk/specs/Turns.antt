@@ -7,7 +7,7 @@ use native.Mathlib.Omega.{arith}
 use native.Mathlib.Numerals.{add-one}
 use lib.ListN.{length, getD, set, take, drop}
 use lib.Seq.{getD-set-same, getD-set-other}
-use Rattle.rows.specs.Rows.{box-to}
+use Rattle.rows.specs.Rows.{row-size, box-to}
 use Rattle.joining.specs.Joining.{Memory, mem, height, completed, settled, Settling}
 use Rattle.joining.specs.Settle.{finished}
 use Rattle.links.specs.Links.{link}
@@ -102,13 +102,13 @@ pub root-found : (m : Memory) (d w : ℕ) {hs : ℕ} {xs ms xs′ : List ℕ} �
 unfolding root-closed
 root-found m d w e eh ex = cc (ap (λ (n : Memory). n .rows) e, ap (λ (n : Memory). n .marks) e)
 
-pub child-ready : (b : Chart) (level f c : ℕ) (xs ms : List ℕ) → Closing b level f c xs ms → {d w at : ℕ} {ys : List ℕ} → d ≡ deep b c → w ≡ wide b c → at ≡ 2 * level → ys ≡ drop (64 * top b c) xs → Finishing (mem ys ms) at f c d w
+pub child-ready : (b : Chart) (level f c : ℕ) (xs ms : List ℕ) → Closing b level f c xs ms → {d w at : ℕ} {ys : List ℕ} → d ≡ deep b c → w ≡ wide b c → at ≡ 2 * level → ys ≡ drop (row-size * top b c) xs → Finishing (mem ys ms) at f c d w
 child-ready b level f c xs ms h ed ew ea ey = rw (ed, ew, ea, ey) (h .finishing)
 
 pub close-found : (b : Chart) (level f c : ℕ) (xs ms : List ℕ) {d w y place a : ℕ} {ys ys′ ms′ zs : List ℕ} → d ≡ deep b c → w ≡ wide b c → y ≡ top b c → place ≡ link (b .links) c 2 → a ≡ apt b f
-    → ys ≡ drop (64 * y) xs → mem ys′ ms′ ≡ finished (mem ys ms) (2 * level) f c d w place a (b .allowance) → zs ≡ take (64 * y) xs ++ ys′ → mem zs ms′ ≡ closed b level f c (mem xs ms)
+    → ys ≡ drop (row-size * y) xs → mem ys′ ms′ ≡ finished (mem ys ms) (2 * level) f c d w place a (b .allowance) → zs ≡ take (row-size * y) xs ++ ys′ → mem zs ms′ ≡ closed b level f c (mem xs ms)
 unfolding closed
 close-found b level f c xs ms ed ew ey ep ea eys em ez =
     let e = rw (ed, ew, ep, ea, eys, ey) at em in
     let ez′ = rw ey at ez in
-    (λ i. mem (ez′ i) (e i .marks)) ∙ (λ i. mem (take (64 * top b c) xs ++ e i .rows) (finished (mem (drop (64 * top b c) xs) ms) (2 * level) f c (deep b c) (wide b c) (link (b .links) c 2) (apt b f) (b .allowance) .marks))
+    (λ i. mem (ez′ i) (e i .marks)) ∙ (λ i. mem (take (row-size * top b c) xs ++ e i .rows) (finished (mem (drop (row-size * top b c) xs) ms) (2 * level) f c (deep b c) (wide b c) (link (b .links) c 2) (apt b f) (b .allowance) .marks))

@@ -7,7 +7,6 @@ use native.Mathlib.Omega.{arith}
 use Rattle.walk.proofs.shut.Statement.{statement}
 use Rattle.walk.proofs.shut.Tie as tie
 
--- src/lib.rt:160:17
 sub-level : tie.Need-sub-level
 sub-level c =
     let st = c .before .before .before .before .before .before .before in
@@ -17,7 +16,6 @@ sub-level c =
     let so = turn-some b (ch .cells) (ch .count) (a .rows .now) (a .marks .now) (st .pre) in
     omega arith
 
--- src/lib.rt:162:34
 number-requires : tie.Need-number-requires
 number-requires c κs =
     let st = c .before .before .before .before .before .before .before .before .before .before in
@@ -28,7 +26,6 @@ number-requires c κs =
     let ek : ch .count ≡ 1 = omega (arith, so, c .before .before .if1 .taken) in
     shut-one b (ch .cells) (ch .count) (a .rows .now) (a .marks .now) (st .pre) ek .depths
 
--- src/lib.rt:162:53
 width-of-requires : tie.Need-width-of-requires
 width-of-requires c κs =
     let st = c .before .before .before .before .before .before .before .before .before .before .before in
@@ -39,7 +36,6 @@ width-of-requires c κs =
     let ek : ch .count ≡ 1 = omega (arith, so, c .before .before .before .if1 .taken) in
     shut-one b (ch .cells) (ch .count) (a .rows .now) (a .marks .now) (st .pre) ek .widths
 
--- src/lib.rt:162:9
 finish-root-requires : tie.Need-finish-root-requires
 finish-root-requires c κs =
     let st = c .before .before .before .before .before .before .before .before .before .before .before .before in
@@ -50,7 +46,6 @@ finish-root-requires c κs =
     let ek : ch .count ≡ 1 = omega (arith, so, c .before .before .before .before .if1 .taken) in
     rw (c .before .number .ensures) (shut-one b (ch .cells) (ch .count) (a .rows .now) (a .marks .now) (st .pre) ek .rooting)
 
--- src/lib.rt:164:20
 popped-requires : tie.Need-popped-requires
 popped-requires c κs =
     let st = c .before .before .before .before .before .before .before .before .before .before .before .before .before .before .before .before .before in
@@ -60,15 +55,12 @@ popped-requires c κs =
     let so = turn-some b (ch .cells) (ch .count) (a .rows .now) (a .marks .now) (st .pre) in
     omega arith
 
--- src/lib.rt:163:9
 same-length : tie.Need-same-length
 same-length c = search needs
 
--- src/lib.rt:163:9
 same-length-2 : tie.Need-same-length-2
 same-length-2 c = search needs
 
--- src/lib.rt:163:9
 returns : tie.Need-returns
 returns c =
     let st = c .before .before .before .before .before .before .before .before .before .before .before .before .before .before .before .before .before .before in
@@ -79,7 +71,6 @@ returns c =
     let ek : ch .count ≡ 1 = omega (arith, so, c .before .before .before .before .before .before .before .before .before .before .if1 .taken) in
     turn-end b (ch .cells) (ch .count) (a .rows .now) (a .marks .now) (c .popped .result .cells) (c .popped .result .count) ek (c .before .before .before .before .before .before .before .number .ensures) (c .before .before .before .before .before .before .width-of .ensures) (c .popped .ensures) (c .before .before .before .before .before .finish-root .ensures)
 
--- src/lib.rt:168:9
 cell-requires : tie.Need-cell-requires
 cell-requires c κs =
     let st = c .before .before .before .before .before .before .before .before in
@@ -89,15 +80,12 @@ cell-requires c κs =
     let so = turn-some b (ch .cells) (ch .count) (a .rows .now) (a .marks .now) (st .pre) in
     omega arith
 
--- src/lib.rt:175:9
 sub-close : tie.Need-sub-close
 sub-close c = search needs
 
--- src/lib.rt:176:20
 sub-cell : tie.Need-sub-cell
 sub-cell c = search needs
 
--- src/lib.rt:176:9
 cell-requires-2 : tie.Need-cell-requires-2
 cell-requires-2 c κs =
     let st = c .before .before .before .before .before .before .before .before .before in
@@ -107,7 +95,6 @@ cell-requires-2 c κs =
     let so = turn-some b (ch .cells) (ch .count) (a .rows .now) (a .marks .now) (st .pre) in
     omega arith
 
--- src/lib.rt:169:5
 close-requires : tie.Need-close-requires
 close-requires c κs =
     let st = c .before .before .before .before .before .before .before .before .before .before .before .before in
@@ -118,11 +105,9 @@ close-requires c κs =
     let lt : 1 < ch .count = omega (arith, so, c .before .before .before .before .if1 .left) in
     shut-two b (ch .cells) (ch .count) (a .rows .now) (a .marks .now) (st .pre) lt (c .before .before .before .cell .ensures) (c .before .before .cell2 .ensures) refl
 
--- src/lib.rt:182:16
 popped-requires-2 : tie.Need-popped-requires-2
 popped-requires-2 c κs = search needs
 
--- src/lib.rt:183:15
 link-of-requires : tie.Need-link-of-requires
 link-of-requires c κs =
     let st = c .before .before .before .before .before .before .before .before .before .before .before .before .before .before .before .before .before .before in
@@ -133,15 +118,12 @@ link-of-requires c κs =
     let lt : 1 < ch .count = omega (arith, so, c .before .before .before .before .before .before .before .before .before .before .if1 .left) in
     (shut-two b (ch .cells) (ch .count) (a .rows .now) (a .marks .now) (st .pre) lt (c .before .before .before .before .before .before .before .before .before .cell .ensures) (c .before .before .before .before .before .before .before .before .cell2 .ensures) refl .links, omega arith)
 
--- src/lib.rt:147:1
 same-length-3 : tie.Need-same-length-3
 same-length-3 c = search needs
 
--- src/lib.rt:147:1
 same-length-4 : tie.Need-same-length-4
 same-length-4 c = search needs
 
--- src/lib.rt:147:1
 returns-2 : tie.Need-returns-2
 returns-2 c =
     let st = c .before .before .before .before .before .before .before .before .before .before .before .before .before .before .before .before .before .before .before in

@@ -7,7 +7,6 @@ use native.Mathlib.Omega.{arith}
 use Rattle.walk.proofs.turn.Statement.{statement}
 use Rattle.walk.proofs.turn.Tie as tie
 
--- src/lib.rt:204:33
 cast-pushed : tie.Need-cast-pushed
 cast-pushed c =
     let st = c .before .before .before .before .before .before .before in
@@ -17,7 +16,6 @@ cast-pushed c =
     let lt : 0 < a .next = omega (arith, c .if1 .taken) in
     omega (arith, st .pre .into lt .small)
 
--- src/lib.rt:204:20
 pushed-requires : tie.Need-pushed-requires
 pushed-requires c κs =
     let st = c .before .before .before .before .before .before .before in
@@ -27,7 +25,6 @@ pushed-requires c κs =
     let lt : 0 < a .next = omega (arith, c .if1 .taken) in
     omega (arith, st .pre .into lt .room, stack-of-length (ch .cells) (ch .count))
 
--- src/lib.rt:205:19
 link-of-requires : tie.Need-link-of-requires
 link-of-requires c κs =
     let st = c .before .before .before .before .before .before .before .before in
@@ -37,7 +34,6 @@ link-of-requires c κs =
     let lt : 0 < a .next = omega (arith, c .before .if1 .taken) in
     (st .pre .into lt .links, omega arith)
 
--- src/lib.rt:203:9
 returns : tie.Need-returns
 returns c =
     let st = c .before .before .before .before .before .before .before .before .before in
@@ -47,7 +43,6 @@ returns c =
     let lt : 0 < a .next = omega (arith, c .before .before .if1 .taken) in
     turn-open b (ch .cells) (ch .count) (a .next) (a .rows .now) (a .marks .now) (c .before .pushed .result .cells) (c .before .pushed .result .count) lt (c .link-of .ensures) (c .before .pushed .ensures)
 
--- src/lib.rt:208:5
 shut-requires : tie.Need-shut-requires
 shut-requires c κs =
     let st = c .before .before .before .before .before .before .before .before .before in
@@ -57,15 +52,12 @@ shut-requires c κs =
     let ez : a .next ≡ 0 = omega (arith, c .before .before .if1 .left) in
     rw ez at (st .pre)
 
--- src/lib.rt:188:1
 same-length : tie.Need-same-length
 same-length c = search needs
 
--- src/lib.rt:188:1
 same-length-2 : tie.Need-same-length-2
 same-length-2 c = search needs
 
--- src/lib.rt:188:1
 returns-2 : tie.Need-returns-2
 returns-2 c =
     let st = c .before .before .before .before .before .before .before .before .before .before .before .before .before .before in
