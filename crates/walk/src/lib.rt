@@ -162,7 +162,7 @@ fn shut(
     links: &[u16],
     widths: &[u16],
     depths: &[u8],
-    tops: &[u8],
+    tops: &[u16],
     allowance: u32,
     chain: Chain,
     rows: &mut [u32],
