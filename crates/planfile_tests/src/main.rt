@@ -1,0 +1,127 @@
+// What Read and Label answer for each case on standard input. A case is three numbers of two bytes, low byte first, and a file:
+// the file's length, the length of the table to fill, and the cell whose label is asked for.
+use planfile::Reading;
+ghost use Prim.Native.Nat.{_<_};
+
+fn number(low: u8, high: u8) -> usize {
+    (low as usize) + 256 * (high as usize)
+}
+
+fn print(n: u64, after: u8) {
+    io::print_decimal(1, n);
+    io::write_all(1, &[after]);
+}
+
+fn print16(n: u16, after: u8) {
+    print(n as u64, after);
+}
+
+fn print8(n: u8, after: u8) {
+    print(n as u64, after);
+}
+
+// The record of a cell: parent, kind, W, D, label's length and start, and the label itself.
+fn print_record(plan: Reading, file: &[u8], c: usize)
+    requires { ⌜ c < 256 ⌝ }
+{
+    let columns = plan.columns;
+    let parents = columns.parent;
+    let kinds = columns.kind;
+    let widths = columns.width;
+    let depths = columns.depth;
+    let lengths = plan.label_length;
+    let starts = plan.label_start;
+    print16(parents[c], b' ');
+    print8(kinds[c], b' ');
+    print16(widths[c], b' ');
+    print8(depths[c], b' ');
+    print8(lengths[c], b' ');
+    print16(starts[c], b' ');
+    io::write_all(1, planfile::label(file, c));
+    io::write_all(1, b"\n");
+}
+
+// The first four records and the one after the last, which is blank.
+fn print_records(plan: Reading, file: &[u8], n: usize) {
+    let mut c: usize = 0;
+    while c < 4 {
+        if c <= n {
+            print_record(plan, file, c);
+        }
+        c += 1;
+    }
+}
+
+fn print_reading(file: &[u8], room: usize) {
+    let plan = planfile::read(file, room);
+    let refusal = plan.refusal;
+    if refusal.number != 0 {
+        io::write_all(1, b"refused ");
+        print(refusal.number as u64, b' ');
+        print(refusal.cell as u64, b'\n');
+        return;
+    }
+    let columns = plan.columns;
+    let n = columns.count;
+    io::write_all(1, b"plan ");
+    print(n as u64, b' ');
+    print(plan.allowance as u64, b'\n');
+    print_records(plan, file, n);
+}
+
+fn print_label(file: &[u8], cell: usize) {
+    let refusal = planfile::label_refusal(file, cell);
+    io::write_all(1, b"label ");
+    print(refusal.number as u64, b' ');
+    print(refusal.cell as u64, b' ');
+    io::write_all(1, planfile::label(file, cell));
+    io::write_all(1, b"\n");
+}
+
+// Reads so many bytes; false where the input ends before.
+fn filled(space: &mut [u8], size: usize) -> bool {
+    if space.len() < size {
+        return false;
+    }
+    let n = io::read_full(0, &mut space[..size]);
+    size <= n
+}
+
+fn print_case(space: &[u8], size: usize, room: usize, cell: usize) {
+    if space.len() < size {
+        return;
+    }
+    let file = &space[..size];
+    print_reading(file, room);
+    print_label(file, cell);
+}
+
+// One case; false where the input has ended.
+fn answer(space: &mut [u8]) -> bool {
+    let mut head = [0u8; 6];
+    if io::read_full(0, &mut head) < 6 {
+        return false;
+    }
+    let size = number(head[0], head[1]);
+    if !filled(space, size) {
+        return false;
+    }
+    print_case(
+        space,
+        size,
+        number(head[2], head[3]),
+        number(head[4], head[5]),
+    );
+    true
+}
+
+fn main() {
+    let mut space = [0u8; 16400];
+    let mut turns: usize = 500;
+    while 0 < turns {
+        if !answer(&mut space) {
+            return;
+        }
+        turns -= 1;
+    }
+}

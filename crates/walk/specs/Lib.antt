@@ -1,0 +1,6 @@
+pub mod Machine
+pub mod Turns
+pub mod Tree
+pub mod Shows
+pub mod Claim
+pub mod Walked
