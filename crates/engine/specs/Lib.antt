@@ -1,3 +1,4 @@
 pub mod Read
 pub mod ReadLaws
 pub mod Label
+pub mod LentLaws
