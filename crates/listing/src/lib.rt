@@ -13,7 +13,9 @@ ghost use Rattle.listing.specs.Put.{Put};
 ghost use Rattle.listing.specs.Line.{«line-size», «line-of»};
 
 const SPACE: u8 = 32;
+
 const LINE_FEED: u8 = 10;
+
 const MINUS_SIGN: u8 = 45;
 
 // A line: its bytes, then zeros.
