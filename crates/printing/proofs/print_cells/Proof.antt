@@ -24,7 +24,7 @@ line-at-requires c κs = omega arith
 
 -- src/lib.rt:42:9
 print-requires : tie.Need-print-requires Inv-loop μ-loop
-print-requires c κs = c .line-at .ensures .1
+print-requires c κs = search needs
 
 -- src/lib.rt:43:9
 add-c : tie.Need-add-c Inv-loop μ-loop
