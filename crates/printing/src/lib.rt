@@ -4,7 +4,6 @@ use listing::Line;
 use listing::cell_line;
 use listing::refused_line;
 use listing::sheet_line;
-use plan::Refusal;
 use plan::limits::MOST_CELLS;
 use planfile::Reading;
 ghost use mathlib.Core.Path.{_≡_};
