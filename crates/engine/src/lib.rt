@@ -1,5 +1,6 @@
 // THE CALLS, over lent records: no call asks anything of its caller.
 use connectors::Ended;
+use drawing::Laid;
 use plan::Record;
 use plan::Refusal;
 use planfile::Reading;
@@ -9,6 +10,7 @@ use verdict::Checked;
 ghost use mathlib.Core.Path.{_≡_};
 ghost use Rattle.plan.specs.Records.{«cells-of»};
 ghost use Rattle.planfile.specs.Reading.{«label-refusal»};
+ghost use Rattle.drawing.specs.Laid.{Lays};
 ghost use Rattle.verdict.specs.Checked.{«checked-of»};
 ghost use Rattle.connectors.specs.Ended.{«ended-of»};
 ghost use Rattle.engine.specs.Read.{Reads};
@@ -67,6 +69,14 @@ pub fn label_refusal(file: &[u8], cell: usize) -> Refusal
     ensures { λ r. ⌜ r ≡ label-refusal (now (file .entry)) cell ⌝ }
 {
     planfile::label_refusal(file, cell)
+}
+
+// Layout: our sheet is written into the positions; its width and rows, or the refusal.
+pub fn layout(table: &[Record], allowance: u32, scratch: &mut [u32], positions: &mut [i32]) -> Laid
+    ensures { λ r. ⌜ Lays (cells-of (now (table .entry))) allowance (now (scratch .entry)) (now (scratch .exit)) (now (positions .entry)) (now (positions .exit)) r ⌝ }
+{
+    let t = columns_of(table);
+    drawing::layout(t, allowance, scratch, positions)
 }
 
 // Check: "kept" with width and rows, or "broken" with the lowest rule, then the lowest a, then the lowest b; or the refusal.
