@@ -2,3 +2,4 @@ pub mod Read
 pub mod ReadLaws
 pub mod Label
 pub mod LentLaws
+pub mod Demand
