@@ -22,12 +22,12 @@ use Rattle.drawing.specs.declared.Laid.the-variants.{Sheet, Refused}
 unfoldable pub answer : Table → (allowance : ℕ) → Refusal → Laid
 answer t al r = cond (eqb (r .number) 0) (Sheet (plus (width t (sheet t al))) (plus (rows t (sheet t al)))) (Refused (r .number) (r .cell))
 
--- the lent positions after an answer: x then y of each cell, nothing beyond; as they were
+-- the lent positions after it. Of a sheet: x then y of each cell, nothing beyond. Of a refusal: as they were
 unfoldable pub positions-after : Laid → Table → (allowance : ℕ) → List ℤ → List ℤ
 positions-after (Sheet w h) t al ps = written ps (sheet t al) (length t)
 positions-after (Refused k c) t al ps = ps
 
--- the lent scratch after an answer: the first 16,384 numbers zero, later ones as they were; as it was
+-- the lent scratch after it. Of a sheet: the first 16,384 numbers zero, later ones as they were. Of a refusal: as it was
 unfoldable pub scratch-after : Laid → List ℕ → List ℕ
 scratch-after (Sheet w h) s = replicate scratch-size 0 ++ drop scratch-size s
 scratch-after (Refused k c) s = s

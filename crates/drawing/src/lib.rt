@@ -83,7 +83,7 @@ fn draw(t: Columns, allowance: u32, scratch: &mut [u32], positions: &mut [i32]) 
     Laid::Sheet(sheet_width(&xs, &widths, n), sheet_rows(&tops, &depths, n))
 }
 
-// Layout.
+// Layout: the questions, then our sheet.
 pub fn layout(t: Columns, allowance: u32, scratch: &mut [u32], positions: &mut [i32]) -> Laid
     ensures { λ r. ⌜ Lays (table-of t) allowance (now (scratch .entry)) (now (scratch .exit)) (now (positions .entry)) (now (positions .exit)) r ⌝ }
 {

@@ -11,10 +11,11 @@ pub record Raised (xs : List ℕ) (n : ℕ) (x : ℕ → ℤ) : Type 0 where
   pub each : (c : ℕ) → c < n → pos (getD xs c 0) ≡ x c +ℤ pos farthest
   pub high : (c : ℕ) → c < n → getD xs c 0 ≤ 2 * farthest
 
+-- at most 256 numbers that leave room for a width
 pub record High (xs : List ℕ) (n : ℕ) : Type 0 where
   pub few : n ≤ 256
   pub high : (c : ℕ) → c < n → getD xs c 0 ≤ 2 * farthest
 
--- n rows
+-- n rows, each a y
 pub record Topped (ts : List ℕ) (n : ℕ) (y : ℕ → ℤ) : Type 0 where
   pub each : (c : ℕ) → c < n → pos (getD ts c 0) ≡ y c
