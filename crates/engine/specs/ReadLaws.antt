@@ -1,27 +1,25 @@
 -- From a reading to Read's answer: for the code. Nothing that a reader must believe stands here. Assumes nothing.
 use mathlib.Core.Path.{_≡_, refl, sym, ap, _∙_}
-use mathlib.Core.List.{List, _++_, map}
+use mathlib.Core.List.{List, _++_}
 use Prim.Native.Nat.{ℕ, _≤_, _<_, zero-le}
 use native.Mathlib.Omega.{arith}
 use native.Mathlib.Decide.{ℕ-discrete}
 use borrow.Author.Tests.{eq-eqb, ne-eqb}
-use lib.Dec.{eqb, leb, leb→le}
+use lib.Dec.{leb, leb→le}
 use lib.ListN.{length, drop}
 use Rattle.plan.specs.Limits.{most-cells}
-use Rattle.plan.specs.Lists.{from}
-use Rattle.plan.specs.Questions.{none, asked, or-else, long, read, refusal}
+use Rattle.plan.specs.Questions.{none, asked, refusal}
 use Rattle.plan.specs.QuestionLaws.{both-none, asked-yes}
 use Rattle.plan.specs.declared.Record.{Record}
 use Rattle.plan.specs.declared.Refusal.{Refusal}
-use Rattle.planfile.specs.Format.{trailer-of, entry, records-of, file-given}
-use Rattle.planfile.specs.Reading.{column, columns-of, reading-of}
+use Rattle.planfile.specs.Format.{trailer-of, entry, records-of}
+use Rattle.planfile.specs.Reading.{columns-of, reading-of}
 use Rattle.planfile.specs.FileSteps.{header-refusal, body-refusal, file-refusal}
 use Rattle.planfile.specs.FileLaws as Law
 use Rattle.planfile.specs.ExaminedLaws.{column-at, header-read}
 use Rattle.planfile.specs.declared.Reading.{Reading}
 use Rattle.records.specs.Together.{record-in, filled}
 use Rattle.records.specs.TogetherLaws.{filled-none, filled-all}
-use Rattle.engine.specs.declared.ReadAnswer.{ReadAnswer}
 use Rattle.engine.specs.declared.ReadAnswer.the-variants.{Plan, Refused}
 use Rattle.engine.specs.declared.Parsed.{Parsed}
 use Rattle.engine.specs.Read.{read-refusal, answer, table-after, Reads}

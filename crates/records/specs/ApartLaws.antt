@@ -1,8 +1,8 @@
 -- The columns of a lent table, record by record, and the table that they make. Assumes nothing.
-use mathlib.Core.Path.{_≡_, refl, sym, ap, _∙_, subst}
+use mathlib.Core.Path.{_≡_, refl, sym, _∙_, subst}
 use mathlib.Core.List.{List, [], _∷_, map}
 use mathlib.Core.Bool.{Bool, true, false, cond}
-use Prim.Native.Nat.{ℕ, zero, suc, _+_, _≤_, _<_, zero-le}
+use Prim.Native.Nat.{ℕ, suc, _+_, _≤_, _<_, zero-le}
 use native.Mathlib.Nat.{le-refl, zero-add}
 use native.Mathlib.Omega.{arith}
 use native.Mathlib.Numerals.{add-one}
@@ -17,7 +17,6 @@ use Rattle.plan.specs.Records.{bare, cells-of}
 use Rattle.plan.specs.Columns.{table, table-of}
 use Rattle.plan.specs.ColumnLaws.{table-length}
 use Rattle.plan.specs.declared.Record.{Record}
-use Rattle.plan.specs.declared.Columns.{Columns}
 use Rattle.planfile.specs.Reading.{column}
 use Rattle.planfile.specs.ExaminedLaws.{column-at}
 use Rattle.records.specs.Apart.{lent-at, columns, clipped, lent-columns, blank, with-record}

@@ -1,14 +1,13 @@
 -- A lent table of more than 256 records is refused by its length alone. Assumes nothing.
-use mathlib.Core.Path.{_≡_, refl, sym, ap, _∙_}
+use mathlib.Core.Path.{_≡_, _∙_}
 use mathlib.Core.List.{List}
-use mathlib.Core.Bool.{true, false}
-use Prim.Native.Nat.{ℕ, _≤_, _<_}
+use Prim.Native.Nat.{ℕ, _<_}
 use native.Mathlib.Omega.{arith}
 use borrow.Author.Tests.{le-leb, lt-leb}
 use lib.Dec.{leb}
 use lib.ListN.{length}
 use lib.IntN.{ℤ}
-use Rattle.plan.specs.Limits.{between, most-cells, scratch-size}
+use Rattle.plan.specs.Limits.{most-cells, scratch-size}
 use Rattle.plan.specs.Plan.{Table}
 use Rattle.plan.specs.Questions.{asked, or-else, refusal, layout, check, ends, layout-given, check-given, ends-given}
 use Rattle.plan.specs.QuestionLaws.{first-some}

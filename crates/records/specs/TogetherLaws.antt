@@ -1,6 +1,6 @@
 -- A table filled record by record, and what it is then. Assumes nothing.
-use mathlib.Core.Path.{_≡_, refl, sym, ap, _∙_}
-use mathlib.Core.List.{List, [], _∷_, _++_, map}
+use mathlib.Core.Path.{_≡_, refl, ap, _∙_}
+use mathlib.Core.List.{List, _∷_, _++_, map}
 use Prim.Native.Nat.{ℕ, zero, suc, _+_, _≤_, _<_}
 use native.Mathlib.Omega.{arith}
 use native.Mathlib.Nat.{zero-add}
@@ -18,7 +18,7 @@ use Rattle.records.specs.Together.{record-in, filled}
 pub filled-length : (r : Reading) (n : ℕ) (t : List Record) → length (filled r n t) ≡ length t
 unfolding filled
 filled-length r zero t = refl
-filled-length r (suc n) t = length-set (filled r n t) n (record-in r n) ∙ filled-length r n t
+filled-length r (suc n) t = length-set (filled r n t) _ _ ∙ filled-length r n t
 
 pub filled-none : (r : Reading) (t : List Record) → t ≡ filled r 0 t
 unfolding filled

@@ -1,8 +1,8 @@
 -- `engine::read` meets its contract: a walk of its MIR, by hand. `parse` is called on a copy of the file's slice, and `records::fill` on what it read and on the table, which is given up to it.
 -- All that the proof knows of the two is that each meets its contract.
 -- Assumes nothing.
-use mathlib.Core.Path.{_≡_, refl, _∙_, ap}
-use Prim.Native.Nat.{ℕ, _≤_, _<_, _^_}
+use mathlib.Core.Path.{_≡_, refl, ap}
+use Prim.Native.Nat.{ℕ, _≤_}
 use native.Mathlib.Nat.{lt-of-le-of-lt}
 use mathlib.Core.List.{[], _∷_, List}
 use lib.ListN.{length}
