@@ -1,16 +1,16 @@
 -- A signed number of 32 bits: how far it lies below 0, as the machine works it out, and its digits. Assumes nothing.
-use mathlib.Core.Path.{_≡_, refl, sym, ap, _∙_}
+use mathlib.Core.Path.{_≡_, refl, _∙_}
 use mathlib.Core.List.{List, [], _∷_}
-use Prim.Native.Nat.{ℕ, suc, _+_, _-_, _<_, _≤_, _^_}
+use Prim.Native.Nat.{ℕ, _+_, _-_, _<_, _≤_, _^_}
 use native.Mathlib.Omega.{arith}
 use mathlib.Core.Bool.{true, false}
 use lib.Dec.{T}
-use lib.IntN.{ℤ, pos, negsuc, negℤ, _+ℤ_, _-ℤ_, natAbs}
+use lib.IntN.{ℤ, pos, negsuc, _+ℤ_, _-ℤ_, natAbs}
 use lib.Signed.{_<ℤ_, _≤ℤ_, nonNeg, ltZ}
 use mir.Syntax.{w32}
 use mir.Val.{toZ, ofZ, Fits, SFits}
 use mir.ValLaws.{toZ-ofZ}
-use Rattle.whole.specs.Whole.{whole, minus, plus, narrow, not-lt, sum, diff, neg-plus, neg-minus}
+use Rattle.whole.specs.Whole.{whole, minus, plus, narrow, not-lt, sum, diff}
 use Rattle.whole.specs.Says.{holds, fails, says-ltZ}
 use Rattle.whole.proofs.Machine.{fits32}
 use Rattle.listing.specs.Printed.{signed, minus-sign, decimal}

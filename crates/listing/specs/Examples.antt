@@ -1,9 +1,8 @@
 -- Lines of document 01 and others, computed. Assumes nothing.
 use mathlib.Core.Path.{_≡_, refl}
 use mathlib.Core.List.{[], _∷_}
-use Prim.Native.Nat.{ℕ}
 use lib.IntN.{pos, negsuc}
-use Rattle.listing.specs.Printed.{Bytes, digits, decimal, signed, line, sheet-line, label-field, cell-line, refused-line}
+use Rattle.listing.specs.Printed.{digits, decimal, signed, line, sheet-line, label-field, cell-line, refused-line}
 
 -- `0`, `10` and `65535`
 nought : decimal 0 ≡ 48 ∷ []

@@ -1,5 +1,5 @@
 -- A LINE AS THE CODE HAS IT. Assumes nothing.
-use mathlib.Core.List.{List, _++_}
+use mathlib.Core.List.{_++_}
 use Prim.Native.Nat.{ℕ, _-_}
 use lib.ListN.{length, replicate}
 use Rattle.listing.specs.Printed.{Bytes}

@@ -1,22 +1,63 @@
--- A cell's line from what Read, Label and Layout give. Assumes nothing.
+-- THE LISTING OF A PLAN FILE (document 01, "Printed"). Assumes nothing.
 use mathlib.Core.Path.{_≡_}
-use mathlib.Core.List.{List}
-use Prim.Native.Nat.{ℕ, _+_, _-_, _*_, _≤_}
-use lib.IntN.{ℤ, pos}
-use lib.ListN.{length, getD, take, drop}
-use Rattle.listing.specs.Printed.{Bytes, cell-line}
+use mathlib.Core.Bool.{cond}
+use mathlib.Core.List.{List, [], _∷_, map}
+use Prim.Native.Nat.{ℕ, _-_, _*_, _≤_}
+use lib.Dec.{eqb}
+use lib.IntN.{ℤ}
+use lib.ListN.{length, take, drop}
+use Rattle.whole.specs.Whole.{plus}
+use Rattle.plan.specs.Limits.{most-cells}
+use Rattle.plan.specs.Lists.{from}
+use Rattle.plan.specs.Plan.{Table, W, D}
+use Rattle.plan.specs.Columns.{table-of}
+use Rattle.rules.specs.Placement.{Placement, placed, Agree, width, rows}
+use Rattle.layout.specs.Sheet.{sheet}
+use Rattle.planfile.specs.declared.Reading.{Reading}
+use Rattle.planfile.specs.Reading.{reading-of, label-part}
+use Rattle.listing.specs.Printed.{Bytes, sheet-line, cell-line, refused-line}
 use Rattle.listing.specs.Line.{line-size}
 use Rattle.listing.specs.declared.Line.{Line}
-use Rattle.planfile.specs.declared.Reading.{Reading}
-use Rattle.planfile.specs.Reading.{label-part}
 
 -- the bytes of a cell's label
-abbrev pub label-of : Bytes → ℕ → Bytes
+abbrev pub label-of : Bytes → (cell : ℕ) → Bytes
 label-of f c = take (label-part f c .end - label-part f c .start) (drop (label-part f c .start) f)
 
--- the line of a cell: x and y from the positions, W and D from the table, the label from the file
-unfoldable pub line-at : Reading → (file : Bytes) → (positions : List ℤ) → (cell : ℕ) → Bytes
-line-at p f ps c = cell-line c (getD ps (2 * c) (pos 0)) (getD ps (2 * c + 1) (pos 0)) (getD (p .columns .width) c 0) (getD (p .columns .depth) c 0) (label-of f c)
+-- the table of a plan that is read, and our sheet for it
+abbrev pub cells : Reading → Table
+cells p = table-of (p .columns)
+
+abbrev pub ours : Reading → Placement
+ours p = sheet (cells p) (p .allowance)
+
+-- the first line
+unfoldable pub first-of : Reading → Bytes
+first-of p = sheet-line (p .columns .count) (p .allowance) (plus (width (cells p) (ours p))) (plus (rows (cells p) (ours p)))
+
+-- a cell's line
+unfoldable pub cell-of : Reading → (file : Bytes) → (cell : ℕ) → Bytes
+cell-of p f c = cell-line c (ours p .x c) (ours p .y c) (W (cells p) c) (D (cells p) c) (label-of f c)
+
+-- all lines, in order. The functions below `print_sheet` give each of them by its definition, and what they write is what they give
+unfoldable pub listing-of : (file : Bytes) → List Bytes
+listing-of f =
+    let p = reading-of f most-cells in
+    cond (eqb (p .refusal .number) 0)
+    (first-of p ∷ map (cell-of p f) (from 0 (p .columns .count)))
+    (refused-line (p .refusal .number) (p .refusal .cell) ∷ [])
+
+-- ---- what the functions ask of each other
+-- positions that are our sheet for the plan
+pub record Placed (p : Reading) (ps : List ℤ) : Type 0 where
+  pub few : p .columns .count ≤ most-cells
+  pub room : 2 * p .columns .count ≤ length ps
+  pub agree : Agree (cells p) (placed ps) (ours p)
+
+-- its width and its rows
+pub record Measured (p : Reading) (w h : ℕ) : Type 0 where
+  pub small : p .columns .count ≤ most-cells
+  pub wide : w ≡ plus (width (cells p) (ours p))
+  pub deep : h ≡ plus (rows (cells p) (ours p))
 
 -- a line whose bytes can be written
 pub record Whole (l : Line) : Type 0 where

@@ -1,24 +1,35 @@
 -- A plan that Read gives has at most 256 cells, and a label that Label gives at most 40 bytes. Assumes nothing.
-use mathlib.Core.Path.{_≡_}
-use Prim.Native.Nat.{ℕ, _≤_, _<_}
+use mathlib.Core.Path.{_≡_, ap}
+use mathlib.Core.List.{List}
+use Prim.Native.Nat.{ℕ, _+_, _*_, _≤_, _<_}
 use native.Mathlib.Omega.{arith}
 use native.Mathlib.Decide.{ℕ-discrete}
 use lib.Dec.{leb, leb→le, ltb→lt}
-use lib.ListN.{length, length-take}
+use lib.IntN.{ℤ, pos}
+use lib.ListN.{length, getD, length-take}
 use borrow.Author.Tests.{eq-eqb, ne-eqb}
+use Rattle.whole.specs.Whole.{plus}
 use Rattle.plan.specs.Limits.{most-cells, most-label}
+use Rattle.plan.specs.ColumnLaws.{table-length, width-at, depth-at}
 use Rattle.plan.specs.Questions.{long, read, refusal, asked}
 use Rattle.plan.specs.QuestionLaws.{both-none, asked-yes, each-none}
 use Rattle.plan.specs.Steps.{cell-refusal}
 use Rattle.plan.specs.StepLaws.{and-left}
 use Rattle.plan.specs.declared.Refusal.{Refusal}
+use Rattle.rules.specs.Placement.{placed}
+use Rattle.positions.specs.WrittenLaws.{written-agree}
+use Rattle.drawing.specs.declared.Laid.{Laid}
+use Rattle.drawing.specs.declared.Laid.the-variants.{Sheet}
+use Rattle.drawing.specs.Laid.{positions-after, Lays}
+use Rattle.drawing.specs.LaidLaws.{sheet-wide, sheet-deep}
+use Rattle.planfile.specs.declared.Reading.{Reading}
 use Rattle.planfile.specs.Format.{trailer-of, entry, file-given}
 use Rattle.planfile.specs.Reading.{columns-of, reading-of, label-refusal, label-part}
 use Rattle.planfile.specs.FileSteps.{inside, record-refusal, entry-refusal, header-refusal, body-refusal, file-refusal}
 use Rattle.planfile.specs.FileLaws.{read-refusal, label-refusal-is}
 use Rattle.planfile.specs.ExaminedLaws.{zero-of, header-read}
-use Rattle.listing.specs.Printed.{Bytes}
-use Rattle.printing.specs.Printing.{label-of}
+use Rattle.listing.specs.Printed.{Bytes, sheet-line, cell-line}
+use Rattle.printing.specs.Printing.{label-of, cells, ours, first-of, cell-of, Placed, Measured}
 
 -- a plan that Read gives
 pub few : (f : Bytes) (room : ℕ) → reading-of f room .columns .count ≤ 256
@@ -59,3 +70,34 @@ label-short f c = go (ℕ-discrete (label-refusal f c .number) 0)
     go : Dec (label-refusal f c .number ≡ 0) → length (label-of f c) ≤ most-label
     go (yes z) = rw (eq-eqb (label-refusal f c .number) 0 z, length-take) (omega (arith, entry-short f c z))
     go (no z) = rw (ne-eqb (label-refusal f c .number) 0 z) (omega arith)
+
+-- ---- the lines, from what the code has
+pub first-is : (p : Reading) (w h : ℕ) → Measured p w h → sheet-line (p .columns .count) (p .allowance) w h ≡ first-of p
+unfolding first-of
+first-is p w h m = rw (m .wide, m .deep)
+
+pub cell-is : (p : Reading) (f : Bytes) (ps : List ℤ) (c : ℕ) → c < p .columns .count → Placed p ps
+    → cell-line c (getD ps (2 * c) (pos 0)) (getD ps (2 * c + 1) (pos 0)) (getD (p .columns .width) c 0) (getD (p .columns .depth) c 0) (label-of f c) ≡ cell-of p f c
+unfolding cell-of placed
+cell-is p f ps c h d =
+    let t = p .columns in
+    let i : c < length (cells p) = omega (arith, table-length (t .parent) (t .kind) (t .width) (t .depth) (t .count)) in
+    let (x, y) = d .agree c i in
+    rw (x, y, width-at (t .parent) (t .kind) (t .width) (t .depth) (t .count) c h, depth-at (t .parent) (t .kind) (t .width) (t .depth) (t .count) c h)
+
+-- ---- our sheet, from what Layout answers
+module _ (p : Reading) (few : p .columns .count ≤ most-cells) {s s′ : List ℕ} {ps ps′ : List ℤ} {r : Laid} {w h : ℕ} (l : Lays (cells p) (p .allowance) s s′ ps ps′ r) (e : r ≡ Sheet w h) where
+  lays : Lays (cells p) (p .allowance) s s′ ps ps′ (Sheet w h)
+  lays = rw e at l
+
+  pub laid-placed : 2 * most-cells ≤ length ps′ → Placed p ps′
+  unfolding positions-after
+  laid-placed room = record { few = few; room = omega arith; agree = rw (lays .positions) (written-agree (ours p) (cells p) ps) }
+
+  pub laid-measured : Measured p w h
+  laid-measured =
+      record {
+        small = few;
+        wide = ap plus (sheet-wide (cells p) (p .allowance) s s′ ps ps′ w h lays);
+        deep = ap plus (sheet-deep (cells p) (p .allowance) s s′ ps ps′ w h lays);
+      }

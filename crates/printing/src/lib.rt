@@ -5,12 +5,13 @@ use listing::cell_line;
 use listing::refused_line;
 use listing::sheet_line;
 use plan::limits::MOST_CELLS;
+use plan::limits::SCRATCH_SIZE;
 use planfile::Reading;
 ghost use mathlib.Core.Path.{_≡_};
-ghost use Prim.Native.Nat.{_+_, _*_, _≤_, _<_};
-ghost use lib.ListN.{length};
+ghost use Prim.Native.Nat.{_≤_, _<_};
+ghost use Rattle.plan.specs.Limits.{«most-cells»};
 ghost use Rattle.listing.specs.Line.{«line-size», «line-of»};
-ghost use Rattle.printing.specs.Printing.{Whole, «line-at»};
+ghost use Rattle.printing.specs.Printing.{Whole, Measured, Placed, «first-of», «cell-of»};
 
 // Writes a line.
 fn print(line: Line)
@@ -21,10 +22,19 @@ fn print(line: Line)
     io::write_all(1, &bytes[..length]);
 }
 
-// The line of a cell of a plan that is laid out so.
+// The first line of a plan whose sheet has this width and these rows.
+fn first_line(plan: Reading, width: u32, rows: u32) -> Line
+    requires { ⌜ Measured plan width rows ⌝ }
+    ensures { λ r. ⌜ (r ≡ line-of (first-of plan)) × (r .length ≤ line-size) ⌝ }
+{
+    let columns = plan.columns;
+    sheet_line(columns.count as u32, plan.allowance as u32, width, rows)
+}
+
+// The line of a cell of a plan whose sheet stands in the positions.
 fn line_at(plan: Reading, file: &[u8], positions: &[i32], c: usize) -> Line
-    requires { ⌜ (c < 256) × (2 * c + 1 < length (now positions)) ⌝ }
-    ensures { λ r. ⌜ (r ≡ line-of (line-at plan (now (file .entry)) (now (positions .entry)) c)) × (r .length ≤ line-size) ⌝ }
+    requires { ⌜ (c < plan .columns .count) × Placed plan (now positions) ⌝ }
+    ensures { λ r. ⌜ (r ≡ line-of (cell-of plan (now (file .entry)) c)) × (r .length ≤ line-size) ⌝ }
 {
     let columns = plan.columns;
     let widths = columns.width;
@@ -36,10 +46,12 @@ fn line_at(plan: Reading, file: &[u8], positions: &[i32], c: usize) -> Line
     cell_line(c as u32, x, y, width, depth, planfile::label(file, c))
 }
 
-// The lines of n cells.
-fn print_cells(plan: Reading, file: &[u8], positions: &[i32], n: usize)
-    requires { ⌜ (n ≤ 256) × (2 * n ≤ length (now positions)) ⌝ }
+// The lines of the cells.
+fn print_cells(plan: Reading, file: &[u8], positions: &[i32])
+    requires { ⌜ Placed plan (now positions) ⌝ }
 {
+    let columns = plan.columns;
+    let n = columns.count;
     let mut c = 0;
     while c < n {
         print(line_at(plan, file, positions, c));
@@ -53,17 +65,16 @@ fn print_refusal(number: u8, cell: u16) {
 
 // The sheet of a plan that Read has read.
 fn print_plan(plan: Reading, file: &[u8])
-    requires { ⌜ plan .columns .count ≤ 256 ⌝ }
+    requires { ⌜ plan .columns .count ≤ most-cells ⌝ }
 {
     let columns = plan.columns;
-    let n = columns.count;
     let allowance = plan.allowance as u32;
-    let mut scratch = [0u32; 16384];
-    let mut positions = [0i32; 512];
+    let mut scratch = [0u32; SCRATCH_SIZE];
+    let mut positions = [0i32; 2 * MOST_CELLS];
     match drawing::layout(columns, allowance, &mut scratch, &mut positions) {
         Laid::Sheet(width, rows) => {
-            print(sheet_line(n as u32, allowance, width, rows));
-            print_cells(plan, file, &positions, n);
+            print(first_line(plan, width, rows));
+            print_cells(plan, file, &positions);
         }
         Laid::Refused(number, cell) => print_refusal(number, cell),
     }

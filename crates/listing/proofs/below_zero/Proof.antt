@@ -1,5 +1,4 @@
 use Rattle.listing.proofs.Below.{up-fits, rest-fits, rest-natural, below-fits, below}
-use borrow.Author.Needs.{needs}
 use Rattle.listing.proofs.below_zero.Statement.{statement}
 use Rattle.listing.proofs.below_zero.Tie as tie
 use Rattle.listing.proofs.below_zero.Reads as reads

@@ -3,7 +3,6 @@ use native.Mathlib.Omega.{arith}
 use lib.ListN.{length, take}
 use Rattle.listing.specs.Put.{Put}
 use Rattle.listing.specs.PutLaws.{put-start, put-more, put-all}
-use borrow.Author.Needs.{needs}
 use Rattle.listing.proofs.copy.Statement.{statement}
 use Rattle.listing.proofs.copy.Tie as tie
 use Rattle.listing.proofs.copy.Reads as reads

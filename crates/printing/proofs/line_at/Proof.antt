@@ -1,8 +1,8 @@
 use mir.Syntax.{w32}
 use mir.ValLaws.{toZ-ofZ}
-use Rattle.printing.specs.Printing.{line-at}
-use mathlib.Core.Path.{_∙_}
-use Rattle.printing.specs.PrintingLaws.{label-short}
+use mathlib.Core.Path.{_∙_, ap}
+use Rattle.listing.specs.Line.{line-of}
+use Rattle.printing.specs.PrintingLaws.{label-short, cell-is}
 use borrow.Author.Needs.{needs}
 use Rattle.printing.proofs.line_at.Statement.{statement}
 use Rattle.printing.proofs.line_at.Tie as tie
@@ -73,8 +73,12 @@ cell-line-requires c κs = rw (c .label .ensures) (label-short _ _)
 
 -- src/lib.rt:22:1
 returns : tie.Need-returns
-unfolding line-at
-returns c = (c .cell-line .ensures .0 ∙ rw (toZ-ofZ w32 _ (record { sfits = c .before .before .before .x .given }), toZ-ofZ w32 _ (record { sfits = c .before .before .y .given }), c .before .label .ensures), c .cell-line .ensures .1)
+returns c =
+    let b = c .before .before .before .before .before .before .before .before in (
+      c .cell-line .ensures .0
+          ∙ rw (toZ-ofZ w32 _ (record { sfits = c .before .before .before .x .given }), toZ-ofZ w32 _ (record { sfits = c .before .before .y .given }), c .before .label .ensures) (ap line-of (cell-is _ _ _ _ (b .pre .0) (b .pre .1))),
+      c .cell-line .ensures .1,
+    )
 
 pub line-at-spec : {M : Type 1} → statement M
 line-at-spec =

@@ -14,31 +14,31 @@ Inv-loop plan file positions n c₀ c = c ≤ n
 abbrev μ-loop : tie.MeasureT-loop
 μ-loop plan file positions n c₀ c = n - c
 
--- src/lib.rt:41:5
+-- src/lib.rt:56:5
 loop-holds : tie.Need-loop-holds Inv-loop μ-loop
 loop-holds c = omega arith
 
--- src/lib.rt:42:15
+-- src/lib.rt:57:15
 line-at-requires : tie.Need-line-at-requires Inv-loop μ-loop
-line-at-requires c κs = omega arith
+line-at-requires c κs = (omega arith, c .before .before .before .before .pre)
 
--- src/lib.rt:42:9
+-- src/lib.rt:57:9
 print-requires : tie.Need-print-requires Inv-loop μ-loop
 print-requires c κs = search needs
 
--- src/lib.rt:43:9
+-- src/lib.rt:58:9
 add-c : tie.Need-add-c Inv-loop μ-loop
 add-c c = omega arith
 
--- src/lib.rt:41:5
+-- src/lib.rt:56:5
 loop-less : tie.Need-loop-less Inv-loop μ-loop
 loop-less c = omega arith
 
--- src/lib.rt:41:5
+-- src/lib.rt:56:5
 loop-again : tie.Need-loop-again Inv-loop μ-loop
 loop-again c = omega arith
 
--- src/lib.rt:37:1
+-- src/lib.rt:50:1
 returns : tie.Need-returns Inv-loop μ-loop
 returns c = search needs
 
