@@ -20,3 +20,5 @@ pub mod Paths
 pub mod Siblings
 pub mod Sums
 pub mod Bottoms
+pub mod Near
+pub mod TableLaws

@@ -10,7 +10,7 @@ use Rattle.plan.specs.Lists.{mem}
 use Rattle.plan.specs.ListLaws.{mem-here, mem-there}
 use Rattle.plan.specs.Plan.{Table, Is, Sound, parent, cells, subtree}
 use Rattle.plan.specs.PlanLaws.{subtree-read, cells-read}
-use Rattle.rules.specs.Placement.{Placement, Agree, greater, lesser, best, right, base, bottom, width, rows}
+use Rattle.rules.specs.Placement.{Placement, Agree, greater, lesser, best, right, base, bottom, width, rows, left-extent, right-extent}
 use Rattle.rules.specs.Search.{Verdict, kept, broken}
 use Rattle.rules.specs.SearchLaws.{lowest-same}
 use Rattle.rules.specs.Tests.{kept1, meets, box4, stem4, test}
@@ -45,6 +45,18 @@ module _ (t : Table) (p q : Placement) (agree : Agree t p q) where
   pub rows-same : Is t 0 → rows t p ≡ rows t q
   unfolding rows
   rows-same o = rw (bottom-same 0 o)
+
+  pub left-extent-same : (c : ℕ) → Is t c → left-extent t p c ≡ left-extent t q c
+  unfolding left-extent
+  left-extent-same c i =
+      let s = best-same lesser (p .x) (q .x) _ _ (subtree t c) (agree c i .0) (λ a m. agree a (subtree-read t c a m .0) .0) in
+      cc (agree c i .0)
+
+  pub right-extent-same : (c : ℕ) → Is t c → right-extent t p c ≡ right-extent t q c
+  unfolding right-extent
+  right-extent-same c i =
+      let e = best-same greater (right t p) (right t q) _ _ (subtree t c) (right-same c i) (λ a m. right-same a (subtree-read t c a m .0)) in
+      cc (agree c i .0)
 
   -- ---- each test
   kept1-same : Sound t → (a : ℕ) → Is t a → kept1 t p a ≡ kept1 t q a

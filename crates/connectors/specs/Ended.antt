@@ -1,0 +1,28 @@
+-- Ends' answer: document 01's numbers and values for each case. Assumes nothing.
+use mathlib.Core.List.{List}
+use mathlib.Core.Bool.{cond}
+use Prim.Native.Nat.{ℕ, _/_}
+use lib.Dec.{eqb}
+use lib.IntN.{ℤ, pos, _+ℤ_}
+use Rattle.plan.specs.Plan.{Table, parent, W, D}
+use Rattle.plan.specs.Questions.{refusal, ends, ends-given}
+use Rattle.plan.specs.declared.Refusal.{Refusal}
+use Rattle.rules.specs.Placement.{Placement, placed}
+use Rattle.connectors.specs.declared.Ended.{Ended}
+use Rattle.connectors.specs.declared.Ended.the-variants.{Joined, Refused}
+
+-- THE half of a width, "rounded down before adding"
+abbrev pub half : ℕ → ℕ
+half w = w / 2
+
+-- "for a son, (father x + W/2, father y + D) and (son x + W/2, son y)"
+unfoldable pub joined : Table → Placement → ℕ → Ended
+joined t p c =
+    Joined (p .x (parent t c) +ℤ pos (half (W t (parent t c)))) (p .y (parent t c) +ℤ pos (D t (parent t c))) (p .x c +ℤ pos (half (W t c))) (p .y c)
+
+-- the number and the cell of a refusal, or the answer
+abbrev pub unless : Refusal → Ended → Ended
+unless r a = cond (eqb (r .number) 0) a (Refused (r .number) (r .cell))
+
+unfoldable pub ended-of : Table → List ℤ → (cell : ℕ) → Ended
+ended-of t ps c = unless (refusal ends (ends-given t ps c)) (joined t (placed ps) c)

@@ -1,0 +1,95 @@
+// LAYOUT: a table and an allowance to positions, width and rows.
+use marks::marks_of;
+use plan::Columns;
+use plan::Refusal;
+use plan::limits::SCRATCH_SIZE;
+use plan::questions::allowance_refusal;
+use plan::questions::asked;
+use plan::questions::lent_refusal;
+use plan::tree::rows;
+use positions::raised;
+use positions::sheet_rows;
+use positions::sheet_width;
+use positions::write_positions;
+ghost use mathlib.Core.Path.{_≡_};
+ghost use lib.ListN.{length, replicate};
+ghost use Rattle.plan.specs.Limits.{scratch-size};
+ghost use Rattle.plan.specs.Columns.{table-of};
+ghost use Rattle.plan.specs.Questions.{layout, refusal, layout-given};
+ghost use Rattle.layout.specs.Sheet.{sheet};
+ghost use Rattle.positions.specs.Raised.{Raised};
+ghost use Rattle.drawing.specs.Laid.{Lays};
+ghost use Rattle.drawing.specs.LaidLaws.{Placeable, Drawable, Drawn};
+
+// Width and rows of the sheet that is written; or the refusal's number and cell.
+pub enum Laid {
+    Sheet(u32, u32),
+    Refused(u8, u16),
+}
+
+// Every number becomes 0.
+fn clear(scratch: &mut [u32])
+    ensures { λ _. ⌜ now (scratch .exit) ≡ replicate (length (now (scratch .entry))) 0 ⌝ }
+{
+    let mut i: usize = 0;
+    while i < scratch.len() {
+        scratch[i] = 0;
+        i += 1;
+    }
+}
+
+// The questions that Layout puts: 1 (scratch), 4, 1 (positions), 6 to 8, 11 to 14.
+fn layout_refusal(t: Columns, allowance: u32, scratch: usize, positions: usize) -> Refusal
+    ensures { λ r. ⌜ r ≡ refusal layout (layout-given (table-of t) allowance scratch positions) ⌝ }
+{
+    let long = asked(1, SCRATCH_SIZE <= scratch, 0);
+    if long.number != 0 {
+        return long;
+    }
+    let parents = t.parent;
+    let kinds = t.kind;
+    let widths = t.width;
+    let depths = t.depth;
+    let lent = lent_refusal(&parents, &kinds, &widths, &depths, t.count, positions);
+    if lent.number != 0 {
+        return lent;
+    }
+    allowance_refusal(allowance)
+}
+
+// The x of each cell, from the marks of a walk over the cleared scratch.
+fn place(t: Columns, tops: &[u16; 256], allowance: u32, scratch: &mut [u32]) -> [u32; 256]
+    requires { ⌜ Placeable t (now tops) (length (now scratch)) ⌝ }
+    ensures { λ r. ⌜ Raised r (t .count) (sheet (table-of t) allowance .x) × (now (scratch .exit) ≡ replicate scratch-size 0) ⌝ }
+{
+    clear(scratch);
+    let mut marks = [0u32; 1024];
+    marks_of(t, tops, allowance, scratch, &mut marks);
+    raised(t, &marks)
+}
+
+// A table that no question refuses is laid out over a scratch of 16,384 numbers.
+fn draw(t: Columns, allowance: u32, scratch: &mut [u32], positions: &mut [i32]) -> Laid
+    requires { ⌜ Drawable (table-of t) (length (now scratch)) (length (now positions)) ⌝ }
+    ensures { λ r. ⌜ Drawn (table-of t) allowance (now (scratch .exit)) (now (positions .entry)) (now (positions .exit)) r ⌝ }
+{
+    let n = t.count;
+    let parents = t.parent;
+    let widths = t.width;
+    let depths = t.depth;
+    let tops = rows(&parents, &depths, n);
+    let xs = place(t, &tops, allowance, scratch);
+    write_positions(&xs, &tops, n, positions);
+    Laid::Sheet(sheet_width(&xs, &widths, n), sheet_rows(&tops, &depths, n))
+}
+
+// Layout.
+pub fn layout(t: Columns, allowance: u32, scratch: &mut [u32], positions: &mut [i32]) -> Laid
+    ensures { λ r. ⌜ Lays (table-of t) allowance (now (scratch .entry)) (now (scratch .exit)) (now (positions .entry)) (now (positions .exit)) r ⌝ }
+{
+    let r = layout_refusal(t, allowance, scratch.len(), positions.len());
+    if r.number != 0 {
+        return Laid::Refused(r.number, r.cell);
+    }
+    draw(t, allowance, &mut scratch[..SCRATCH_SIZE], positions)
+}

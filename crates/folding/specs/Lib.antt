@@ -1,0 +1,4 @@
+pub mod Fold
+pub mod Lists
+pub mod Held
+pub mod FoldLaws

@@ -1,0 +1,3 @@
+pub mod Links
+pub mod Build
+pub mod Built

@@ -1,0 +1,14 @@
+-- A LINE AS THE CODE HAS IT. Assumes nothing.
+use mathlib.Core.List.{List, _++_}
+use Prim.Native.Nat.{ℕ, _-_}
+use lib.ListN.{length, replicate}
+use Rattle.listing.specs.Printed.{Bytes}
+use Rattle.listing.specs.declared.Line.{Line}
+
+-- bytes of a line's buffer: none of the three lines has more than 98
+abbrev pub line-size : ℕ
+line-size = 128
+
+-- the text, and zeros after it
+unfoldable pub line-of : Bytes → Line
+line-of text = record { bytes = text ++ replicate (line-size - length text) 0; length = length text }

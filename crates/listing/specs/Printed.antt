@@ -1,0 +1,68 @@
+-- THE LISTING (document 01, "Printed"): each line as bytes. Assumes nothing.
+use mathlib.Core.List.{List, [], _∷_, _++_}
+use mathlib.Core.Bool.{true, false}
+use Prim.Native.Nat.{ℕ, zero, suc, _+_, _/_, _%_}
+use lib.Dec.{ltb}
+use lib.IntN.{ℤ, pos, negsuc}
+
+abbrev pub Bytes : Type 0
+Bytes = List ℕ
+
+-- ---- the bytes that are not a number's or a label's, in ASCII
+abbrev pub space : ℕ
+space = 32
+
+abbrev pub line-feed : ℕ
+line-feed = 10
+
+abbrev pub minus-sign : ℕ
+minus-sign = 45
+
+-- the word `sheet`
+abbrev pub sheet-word : Bytes
+sheet-word = 115 ∷ 104 ∷ 101 ∷ 101 ∷ 116 ∷ []
+
+-- the word `refused`
+abbrev pub refused-word : Bytes
+refused-word = 114 ∷ 101 ∷ 102 ∷ 117 ∷ 115 ∷ 101 ∷ 100 ∷ []
+
+-- ---- numbers
+-- a digit from 0 to 9
+abbrev pub digit : ℕ → ℕ
+digit d = 48 + d
+
+-- the decimal digits of an n that is at most k
+unfoldable pub digits : (k n : ℕ) → Bytes
+digits zero n = digit n ∷ []
+digits (suc k) n = elim (ltb n 10) [ true ↦ digit n ∷ [] | false ↦ digits k (n / 10) ++ (digit (n % 10) ∷ []) ]
+
+unfoldable pub decimal : ℕ → Bytes
+decimal n = digits n n
+
+unfoldable pub signed : ℤ → Bytes
+signed (pos n) = decimal n
+signed (negsuc n) = minus-sign ∷ decimal (suc n)
+
+-- ---- lines
+-- one space parts the fields, and a line feed ends the line
+unfoldable pub line : List Bytes → Bytes
+line [] = line-feed ∷ []
+line (f ∷ []) = f ++ (line-feed ∷ [])
+line (f ∷ g ∷ fs) = f ++ (space ∷ line (g ∷ fs))
+
+-- the first line
+unfoldable pub sheet-line : (cells allowance width rows : ℕ) → Bytes
+sheet-line n al w h = line (sheet-word ∷ decimal n ∷ decimal al ∷ decimal w ∷ decimal h ∷ [])
+
+-- a label is the last field; an empty one is none
+unfoldable pub label-field : Bytes → List Bytes
+label-field [] = []
+label-field (b ∷ bs) = (b ∷ bs) ∷ []
+
+-- a cell's line
+unfoldable pub cell-line : (cell : ℕ) (x y : ℤ) (width depth : ℕ) (label : Bytes) → Bytes
+cell-line c x y w d label = line (decimal c ∷ signed x ∷ signed y ∷ decimal w ∷ decimal d ∷ label-field label)
+
+-- the line of a refusal
+unfoldable pub refused-line : (number cell : ℕ) → Bytes
+refused-line k c = line (refused-word ∷ decimal k ∷ decimal c ∷ [])

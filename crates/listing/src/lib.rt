@@ -1,0 +1,166 @@
+// The lines of a listing. The private functions write a text into a buffer at a place, and hand the next place back.
+ghost use mathlib.Core.Path.{_≡_};
+ghost use mathlib.Core.List.{_∷_, []};
+ghost use Prim.Native.Nat.{_+_, _≤_, _<_};
+ghost use lib.ListN.{length};
+ghost use lib.IntN.{pos};
+ghost use lib.Signed.{_<ℤ_};
+ghost use Rattle.whole.specs.Whole.{minus};
+ghost use Rattle.plan.specs.Limits.{«most-label»};
+ghost use Rattle.listing.specs.Printed.{space, decimal, signed, «sheet-line», «cell-line», «refused-line»};
+ghost use Rattle.listing.specs.LineLaws.{spaced};
+ghost use Rattle.listing.specs.Put.{Put};
+ghost use Rattle.listing.specs.Line.{«line-size», «line-of»};
+
+const SPACE: u8 = 32;
+const LINE_FEED: u8 = 10;
+const MINUS_SIGN: u8 = 45;
+
+// A line: its bytes, then zeros.
+pub struct Line {
+    pub bytes: [u8; 128],
+    pub length: usize,
+}
+
+// One byte.
+fn put(b: u8, out: &mut [u8; 128], at: usize) -> usize
+    requires { ⌜ at < 128 ⌝ }
+    ensures { λ r. ⌜ Put (now (out .entry)) at (b ∷ []) (now (out .exit)) r ⌝ }
+{
+    out[at] = b;
+    at + 1
+}
+
+// A text.
+fn copy(text: &[u8], out: &mut [u8; 128], at: usize) -> usize
+    requires { ⌜ at + length (now text) ≤ 128 ⌝ }
+    ensures { λ r. ⌜ Put (now (out .entry)) at (now (text .entry)) (now (out .exit)) r ⌝ }
+{
+    let mut i = 0;
+    while i < text.len() {
+        out[at + i] = text[i];
+        i += 1;
+    }
+    at + i
+}
+
+// A digit from 0 to 9.
+fn digit(d: u32) -> u8
+    requires { ⌜ d < 10 ⌝ }
+    ensures { λ r. ⌜ r ≡ 48 + d ⌝ }
+{
+    (48 + d) as u8
+}
+
+// A number in decimal.
+fn decimal(n: u32, out: &mut [u8; 128], at: usize) -> usize
+    requires { ⌜ at + 10 ≤ 128 ⌝ }
+    ensures { λ r. ⌜ Put (now (out .entry)) at (decimal n) (now (out .exit)) r × (r ≤ at + 10) ⌝ }
+{
+    if n < 10 {
+        return put(digit(n), out, at);
+    }
+    let last = decimal(n / 10, out, at);
+    put(digit(n % 10), out, last)
+}
+
+// How far x lies below 0.
+fn below_zero(x: i32) -> u32
+    requires { ⌜ x <ℤ pos 0 ⌝ }
+    ensures { λ r. ⌜ r ≡ minus x ⌝ }
+{
+    ((0 - (x + 1)) as u32) + 1
+}
+
+// A whole number: a minus sign where it is negative, then decimal.
+fn signed(x: i32, out: &mut [u8; 128], at: usize) -> usize
+    requires { ⌜ at + 11 ≤ 128 ⌝ }
+    ensures { λ r. ⌜ Put (now (out .entry)) at (signed x) (now (out .exit)) r × (r ≤ at + 11) ⌝ }
+{
+    if x < 0 {
+        let digits = put(MINUS_SIGN, out, at);
+        return decimal(below_zero(x), out, digits);
+    }
+    decimal(x as u32, out, at)
+}
+
+// A field after another: a space, and a number.
+fn field(n: u32, out: &mut [u8; 128], at: usize) -> usize
+    requires { ⌜ at + 11 ≤ 128 ⌝ }
+    ensures { λ r. ⌜ Put (now (out .entry)) at (space ∷ decimal n) (now (out .exit)) r × (r ≤ at + 11) ⌝ }
+{
+    let digits = put(SPACE, out, at);
+    decimal(n, out, digits)
+}
+
+// The same of a whole number.
+fn signed_field(x: i32, out: &mut [u8; 128], at: usize) -> usize
+    requires { ⌜ at + 12 ≤ 128 ⌝ }
+    ensures { λ r. ⌜ Put (now (out .entry)) at (space ∷ signed x) (now (out .exit)) r × (r ≤ at + 12) ⌝ }
+{
+    let digits = put(SPACE, out, at);
+    signed(x, out, digits)
+}
+
+// The same of a label; nothing where it is empty.
+fn label_field(label: &[u8], out: &mut [u8; 128], at: usize) -> usize
+    requires { ⌜ (length (now label) ≤ 40) × (at + 41 ≤ 128) ⌝ }
+    ensures { λ r. ⌜ Put (now (out .entry)) at (spaced (now (label .entry))) (now (out .exit)) r × (r ≤ at + 41) ⌝ }
+{
+    if label.len() == 0 {
+        return at;
+    }
+    let letters = put(SPACE, out, at);
+    copy(label, out, letters)
+}
+
+// The first line: cells, allowance, width and rows.
+pub fn sheet_line(cells: u32, allowance: u32, width: u32, rows: u32) -> Line
+    ensures { λ r. ⌜ (r ≡ line-of (sheet-line cells allowance width rows)) × (r .length ≤ line-size) ⌝ }
+{
+    let mut out = [0u8; 128];
+    let a = copy(b"sheet", &mut out, 0);
+    let b = field(cells, &mut out, a);
+    let c = field(allowance, &mut out, b);
+    let d = field(width, &mut out, c);
+    let e = field(rows, &mut out, d);
+    let end = put(LINE_FEED, &mut out, e);
+    Line {
+        bytes: out,
+        length: end,
+    }
+}
+
+// A cell's line.
+pub fn cell_line(cell: u32, x: i32, y: i32, width: u32, depth: u32, label: &[u8]) -> Line
+    requires { ⌜ length (now label) ≤ most-label ⌝ }
+    ensures { λ r. ⌜ (r ≡ line-of (cell-line cell x y width depth (now (label .entry)))) × (r .length ≤ line-size) ⌝ }
+{
+    let mut out = [0u8; 128];
+    let a = decimal(cell, &mut out, 0);
+    let b = signed_field(x, &mut out, a);
+    let c = signed_field(y, &mut out, b);
+    let d = field(width, &mut out, c);
+    let e = field(depth, &mut out, d);
+    let f = label_field(label, &mut out, e);
+    let end = put(LINE_FEED, &mut out, f);
+    Line {
+        bytes: out,
+        length: end,
+    }
+}
+
+// The line of a refusal: its number and its cell.
+pub fn refused_line(number: u32, cell: u32) -> Line
+    ensures { λ r. ⌜ (r ≡ line-of (refused-line number cell)) × (r .length ≤ line-size) ⌝ }
+{
+    let mut out = [0u8; 128];
+    let a = copy(b"refused", &mut out, 0);
+    let b = field(number, &mut out, a);
+    let c = field(cell, &mut out, b);
+    let end = put(LINE_FEED, &mut out, c);
+    Line {
+        bytes: out,
+        length: end,
+    }
+}

@@ -1,0 +1,2 @@
+pub mod ColumnsLaws
+pub mod Marks

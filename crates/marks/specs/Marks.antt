@@ -1,0 +1,102 @@
+-- What the engine's core is given, and the marks that it makes: offsets, middles and extents of the definition. Assumes nothing.
+use mathlib.Core.Path.{_≡_, refl, sym}
+use mathlib.Core.List.{List}
+use Prim.Native.Nat.{ℕ, zero, suc, _+_, _*_, _≤_}
+use native.Mathlib.Omega.{arith}
+use lib.ListN.{length, getD, replicate, length-replicate}
+use Rattle.plan.specs.Limits.{most-cells, scratch-size, farthest}
+use Rattle.plan.specs.Lists.{At}
+use Rattle.plan.specs.Plan.{Table, Is, children, row}
+use Rattle.plan.specs.Paths.{child-less}
+use Rattle.plan.specs.Fit.{Fit}
+use Rattle.plan.specs.Columns.{table-of}
+use Rattle.plan.specs.declared.Columns.{Columns}
+use Rattle.layout.specs.Contour.{greatest, offset}
+use Rattle.layout.specs.Sheet.{middle, contours, whole-contour}
+use Rattle.joining.specs.Joining.{mark}
+use Rattle.links.specs.Build.{Linking}
+use Rattle.links.specs.Built.{Reads, Built}
+use Rattle.walk.specs.Machine.{chart}
+use Rattle.walk.specs.Claim.{Suits}
+use Rattle.walk.specs.Walked.{Walking, Walked}
+use Rattle.marks.specs.ColumnsLaws.{table-length, parent-is, kind-is, width-is, depth-is}
+
+-- a table that keeps the questions, its rows, a scratch of zeros, and marks of zeros
+pub record Markable (t : Columns) (tops rows marks : List ℕ) : Type 0 where
+  pub fit : Fit (table-of t)
+  pub top-of : (c : ℕ) → Is (table-of t) c → getD tops c 0 ≡ row (table-of t) c
+  pub scratch : scratch-size ≤ length rows
+  pub clear : (i : ℕ) → getD rows i 0 ≡ 0
+  pub blank : (i : ℕ) → getD marks i 0 ≡ 0
+
+-- four marks for each cell. All are small enough to be added and subtracted
+pub record Marked (t : Table) (al : ℕ) (ms : List ℕ) : Type 0 where
+  pub middle-of : (c : ℕ) → Is t c → mark ms c 0 ≡ middle t al c (contours t al c)
+  pub left-of : (c : ℕ) → Is t c → mark ms c 1 ≡ greatest (whole-contour t al c .left)
+  pub right-of : (c : ℕ) → Is t c → mark ms c 2 ≡ greatest (whole-contour t al c .right)
+  pub offset-of : (f i s : ℕ) → At (children t f) i s → mark ms s 3 ≡ offset al 0 (contours t al f) i
+  pub root-offset : mark ms 0 3 ≡ 0
+  pub near : (i : ℕ) → getD ms i 0 ≤ farthest
+
+pub zeros-get : (k i : ℕ) → getD (replicate {A = ℕ} k 0) i 0 ≡ 0
+zeros-get zero i = refl
+zeros-get (suc k) zero = refl
+zeros-get (suc k) (suc i) = zeros-get k i
+
+-- the columns of a table are arrays of 256
+pub record Long (t : Columns) : Type 0 where
+  pub parents : most-cells ≤ length (t .parent)
+  pub kinds : most-cells ≤ length (t .kind)
+  pub widths : most-cells ≤ length (t .width)
+  pub depths : most-cells ≤ length (t .depth)
+
+module _ (t : Columns) (tops : List ℕ) (al : ℕ) (xs ms : List ℕ) (h : Markable t tops xs ms) (long : Long t) where
+  pub linking : Linking (t .parent) (t .kind) (t .count) (replicate 1024 0)
+  linking =
+      let n = table-length t in
+      record {
+        building = record {
+          some = omega (arith, h .fit .some-cell);
+          few = omega (arith, h .fit .not-too-many);
+          parents = omega (arith, h .fit .not-too-many, long .parents);
+          room = rw (length-replicate {A = ℕ} 1024 0) (omega arith);
+          before = λ c p l. let i : Is (table-of t) c = omega arith in omega (arith, parent-is t c i, h .fit .sound c p i);
+          none = λ f. zeros-get 1024 (4 * f + 3);
+        };
+        kinds = omega (arith, h .fit .not-too-many, long .kinds);
+        clear = zeros-get 1024;
+      }
+
+  reads : Reads (table-of t) (t .parent) (t .kind) (t .count)
+  reads = record { size = table-length t; parent-of = parent-is t; kind-of = kind-is t }
+
+  module _ (ls : List ℕ) (built : Built (t .parent) (t .kind) (t .count) ls) (all : most-cells ≤ length tops) where
+    suits : Suits (table-of t) (chart ls (t .width) (t .depth) tops al)
+    suits =
+        record {
+          fit = h .fit;
+          links = built (table-of t) reads;
+          widths = long .widths;
+          depths = long .depths;
+          tops = all;
+          wide-of = λ c i. sym (width-is t c i);
+          deep-of = λ c i. sym (depth-is t c i);
+          top-of = h .top-of;
+        }
+
+    pub walking : 4 * most-cells ≤ length ms → Walking (chart ls (t .width) (t .depth) tops al) xs ms
+    walking l = record { table = table-of t; suits = suits; rows = h .scratch; clear = h .clear; marks = l; blank = h .blank }
+
+    pub marked : (ys ns : List ℕ) → Walked (chart ls (t .width) (t .depth) tops al) xs ys ns → (ys ≡ xs) × Marked (table-of t) al ns
+    marked ys ns w =
+        let right = w .marked (table-of t) suits in (
+          w .scratch,
+          record {
+            middle-of = λ c i. right c i .middle-of;
+            left-of = λ c i. right c i .left-of;
+            right-of = λ c i. right c i .right-of;
+            offset-of = λ f i s a. right f (let (l, k) = child-less (table-of t) (h .fit .sound) f i s a in omega arith) .offset-of i s a;
+            root-offset = w .root;
+            near = w .low;
+          },
+        )

@@ -1,0 +1,29 @@
+// The engine's core: what Layout needs to know of every cell of a table that keeps the questions.
+
+use links::link_all;
+use plan::Columns;
+use walk::walk;
+ghost use mathlib.Core.Path.{_≡_};
+ghost use Rattle.plan.specs.Columns.{table-of};
+ghost use Rattle.marks.specs.Marks.{Markable, Marked};
+
+// Four marks a cell, from a scratch and marks of zeros: how far its appointed child stands from its first, its left and its right extent, its
+// distance from its own first sibling. The scratch is zeros again.
+pub fn marks_of(
+    t: Columns,
+    tops: &[u16; 256],
+    allowance: u32,
+    rows: &mut [u32],
+    marks: &mut [u32; 1024],
+)
+    requires { ⌜ Markable t (now tops) (now rows) (now marks) ⌝ }
+    ensures { λ _. ⌜ (now (rows .exit) ≡ now (rows .entry)) × Marked (table-of t) allowance (now (marks .exit)) ⌝ }
+{
+    let parents = t.parent;
+    let kinds = t.kind;
+    let widths = t.width;
+    let depths = t.depth;
+    let mut links = [0u16; 1024];
+    link_all(&parents, &kinds, t.count, &mut links);
+    walk(&links, &widths, &depths, tops, allowance, rows, marks);
+}

@@ -1,0 +1,20 @@
+-- Columns x as natural numbers. Nothing that a reader must believe stands here. Assumes nothing.
+use mathlib.Core.Path.{_≡_}
+use mathlib.Core.List.{List}
+use Prim.Native.Nat.{ℕ, _*_, _≤_, _<_}
+use lib.ListN.{getD}
+use lib.IntN.{ℤ, pos, _+ℤ_}
+use Rattle.plan.specs.Limits.{farthest}
+
+-- n natural numbers, each an x from −65,535 to 65,535 moved up by 65,535
+pub record Raised (xs : List ℕ) (n : ℕ) (x : ℕ → ℤ) : Type 0 where
+  pub each : (c : ℕ) → c < n → pos (getD xs c 0) ≡ x c +ℤ pos farthest
+  pub high : (c : ℕ) → c < n → getD xs c 0 ≤ 2 * farthest
+
+pub record High (xs : List ℕ) (n : ℕ) : Type 0 where
+  pub few : n ≤ 256
+  pub high : (c : ℕ) → c < n → getD xs c 0 ≤ 2 * farthest
+
+-- n rows
+pub record Topped (ts : List ℕ) (n : ℕ) (y : ℕ → ℤ) : Type 0 where
+  pub each : (c : ℕ) → c < n → pos (getD ts c 0) ≡ y c

@@ -1,0 +1,45 @@
+-- A lent table of records, taken apart into columns. Assumes nothing.
+use mathlib.Core.List.{List}
+use mathlib.Core.Bool.{cond}
+use Prim.Native.Nat.{ℕ}
+use lib.Dec.{ltb}
+use lib.ListN.{length, getD, set, replicate}
+use Rattle.plan.specs.Limits.{most-cells}
+use Rattle.plan.specs.declared.Record.{Record}
+use Rattle.plan.specs.declared.Columns.{Columns}
+use Rattle.planfile.specs.Reading.{column}
+
+-- stands past the end of a table
+abbrev pub no-record : Record
+no-record = record { parent = 0; kind = 0; width = 0; depth = 0; «label_length» = 0; «label_start» = 0 }
+
+-- the record of cell c
+abbrev pub lent-at : List Record → ℕ → Record
+lent-at t c = getD t c no-record
+
+-- columns for so many cells, with the numbers of the first n records
+unfoldable pub columns : List Record → (count n : ℕ) → Columns
+columns t count n =
+    record {
+      count = count;
+      parent = column (λ c. lent-at t c .parent) n;
+      kind = column (λ c. lent-at t c .kind) n;
+      width = column (λ c. lent-at t c .width) n;
+      depth = column (λ c. lent-at t c .depth) n;
+    }
+
+-- how many records are taken: none of a table that has too many
+unfoldable pub clipped : ℕ → ℕ
+clipped count = cond (ltb most-cells count) 0 count
+
+-- the columns of a table
+abbrev pub lent-columns : List Record → Columns
+lent-columns t = columns t (length t) (clipped (length t))
+
+-- ---- as the code makes them
+abbrev pub blank : ℕ → Columns
+blank count = record { count = count; parent = replicate most-cells 0; kind = replicate most-cells 0; width = replicate most-cells 0; depth = replicate most-cells 0 }
+
+abbrev pub with-record : Columns → ℕ → Record → Columns
+with-record t c r =
+    record { count = t .count; parent = set (t .parent) c (r .parent); kind = set (t .kind) c (r .kind); width = set (t .width) c (r .width); depth = set (t .depth) c (r .depth) }

@@ -1,0 +1,5 @@
+pub mod Apart
+pub mod ApartLaws
+pub mod CrowdedLaws
+pub mod Together
+pub mod TogetherLaws

@@ -1,0 +1,96 @@
+// A lent run of records, taken apart into columns of numbers and filled from a reading.
+use plan::Columns;
+use plan::Record;
+use plan::limits::MOST_CELLS;
+use planfile::Reading;
+ghost use mathlib.Core.Path.{_≡_};
+ghost use Prim.Native.Nat.{_<_, _≤_};
+ghost use lib.ListN.{length};
+ghost use Rattle.records.specs.Apart.{«lent-at», blank, clipped, «with-record», «lent-columns»};
+ghost use Rattle.records.specs.Together.{«record-in», filled};
+
+// One record of a lent table.
+pub fn record_at(table: &[Record], c: usize) -> Record
+    requires { ⌜ c < length (now table) ⌝ }
+    ensures { λ r. ⌜ r ≡ lent-at (now (table .entry)) c ⌝ }
+{
+    table[c]
+}
+
+// Columns with no cell's numbers in them.
+fn empty(count: usize) -> Columns
+    ensures { λ r. ⌜ r ≡ blank count ⌝ }
+{
+    Columns {
+        count,
+        parent: [0u16; 256],
+        kind: [0u8; 256],
+        width: [0u16; 256],
+        depth: [0u8; 256],
+    }
+}
+
+// How many records of a table are taken apart: none where there are too many.
+fn clip(count: usize) -> usize
+    ensures { λ r. ⌜ r ≡ clipped count ⌝ }
+{
+    if MOST_CELLS < count { 0 } else { count }
+}
+
+// Columns with a record's numbers at cell c.
+fn with(t: Columns, c: usize, r: Record) -> Columns
+    requires { ⌜ c < 256 ⌝ }
+    ensures { λ next. ⌜ next ≡ with-record t c r ⌝ }
+{
+    let mut next = t;
+    next.parent[c] = r.parent;
+    next.kind[c] = r.kind;
+    next.width[c] = r.width;
+    next.depth[c] = r.depth;
+    next
+}
+
+// The columns of a lent table. One of more than 256 records gives its count, and no numbers.
+pub fn columns_of(table: &[Record]) -> Columns
+    ensures { λ r. ⌜ r ≡ lent-columns (now (table .entry)) ⌝ }
+{
+    let count = table.len();
+    let n = clip(count);
+    let mut t = empty(count);
+    let mut c = 0;
+    while c < n {
+        let r = record_at(table, c);
+        t = with(t, c, r);
+        c += 1;
+    }
+    t
+}
+
+// The record of cell c, from the columns of a reading.
+pub fn record_of(reading: Reading, c: usize) -> Record
+    requires { ⌜ c < 256 ⌝ }
+    ensures { λ r. ⌜ r ≡ record-in reading c ⌝ }
+{
+    let columns = reading.columns;
+    Record {
+        parent: columns.parent[c],
+        kind: columns.kind[c],
+        width: columns.width[c],
+        depth: columns.depth[c],
+        label_length: reading.label_length[c],
+        label_start: reading.label_start[c],
+    }
+}
+
+// Writes the records of cells 0 to n - 1, and leaves the rest.
+pub fn fill(reading: Reading, n: usize, table: &mut [Record])
+    requires { ⌜ (n ≤ length (now table)) × (n ≤ 256) ⌝ }
+    ensures { λ _. ⌜ now (table .exit) ≡ filled reading n (now (table .entry)) ⌝ }
+{
+    let mut c = 0;
+    while c < n {
+        let r = record_of(reading, c);
+        table[c] = r;
+        c += 1;
+    }
+}

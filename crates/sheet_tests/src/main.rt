@@ -1,0 +1,38 @@
+// Prints the sheet of each plan file on standard input. A file comes after its length, a number of two bytes, low byte first.
+fn number(low: u8, high: u8) -> usize {
+    (low as usize) + 256 * (high as usize)
+}
+
+// Reads a file of so many bytes and prints its sheet; false where there is no such file.
+fn print_file(space: &mut [u8], size: usize) -> bool {
+    if space.len() < size {
+        return false;
+    }
+    let n = io::read_full(0, &mut space[..size]);
+    if n < size {
+        return false;
+    }
+    printing::print_sheet(&space[..size]);
+    true
+}
+
+// The next file; false where the input has ended.
+fn print_next(space: &mut [u8]) -> bool {
+    let mut length = [0u8; 2];
+    if io::read_full(0, &mut length) < 2 {
+        return false;
+    }
+    let size = number(length[0], length[1]);
+    print_file(space, size)
+}
+
+fn main() {
+    let mut space = [0u8; 16400];
+    let mut turns: usize = 500;
+    while 0 < turns {
+        if !print_next(&mut space) {
+            return;
+        }
+        turns -= 1;
+    }
+}

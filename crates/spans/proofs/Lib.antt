@@ -1,0 +1,4 @@
+pub mod Folding
+pub mod Laying
+pub mod Sinking
+pub mod Numbering

@@ -1,0 +1,5 @@
+pub mod Tests
+pub mod Searching
+pub mod Looking
+pub mod Widening
+pub mod Judging

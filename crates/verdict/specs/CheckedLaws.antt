@@ -1,0 +1,74 @@
+-- What Check's answer says. Assumes nothing.
+use mathlib.Core.Path.{_≡_, refl, sym, _∙_, ap}
+use mathlib.Core.List.{List}
+use Prim.Native.Nat.{ℕ, _+_, _-_, _*_, _≤_, _<_}
+use native.Mathlib.Omega.{arith}
+use lib.Dec.{T, leb→le}
+use lib.ListN.{length}
+use lib.IntN.{ℤ, pos, _+ℤ_}
+use Rattle.whole.specs.Whole.{whole, sum}
+use Rattle.plan.specs.Limits.{most-allowance}
+use Rattle.plan.specs.Paths.{within-self}
+use Rattle.plan.specs.Plan.{Table, Is, Sound}
+use Rattle.plan.specs.Fit.{Fit}
+use Rattle.plan.specs.Near.{Near, near-accepted}
+use Rattle.plan.specs.Questions.{refusal, check, check-given}
+use Rattle.plan.specs.QuestionLaws.{asked-yes, both-none}
+use Rattle.plan.specs.CallLaws.{check-refusal}
+use Rattle.plan.specs.FitLaws.{lent-fit}
+use Rattle.plan.specs.declared.Refusal.{Refusal}
+use Rattle.rules.specs.Placement.{Placement, right, bottom, width, rows}
+use Rattle.rules.specs.Search.{Verdict, kept, broken}
+use Rattle.rules.specs.Verdict.{verdict, answer, faulty}
+use Rattle.rules.specs.VerdictLaws.{kept-keeps, fine-answer}
+use Rattle.rules.specs.Extents.{width-le, width-ge}
+use Rattle.spans.specs.Columns.{at}
+use Rattle.verdict.specs.declared.Checked.the-variants.{Kept, Broken}
+use Rattle.verdict.specs.declared.search.Sights.{Sights}
+use Rattle.rules.specs.Placement.{placed}
+use Rattle.verdict.specs.Checked.{answered}
+use Rattle.verdict.specs.Sees.{Sees}
+use Rattle.verdict.specs.Spread.{Bounds, Spread}
+use Rattle.verdict.specs.Meaning.{right-lift, bottom-lift}
+
+-- what holds where no question refuses
+pub record Accepted (t : Table) (al : ℕ) (ps : List ℤ) : Type 0 where
+  pub fit : Fit t
+  pub near : Near ps (length t)
+  pub small : al ≤ most-allowance
+
+pub accepted : (t : Table) (al : ℕ) (ps : List ℤ) → refusal check (check-given t al ps) .number ≡ 0 → Accepted t al ps
+accepted t al ps e =
+    let (lent, r) = both-none _ _ (ap (λ (x : Refusal). x .number) (sym (check-refusal t al ps)) ∙ e) in
+    let (few, near) = both-none _ _ r in
+    let h = lent-fit t (length ps) lent in
+    record { fit = h .fit; near = near-accepted ps (length t) (h .room) near; small = leb→le al most-allowance (asked-yes 13 _ 0 few) }
+
+module _ (t : Table) (p : Placement) (s : Sights) (sound : Sound t) (some : 1 ≤ length t) (g : Sees t p s) where
+  pub width-is : (w : ℕ) → Spread (s .right) (s .x) (length t) w → width t p ≡ pos w
+  width-is w h =
+      let up = width-le t p w some (λ a b i j. omega (whole, right-lift t p s sound g a i, g .xs b j, sum (p .x b) (pos w), h .all a b i j)) in
+      let down = width-ge t p w (h .a) (h .b) (h .a-is) (h .b-is)
+      (omega (whole, right-lift t p s sound g (h .a) (h .a-is), g .xs (h .b) (h .b-is), sum (p .x (h .b)) (pos w), h .so)) in
+      omega whole
+
+  pub y-bottom : at (s .y) 0 ≤ at (s .bottom) 0
+  y-bottom = omega (arith, g .bases 0 some, g .bottoms .all 0 0 some (within-self t sound 0))
+
+  pub rows-is : p .y 0 ≡ pos 0 → rows t p ≡ pos (at (s .bottom) 0 - at (s .y) 0 + 1)
+  unfolding rows
+  rows-is e = omega (whole, e, g .ys 0 some, bottom-lift t p s sound g 0 some, sum (bottom t p 0) (pos 1), y-bottom)
+
+  pub bounds : length t ≤ 256 → Bounds (s .right) (s .x) (length t)
+  bounds few = record { some = some; few = few; each = λ c i. omega (arith, g .rights c i) }
+
+  module _ (al : ℕ) where
+    pub answered-kept : (w : ℕ) → verdict t p al ≡ kept → Spread (s .right) (s .x) (length t) w → Kept w (at (s .bottom) 0 - at (s .y) 0 + 1) ≡ answered (answer t p al)
+    unfolding answered
+    answered-kept w e h =
+        rw (fine-answer t p al e)
+        (rw (width-is w h, rows-is (kept-keeps t p al some e .s1 .root-y)) refl)
+
+pub answered-broken : (t : Table) (p : Placement) (al : ℕ) {r a b : ℕ} → verdict t p al ≡ broken r a b → Broken r a b ≡ answered (answer t p al)
+unfolding answered answer
+answered-broken t p al e = rw (e, answer)

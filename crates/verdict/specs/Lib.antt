@@ -1,0 +1,6 @@
+pub mod Passes
+pub mod Sees
+pub mod Spread
+pub mod Checked
+pub mod Meaning
+pub mod CheckedLaws

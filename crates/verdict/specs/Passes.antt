@@ -1,0 +1,97 @@
+-- The rules as the code tests them, on natural numbers. Assumes nothing.
+use mathlib.Core.List.{List}
+use mathlib.Core.Bool.{Bool, true, false, _&&_}
+use Prim.Native.Nat.{ℕ, zero, suc, _+_, _^_, _≤_, _<_}
+use lib.ListN.{getD}
+use lib.Dec.{eqb, leb, ltb}
+use Rattle.whole.specs.Says.{only}
+use Rattle.plan.specs.Limits.{farthest}
+use Rattle.rules.specs.Search.{Verdict, kept, broken, scan, judge}
+use Rattle.verdict.specs.declared.search.Sights.{Sights}
+use Rattle.verdict.specs.declared.search.View.{View}
+use Rattle.verdict.specs.declared.search.Found.{Found}
+use Rattle.verdict.specs.declared.search.Found.the-variants.{Kept, Broken}
+
+-- the numbers of the cell c, out of the columns
+abbrev pub view-at : (parent nth middle x right y due base bottom first end from to : List ℕ) → ℕ → View
+view-at parent nth middle x right y due base bottom first end from to c = record {
+  parent = getD parent c 0;
+  nth = getD nth c 0;
+  middle = getD middle c 0;
+  x = getD x c 0;
+  right = getD right c 0;
+  y = getD y c 0;
+  due = getD due c 0;
+  base = getD base c 0;
+  bottom = getD bottom c 0;
+  first = getD first c 0;
+  end = getD end c 0;
+  from = getD from c 0;
+  to = getD to c 0;
+}
+
+abbrev pub view-of : Sights → ℕ → View
+view-of s = view-at (s .parent) (s .nth) (s .middle) (s .x) (s .right) (s .y) (s .due) (s .base) (s .bottom) (s .first) (s .end) (s .from) (s .to)
+
+-- columns of n numbers that can be added to
+pub record Sighted (s : Sights) (n : ℕ) : Type 0 where
+  pub few : n ≤ 256
+  pub x-small : (c : ℕ) → c < n → getD (s .x) c 0 < 2 ^ 31
+  pub right-small : (c : ℕ) → c < n → getD (s .right) c 0 < 2 ^ 31
+  pub bottom-small : (c : ℕ) → c < n → getD (s .bottom) c 0 < 2 ^ 31
+
+-- S1, at a cell: it is as far down as is due, and the root in column 0
+unfoldable pub pass1 : ℕ → ℕ → View → Bool
+pass1 a b v = only (eqb a b) (eqb (v .y) (v .due) && only (eqb a 0) (eqb (v .x) farthest))
+
+unfoldable pub pass2 : ℕ → View → View → Bool
+pass2 a v w = only (eqb (w .parent) a && eqb (w .nth) (v .middle)) (eqb (v .x) (w .x))
+
+unfoldable pub pass3-ends : View → View → Bool
+pass3-ends v w = only (leb (w .from) (v .first) && ltb (v .first) (w .first)) (ltb (v .right) (w .x))
+
+unfoldable pub pass3-starts : View → View → Bool
+pass3-starts v w = only (leb (v .end) (w .first) && ltb (w .first) (v .to)) (ltb (v .x) (w .x))
+
+unfoldable pub pass3 : View → View → Bool
+pass3 v w = pass3-ends v w && pass3-starts v w
+
+-- a cell fills the rows from y to its bottom: down to its base with its box, and from there with its stem
+unfoldable pub pass4-box : View → View → Bool
+pass4-box v w = only (leb (v .y) (w .bottom) && leb (w .y) (v .base)) (ltb (v .right) (w .x))
+
+unfoldable pub pass4-stem : View → View → Bool
+pass4-stem v w = only (ltb (v .base) (v .bottom) && (ltb (v .base) (w .bottom) && leb (w .y) (v .bottom))) (ltb (v .x) (w .x))
+
+unfoldable pub pass4 : View → View → Bool
+pass4 v w = only (leb (v .end) (w .first)) (pass4-box v w && pass4-stem v w)
+
+unfoldable pub pass5 : ℕ → View → View → Bool
+pass5 al v w = only (leb (v .end) (w .first)) (leb (v .right + 1) (w .x + al))
+
+unfoldable pub passes : ℕ → ℕ → ℕ → ℕ → View → View → Bool
+passes al zero a b v w = true
+passes al (suc zero) a b v w = pass1 a b v
+passes al (suc (suc zero)) a b v w = pass2 a v w
+passes al (suc (suc (suc zero))) a b v w = pass3 v w
+passes al (suc (suc (suc (suc zero)))) a b v w = pass4 v w
+passes al (suc (suc (suc (suc (suc zero))))) a b v w = pass5 al v w
+passes al (suc (suc (suc (suc (suc (suc r)))))) a b v w = true
+
+-- ---- the search, as `lowest` has it
+unfoldable pub found-of : Verdict → Found
+found-of kept = Kept
+found-of (broken r a b) = Broken r a b
+
+module _ (s : Sights) (al n : ℕ) where
+  unfoldable pub pair : ℕ → ℕ → ℕ → Verdict
+  pair r a b = judge (passes al r a b (view-of s a) (view-of s b)) r a b
+
+  unfoldable pub row-found : ℕ → ℕ → Verdict
+  row-found r a = scan (pair r a) 0 n
+
+  unfoldable pub rule-found : ℕ → Verdict
+  rule-found r = scan (row-found r) 0 n
+
+  unfoldable pub all-found : Verdict
+  all-found = scan rule-found 1 5

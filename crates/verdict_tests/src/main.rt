@@ -1,0 +1,207 @@
+// Check and Ends on sheets G to J of document 01, a double fault, the farthest coordinates, and each rule broken alone. A line for each case.
+use connectors::ends;
+use connectors::Ended;
+use io::print_decimal;
+use io::write_all;
+use libc::STDOUT_FILENO;
+use plan::Columns;
+use verdict::check;
+use verdict::Checked;
+use whole::raise;
+use whole::within;
+
+const FAR: u32 = 1000000;
+
+fn at16(xs: &[u16], i: usize) -> u16 {
+    if i < xs.len() { xs[i] } else { 0 }
+}
+
+fn at8(xs: &[u8], i: usize) -> u8 {
+    if i < xs.len() { xs[i] } else { 0 }
+}
+
+// n cells of depth 1: parents, kinds and widths.
+fn table(count: usize, parents: &[u16], kinds: &[u8], widths: &[u16]) -> Columns {
+    let mut parent = [0u16; 256];
+    let mut kind = [0u8; 256];
+    let mut width = [0u16; 256];
+    let depth = [1u8; 256];
+    let mut c: usize = 0;
+    while c < 256 {
+        parent[c] = at16(parents, c);
+        width[c] = at16(widths, c);
+        kind[c] = at8(kinds, c);
+        c += 1;
+    }
+    Columns {
+        count,
+        parent,
+        kind,
+        width,
+        depth,
+    }
+}
+
+fn number(n: u32) {
+    write_all(STDOUT_FILENO, b" ");
+    print_decimal(STDOUT_FILENO, n as u64);
+}
+
+fn signed(x: i32) {
+    if !within(x, FAR) {
+        write_all(STDOUT_FILENO, b" far");
+        return;
+    }
+    let up = raise(x, FAR);
+    if up < FAR {
+        write_all(STDOUT_FILENO, b" -");
+        print_decimal(STDOUT_FILENO, (FAR - up) as u64);
+        return;
+    }
+    number(up - FAR);
+}
+
+fn show(name: &[u8], r: Checked) {
+    write_all(STDOUT_FILENO, name);
+    match r {
+        Checked::Kept(w, h) => {
+            write_all(STDOUT_FILENO, b" kept");
+            number(w);
+            number(h);
+        }
+        Checked::Broken(rule, a, b) => {
+            write_all(STDOUT_FILENO, b" broken");
+            number(rule as u32);
+            number(a as u32);
+            number(b as u32);
+        }
+        Checked::Refused(k, c) => {
+            write_all(STDOUT_FILENO, b" refused");
+            number(k as u32);
+            number(c as u32);
+        }
+    }
+    write_all(STDOUT_FILENO, b"\n");
+}
+
+fn show_ends(name: &[u8], r: Ended) {
+    write_all(STDOUT_FILENO, name);
+    match r {
+        Ended::Joined(x, y, u, v) => {
+            write_all(STDOUT_FILENO, b" joined");
+            signed(x);
+            signed(y);
+            signed(u);
+            signed(v);
+        }
+        Ended::Refused(k, c) => {
+            write_all(STDOUT_FILENO, b" refused");
+            number(k as u32);
+            number(c as u32);
+        }
+    }
+    write_all(STDOUT_FILENO, b"\n");
+}
+
+// B: a run over two steps.
+fn sheet_b() -> Columns {
+    table(3, &[65535, 0, 0], &[2, 1, 1], &[4, 3, 5])
+}
+
+// F: thirteen cells.
+fn sheet_f() -> Columns {
+    table(
+        13,
+        &[65535, 0, 1, 1, 1, 4, 4, 5, 0, 8, 9, 10, 10],
+        &[2, 2, 1, 1, 2, 2, 1, 1, 2, 2, 2, 1, 1],
+        &[2, 2, 2, 9, 2, 2, 2, 2, 2, 2, 2, 8, 2],
+    )
+}
+
+fn worked() {
+    let b = sheet_b();
+    show(b"B", check(b, &[0, 0, -4, 2, 0, 2], 0));
+    show(b"G", check(b, &[0, 0, -5, 2, 0, 2], 0));
+    show(b"H", check(b, &[0, 0, -3, 2, 0, 2], 0));
+    let e = table(5, &[65535, 0, 0, 2, 2], &[2, 1, 2, 1, 1], &[2, 6, 2, 3, 2]);
+    show(b"E at 4", check(e, &[0, 0, -7, 2, 0, 2, -4, 4, 0, 4], 4));
+    show(b"I", check(e, &[0, 0, -7, 2, 0, 2, -4, 4, 0, 4], 0));
+    let f = sheet_f();
+    show(
+        b"J",
+        check(
+            f,
+            &[
+                0, 0, -19, 2, -22, 4, -19, 4, -9, 4, -12, 6, -9, 6, -12, 8, 0, 2, 0, 4, 0, 6, -9,
+                8, 0, 8,
+            ],
+            3,
+        ),
+    );
+    let d = table(6, &[65535, 0, 0, 1, 2, 2], &[2, 2, 2, 1, 1, 1], &[2, 1, 1, 9, 9, 1]);
+    show(b"double fault", check(d, &[0, 0, -3, 2, 0, 2, -3, 4, -10, 4, 0, 4], 200));
+}
+
+// F's sheet for 3, and each rule broken alone.
+fn alone() {
+    let f = sheet_f();
+    let mut p = [
+        0, 0, -20, 2, -23, 4, -20, 4, -10, 4, -13, 6, -10, 6, -13, 8, 0, 2, 0, 4, 0, 6, -9, 8, 0, 8,
+    ];
+    show(b"F", check(f, &p, 3));
+    show(b"S5", check(f, &p, 2));
+    p[15] = 9;
+    show(b"S1", check(f, &p, 3));
+    p[15] = 8;
+    p[24] = 1;
+    show(b"S2", check(f, &p, 3));
+    p[24] = 0;
+    p[4] = -22;
+    show(b"S3", check(f, &p, 3));
+    p[4] = -23;
+    p[1] = 1;
+    show(b"root down", check(f, &p, 3));
+    p[1] = 0;
+    p[0] = 1;
+    show(b"root right", check(f, &p, 3));
+}
+
+fn far() {
+    let b = sheet_b();
+    show(b"x -65535", check(b, &[0, 0, -65535, 2, 0, 2], 0));
+    show(b"x -65536", check(b, &[0, 0, -65536, 2, 0, 2], 0));
+    show(b"x 65535", check(b, &[0, 0, 65535, 2, 0, 2], 0));
+    show(b"x 65536", check(b, &[0, 0, 65536, 2, 0, 2], 0));
+    show(b"y 65535", check(b, &[0, 0, -4, 65535, 0, 2], 0));
+    show(b"y -65535", check(b, &[0, 0, -4, -65535, 0, 2], 0));
+    show(b"y 65536", check(b, &[0, 0, -4, 2, 0, 65536], 0));
+    show(b"allowance 65535", check(b, &[0, 0, -4, 2, 0, 2], 65535));
+    show(b"allowance 65536", check(b, &[0, 0, -4, 2, 0, 2], 65536));
+    show(b"short", check(b, &[0, 0, -4, 2, 0], 0));
+    let none = table(0, &[65535], &[1], &[1]);
+    show(b"no cell", check(none, &[0, 0], 0));
+    let many = table(257, &[65535], &[1], &[1]);
+    show(b"257 cells", check(many, &[0, 0], 0));
+    let late = table(3, &[65535, 2, 0], &[2, 1, 1], &[4, 3, 5]);
+    show(b"parent not lower", check(late, &[0, 0, -4, 2, 0, 2], 0));
+    let bare = table(3, &[65535, 0, 0], &[2, 2, 1], &[4, 3, 5]);
+    show(b"run without children", check(bare, &[0, 0, -4, 2, 0, 2], 0));
+}
+
+fn connected() {
+    let b = sheet_b();
+    show_ends(b"ends 1", ends(b, &[0, 0, -4, 2, 0, 2], 1));
+    show_ends(b"ends 2", ends(b, &[0, 0, -4, 2, 0, 2], 2));
+    show_ends(b"ends 0", ends(b, &[0, 0, -4, 2, 0, 2], 0));
+    show_ends(b"ends 3", ends(b, &[0, 0, -4, 2, 0, 2], 3));
+    show_ends(b"ends far", ends(b, &[65535, -65535, -65535, 65535, 0, 2], 1));
+    show_ends(b"ends too far", ends(b, &[0, 0, -4, 2, 0, 65536], 1));
+    show_ends(b"ends short", ends(b, &[0, 0, -4, 2, 0], 1));
+}
+
+fn main() {
+    worked();
+    alone();
+    far();
+    connected();
+}

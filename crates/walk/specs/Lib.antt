@@ -1,0 +1,5 @@
+pub mod Machine
+pub mod Tree
+pub mod Shows
+pub mod Claim
+pub mod Walked
