@@ -1,0 +1,3 @@
+//! What the comparison and the benchmark share.
+
+pub mod plain;
