@@ -12,7 +12,7 @@ ghost use mathlib.Core.Path.{_≡_};
 ghost use lib.ListN.{length};
 ghost use Rattle.plan.specs.Columns.{table-of};
 ghost use Rattle.planfile.specs.Reading.{«label-refusal», «reading-of»};
-ghost use Rattle.records.specs.Apart.{«lent-columns»};
+ghost use Rattle.plan.specs.Records.{«cells-of»};
 ghost use Rattle.records.specs.Together.{filled};
 ghost use Rattle.verdict.specs.Checked.{«checked-of»};
 ghost use Rattle.connectors.specs.Ended.{«ended-of»};
@@ -200,7 +200,7 @@ pub extern "C" fn kuzpalen_layout(
     scratch: &mut [u32],
     positions: &mut [i32],
 ) -> LayoutAnswer
-    ensures { λ r. ⌜ Laying (table-of (lent-columns (now (table .entry)))) allowance (now (scratch .entry)) (now (scratch .exit)) (now (positions .entry)) (now (positions .exit)) r ⌝ }
+    ensures { λ r. ⌜ Laying (cells-of (now (table .entry))) allowance (now (scratch .entry)) (now (scratch .exit)) (now (positions .entry)) (now (positions .exit)) r ⌝ }
 {
     let t = columns_of(table);
     laid(t, allowance, scratch, positions)
@@ -208,7 +208,7 @@ pub extern "C" fn kuzpalen_layout(
 
 #[no_mangle]
 pub extern "C" fn kuzpalen_check(table: &[Record], positions: &[i32], allowance: u32) -> CheckAnswer
-    ensures { λ r. ⌜ r ≡ check-answer (checked-of (table-of (lent-columns (now (table .entry)))) (now (positions .entry)) allowance) ⌝ }
+    ensures { λ r. ⌜ r ≡ check-answer (checked-of (cells-of (now (table .entry))) (now (positions .entry)) allowance) ⌝ }
 {
     let t = columns_of(table);
     checked(t, positions, allowance)
@@ -216,7 +216,7 @@ pub extern "C" fn kuzpalen_check(table: &[Record], positions: &[i32], allowance:
 
 #[no_mangle]
 pub extern "C" fn kuzpalen_ends(table: &[Record], positions: &[i32], cell: usize) -> EndsAnswer
-    ensures { λ r. ⌜ r ≡ ends-answer (ended-of (table-of (lent-columns (now (table .entry)))) (now (positions .entry)) cell) ⌝ }
+    ensures { λ r. ⌜ r ≡ ends-answer (ended-of (cells-of (now (table .entry))) (now (positions .entry)) cell) ⌝ }
 {
     let t = columns_of(table);
     ended(t, positions, cell)

@@ -1,9 +1,18 @@
 // THE CALLS, over lent records: no call asks anything of its caller.
+use connectors::Ended;
+use drawing::Laid;
 use plan::Record;
 use plan::Refusal;
 use planfile::Reading;
+use records::columns_of;
+use records::fill;
+use verdict::Checked;
 ghost use mathlib.Core.Path.{_≡_};
+ghost use Rattle.plan.specs.Records.{«cells-of»};
 ghost use Rattle.planfile.specs.Reading.{«label-refusal»};
+ghost use Rattle.drawing.specs.Laid.{Lays};
+ghost use Rattle.verdict.specs.Checked.{«checked-of»};
+ghost use Rattle.connectors.specs.Ended.{«ended-of»};
 ghost use Rattle.engine.specs.Read.{Reads};
 ghost use Rattle.engine.specs.ReadLaws.{«read-of»};
 ghost use Rattle.engine.specs.Label.{«label-of»};
@@ -44,7 +53,7 @@ pub fn read(file: &[u8], table: &mut [Record]) -> ReadAnswer
 {
     let parsed = parse(file, table.len());
     let reading = parsed.reading;
-    records::fill(reading, reading.columns.count, table);
+    fill(reading, reading.columns.count, table);
     parsed.answer
 }
 
@@ -60,4 +69,28 @@ pub fn label_refusal(file: &[u8], cell: usize) -> Refusal
     ensures { λ r. ⌜ r ≡ label-refusal (now (file .entry)) cell ⌝ }
 {
     planfile::label_refusal(file, cell)
+}
+
+// Layout: our sheet is written into the positions; its width and rows, or the refusal.
+pub fn layout(table: &[Record], allowance: u32, scratch: &mut [u32], positions: &mut [i32]) -> Laid
+    ensures { λ r. ⌜ Lays (cells-of (now (table .entry))) allowance (now (scratch .entry)) (now (scratch .exit)) (now (positions .entry)) (now (positions .exit)) r ⌝ }
+{
+    let t = columns_of(table);
+    drawing::layout(t, allowance, scratch, positions)
+}
+
+// Check: "kept" with width and rows, or "broken" with the lowest rule, then the lowest a, then the lowest b; or the refusal.
+pub fn check(table: &[Record], positions: &[i32], allowance: u32) -> Checked
+    ensures { λ r. ⌜ r ≡ checked-of (cells-of (now (table .entry))) (now (positions .entry)) allowance ⌝ }
+{
+    let t = columns_of(table);
+    verdict::check(t, positions, allowance)
+}
+
+// Ends: where the connector from a cell's parent to the cell begins and ends; or the refusal.
+pub fn ends(table: &[Record], positions: &[i32], cell: usize) -> Ended
+    ensures { λ r. ⌜ r ≡ ended-of (cells-of (now (table .entry))) (now (positions .entry)) cell ⌝ }
+{
+    let t = columns_of(table);
+    connectors::ends(t, positions, cell)
 }

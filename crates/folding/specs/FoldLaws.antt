@@ -20,13 +20,13 @@ use Rattle.folding.specs.Fold.{Tally, fresh, first, later, side, add-at,
 use Rattle.folding.specs.Held.{upto-past, beyond-past, add-done}
 
 -- o is the latest of the children joined, of which number m is the appointed one
-pub record Latest (m : ℕ) (a : Tally) (o : Contour) : Type 0 where
-  pub some : 0 < a .done
-  pub flat : a .done ≤ suc m → a .merge .past ≡ 0
-  pub near : Near (a .merge) o
+record Latest (m : ℕ) (a : Tally) (o : Contour) : Type 0 where
+  some : 0 < a .done
+  flat : a .done ≤ suc m → a .merge .past ≡ 0
+  near : Near (a .merge) o
 
 module _ (al : ℕ) where
-  pub latest-first : (m : ℕ) (o : Contour) → Latest m (first o) o
+  latest-first : (m : ℕ) (o : Contour) → Latest m (first o) o
   latest-first m o = record { some = omega arith; flat = λ l. refl; near = first-near al o }
 
   -- a child that is not the first
@@ -40,19 +40,19 @@ module _ (al : ℕ) where
         go (suc d) e l = refl
 
     -- up to the appointed one
-    pub add-upto : 0 < a .done → a .done ≤ m → add al m a p ≡ later a p (separationTo al (a .merge) p) (upto (a .merge) p (separationTo al (a .merge) p))
+    add-upto : 0 < a .done → a .done ≤ m → add al m a p ≡ later a p (separationTo al (a .merge) p) (upto (a .merge) p (separationTo al (a .merge) p))
     add-upto l k = add-later l ∙ rw (le-ltb m (a .done) k)
 
     -- beyond it
-    pub add-beyond : 0 < a .done → m < a .done → add al m a p ≡ later a p (separationTo al (a .merge) p) (beyond (a .merge) p (separationTo al (a .merge) p))
+    add-beyond : 0 < a .done → m < a .done → add al m a p ≡ later a p (separationTo al (a .merge) p) (beyond (a .merge) p (separationTo al (a .merge) p))
     add-beyond l k = add-later l ∙ rw (lt-ltb m (a .done) k)
 
     module _ (o : Contour) (h : Latest m a o) where
       -- it stands at its separation from the one before it, and is the latest then
-      pub add-far : add al m a p .far ≡ a .far + separation al o p
+      add-far : add al m a p .far ≡ a .far + separation al o p
       add-far = ap (λ (b : Tally). b .far) (add-later (h .some)) ∙ rw (near-separation al (a .merge) o p (h .near))
 
-      pub add-latest : Latest m (add al m a p) p
+      add-latest : Latest m (add al m a p) p
       add-latest = go (decLt m (a .done))
         where
           e : separationTo al (a .merge) p ≡ separation al o p

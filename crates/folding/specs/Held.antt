@@ -25,7 +25,7 @@ module _ (s : Merge) (p : Contour) (g : ℕ) where
       go true = refl
       go false = omega arith
 
-  pub upto-right : ((j : ℕ) → getD (s .right) j 0 ≤ g) → (j : ℕ) → getD (upto s p g .right) j 0 ≡ getD (p .right) j 0
+  upto-right : ((j : ℕ) → getD (s .right) j 0 ≤ g) → (j : ℕ) → getD (upto s p g .right) j 0 ≡ getD (p .right) j 0
   unfolding upto
   upto-right h j = get-cover _ (p .right) j ∙ rw (get-map (λ v. v - g) (s .right) j) (go (ltb j (length (s .right))))
     where
@@ -33,7 +33,7 @@ module _ (s : Merge) (p : Contour) (g : ℕ) where
       go true = omega (arith, h j)
       go false = omega arith
 
-  pub beyond-left : ((j : ℕ) → getD (p .left) j 0 ≤ s .past + g) → (j : ℕ) → getD (beyond s p g .left) j 0 ≡ getD (s .left) j 0
+  beyond-left : ((j : ℕ) → getD (p .left) j 0 ≤ s .past + g) → (j : ℕ) → getD (beyond s p g .left) j 0 ≡ getD (s .left) j 0
   unfolding beyond
   beyond-left h j = get-cover (s .left) _ j ∙ rw (get-map (λ v. v - (s .past + g)) (p .left) j) (go (ltb j (length (p .left))))
     where
@@ -41,7 +41,7 @@ module _ (s : Merge) (p : Contour) (g : ℕ) where
       go true = omega (arith, h j)
       go false = omega arith
 
-  pub beyond-right : ((j : ℕ) → getD (s .right) j 0 ≤ s .past + g) → (j : ℕ)
+  beyond-right : ((j : ℕ) → getD (s .right) j 0 ≤ s .past + g) → (j : ℕ)
       → getD (beyond s p g .right) j 0 ≡ cond (ltb j (length (p .right))) (s .past + g + getD (p .right) j 0) (getD (s .right) j 0)
   unfolding beyond
   beyond-right h j = get-cover (s .right) _ j ∙ rw (get-map (λ v. s .past + g + v) (p .right) j) (go (ltb j (length (p .right))))

@@ -37,7 +37,7 @@ greatest-same us vs h =
     omega (arith, greatest-below us (greatest vs) (λ j. omega (arith, h j, get-greatest vs j)), greatest-below vs (greatest us) (λ j. omega (arith, h j, get-greatest us j)))
 
 -- ---- rows of a map, of a cover, of a box with what is below it
-pub ltb-suc : (j n : ℕ) → ltb (suc j) (suc n) ≡ ltb j n
+ltb-suc : (j n : ℕ) → ltb (suc j) (suc n) ≡ ltb j n
 ltb-suc j n = go (ltb j n) refl
   where
     go : (b : Bool) → ltb j n ≡ b → ltb (suc j) (suc n) ≡ b

@@ -10,7 +10,7 @@ use lib.Dec.{ltb}
 use borrow.Author.Tests.{ltb-true, ltb-false}
 use Rattle.plan.specs.Limits.{farthest}
 use Rattle.layout.specs.Contour.{Contour, greatest}
-use Rattle.rows.specs.Rows.{extent, Low, box-to, box-to-length}
+use Rattle.rows.specs.Rows.{row-size, extent, Low, box-to, box-to-length}
 use Rattle.rows.specs.RowLaws.{box-left, box-right, box-above, box-beside}
 use Rattle.folding.specs.Fold.{Tally, boxed}
 use Rattle.folding.specs.Lists.{get-box, length-box}
@@ -26,7 +26,7 @@ pub record Under (xs ms : List ℕ) (k c d m : ℕ) (b : Tally) (n : ℕ) : Type
   pub held : Held m b n
   pub left : (j : ℕ) → extent xs (d + 1 + j) k ≡ getD (b .merge .left) j 0
   pub right : (j : ℕ) → extent xs (d + 1 + j) (k + 1) ≡ getD (b .merge .right) j 0
-  pub fit : 64 * (d + 1 + length (b .merge .left)) ≤ length xs
+  pub fit : row-size * (d + 1 + length (b .merge .left)) ≤ length xs
   pub tall : mark ms c 0 ≡ length (b .merge .left)
   pub past : mark ms c 2 ≡ b .merge .past
   pub far : mark ms c 3 ≡ b .far
@@ -37,7 +37,7 @@ pub record Complete (xs ms : List ℕ) (k c w : ℕ) (b : Tally) (p : Contour) (
   pub same-marks : length (m .marks) ≡ length ms
   pub left : (j : ℕ) → extent (m .rows) j k ≡ getD (p .left) j 0
   pub right : (j : ℕ) → extent (m .rows) j (k + 1) ≡ getD (p .right) j 0
-  pub beside : (j i : ℕ) → i < 64 → i ≢ k → i ≢ k + 1 → extent (m .rows) j i ≡ extent xs j i
+  pub beside : (j i : ℕ) → i < row-size → i ≢ k → i ≢ k + 1 → extent (m .rows) j i ≡ extent xs j i
   pub low : w ≤ farthest → Low xs → Low (m .rows)
   pub mark0 : mark (m .marks) c 0 ≡ b .far - b .merge .past
   pub mark1 : mark (m .marks) c 1 ≡ greatest (p .left)
@@ -63,7 +63,7 @@ module _ (xs ms : List ℕ) (k c d w m : ℕ) (b : Tally) (n : ℕ) (h : Under x
   X = box-to xs k w (d + 1)
 
   -- a row of the box, or one below it
-  box-row : (j i v : ℕ) (vs : List ℕ) → i < 64 → ((j : ℕ) → j < d + 1 → extent X j i ≡ v) → ((j : ℕ) → extent xs (d + 1 + j) i ≡ getD vs j 0)
+  box-row : (j i v : ℕ) (vs : List ℕ) → i < row-size → ((j : ℕ) → j < d + 1 → extent X j i ≡ v) → ((j : ℕ) → extent xs (d + 1 + j) i ≡ getD vs j 0)
       → (z : Bool) → ltb j (d + 1) ≡ z → extent X j i ≡ cond z v (getD vs (j - (d + 1)) 0)
   box-row j i v vs l box below true e = box j (ltb-true _ _ e)
   box-row j i v vs l box below false e =

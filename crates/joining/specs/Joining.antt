@@ -7,7 +7,7 @@ use native.Mathlib.Omega.{arith}
 use lib.ListN.{length, getD, set, length-set}
 use lib.Dec.{ltb}
 use Rattle.plan.specs.Limits.{last-row, farthest}
-use Rattle.rows.specs.Rows.{Low, box-to, max-to, clash-to, upto-rows, beyond-rows}
+use Rattle.rows.specs.Rows.{row-size, Low, box-to, max-to, clash-to, upto-rows, beyond-rows}
 
 -- the scratch and the marks
 pub record Memory : Type 0 where
@@ -33,6 +33,7 @@ noted ms c x = set ms (4 * c + 3) x
 abbrev pub height : List ℕ → ℕ → ℕ → ℕ
 height ms c d = d + 1 + mark ms c 0
 
+-- the box is drawn over the joined rows. The marks: the middle, both extents, and 0 for the distance from the first sibling
 unfoldable pub completed : Memory → ℕ → ℕ → ℕ → ℕ → Memory
 completed m at c d w =
     let xs = box-to (m .rows) at w (d + 1) in
@@ -45,6 +46,7 @@ apart m at f c hs al =
     max (max (mark (m .marks) f 1 + 1) (mark (m .marks) c 1 + 1))
     (max (clash-to (m .rows) at (mark (m .marks) f 2) (min (mark (m .marks) f 0) hs)) ((mark (m .marks) f 1 + mark (m .marks) c 1 + 1) - al))
 
+-- the first child: its rows become those of its parent
 abbrev pub settled-first : Memory → ℕ → ℕ → ℕ → ℕ → Memory
 settled-first m at f c hs = mem (upto-rows (m .rows) at 0 0 hs) (four (m .marks) f hs (mark (m .marks) c 2) 0 0)
 
@@ -62,19 +64,19 @@ settled-at m at f c hs (suc p) apt al = settled-by m at f c hs (ltb apt (suc p))
 unfoldable pub settled : Memory → ℕ → ℕ → ℕ → ℕ → ℕ → ℕ → ℕ → Memory
 settled m at f c hs place apt al = settled-at m at f c hs place apt al
 
--- what the calls need
+-- ---- what the calls need
 pub record Completing (m : Memory) (at c d : ℕ) : Type 0 where
   pub column : at ≤ 62
   pub own : 4 * c + 4 ≤ length (m .marks)
-  pub rows : 64 * height (m .marks) c d ≤ length (m .rows)
+  pub rows : row-size * height (m .marks) c d ≤ length (m .rows)
   pub behind : mark (m .marks) c 2 ≤ mark (m .marks) c 3
 
 pub record Settling (m : Memory) (at f c hs : ℕ) : Type 0 where
   pub column : at ≤ 60
   pub own : 4 * c + 4 ≤ length (m .marks)
   pub theirs : 4 * f + 4 ≤ length (m .marks)
-  pub rows : 64 * hs ≤ length (m .rows)
-  pub tall : 64 * mark (m .marks) f 0 ≤ length (m .rows)
+  pub rows : row-size * hs ≤ length (m .rows)
+  pub tall : row-size * mark (m .marks) f 0 ≤ length (m .rows)
   pub small : hs ≤ last-row + 1
   pub smallf : mark (m .marks) f 0 ≤ last-row + 1
   pub low : Low (m .rows)
@@ -85,16 +87,17 @@ pub record Settling (m : Memory) (at f c hs : ℕ) : Type 0 where
 
 pub record Siding (xs : List ℕ) (at hf hs past g : ℕ) : Type 0 where
   pub column : at ≤ 60
-  pub rows : 64 * hs ≤ length xs
-  pub tall : 64 * hf ≤ length xs
+  pub rows : row-size * hs ≤ length xs
+  pub tall : row-size * hf ≤ length xs
   pub low : Low xs
   pub small-past : past ≤ farthest
   pub small-step : g ≤ 2 * farthest + 1
 
+-- ---- the separation is small
 clash-low : (xs : List ℕ) (k x n : ℕ) → Low xs → clash-to xs k x n ≤ 2 * farthest + 1
 unfolding clash-to
 clash-low xs k x zero h = omega arith
-clash-low xs k x (suc n) h = omega (arith, clash-low xs k x n h, h (64 * n + (k + 1)), h (64 * n + (k + 2)))
+clash-low xs k x (suc n) h = omega (arith, clash-low xs k x n h, h (row-size * n + (k + 1)), h (row-size * n + (k + 2)))
 
 apart-low : (m : Memory) (at f c hs al : ℕ) → Settling m at f c hs → apart m at f c hs al ≤ 2 * farthest + 1
 unfolding apart
@@ -103,7 +106,7 @@ apart-low m at f c hs al h = omega (arith, clash-low (m .rows) at (mark (m .mark
 pub apart-found : (m : Memory) (at f c hs al : ℕ) {g : ℕ} → Settling m at f c hs → g ≡ apart m at f c hs al → (g ≡ apart m at f c hs al) × (g ≤ 2 * farthest + 1)
 apart-found m at f c hs al h e = (e, omega (arith, apart-low m at f c hs al h))
 
--- a place is the first, or not
+-- ---- a place is the first, or not
 pub at-first : (m : Memory) (at f c hs p apt al : ℕ) → p ≡ 0 → settled m at f c hs p apt al ≡ settled-first m at f c hs
 unfolding settled
 at-first m at f c hs p apt al e = rw e
@@ -116,7 +119,7 @@ at-later m at f c hs (suc p) apt al l = refl
 pub length-four : (ms : List ℕ) (c m0 m1 m2 m3 : ℕ) → length (four ms c m0 m1 m2 m3) ≡ length ms
 length-four ms c m0 m1 m2 m3 = simp length-set
 
--- the numbers that the code finds on its way
+-- ---- the numbers that the code finds on its way
 pub later-found : (xs ms : List ℕ) (at f c hs : ℕ) (beyond : Bool) (al : ℕ) {g x h hf p past r all : ℕ} {xs′ ms₁ ms₂ : List ℕ} → g ≡ apart (mem xs ms) at f c hs al → x ≡ mark ms f 3 → h ≡ mark ms f 0
     → hf ≡ h → p ≡ mark ms f 2 → xs′ ≡ cond beyond (beyond-rows xs at (p + g) hs) (upto-rows xs at hf g (max hf hs)) → past ≡ cond beyond (p + g) 0 → r ≡ mark ms c 2 → ms₁ ≡ noted ms c (x + g) → all ≡ max hf hs
     → ms₂ ≡ four ms₁ f all r past (x + g) → mem xs′ ms₂ ≡ settled-by (mem xs ms) at f c hs beyond (apart (mem xs ms) at f c hs al)

@@ -12,16 +12,16 @@ use Rattle.plan.specs.Limits.{farthest}
 use Rattle.plan.specs.ListLaws.{at-getD}
 use Rattle.layout.specs.Contour.{greatest, clash}
 use Rattle.layout.specs.ContourLaws.{at-map, map-at, clash-le, clash-at}
-use Rattle.rows.specs.Rows.{extent, Low, box-to, max-to, clash-to}
+use Rattle.rows.specs.Rows.{row-size, extent, Low, box-to, max-to, clash-to}
 use Rattle.folding.specs.Lists.{at-get, get-past, get-greatest, greatest-below}
 
 -- ---- small numbers
-pub low-rows : (xs : List ℕ) → ((j k : ℕ) → k < 64 → extent xs j k ≤ farthest) → Low xs
+pub low-rows : (xs : List ℕ) → ((j k : ℕ) → k < row-size → extent xs j k ≤ farthest) → Low xs
 low-rows xs h i =
-    let e : 64 * (i / 64) + i % 64 ≡ i = omega (arith, div-add-mod' i 64) in
-    rw e at (h (i / 64) (i % 64) (omega arith))
+    let e : row-size * (i / row-size) + i % row-size ≡ i = omega (arith, div-add-mod' i row-size) in
+    rw e at (h (i / row-size) (i % row-size) (omega arith))
 
-pub set-low : (xs : List ℕ) (i v : ℕ) → Low xs → v ≤ farthest → Low (set xs i v)
+set-low : (xs : List ℕ) (i v : ℕ) → Low xs → v ≤ farthest → Low (set xs i v)
 set-low xs i v h l q = go (ℕ-discrete q i)
   where
     inside : Dec (i < length xs) → getD (set xs i v) i 0 ≤ farthest
@@ -38,7 +38,7 @@ drop-low xs n h i = rw (getD-drop n xs i 0) (h (n + i))
 pub box-low : (xs : List ℕ) (k w n : ℕ) → w ≤ farthest → Low xs → Low (box-to xs k w n)
 unfolding box-to
 box-low xs k w zero l h = h
-box-low xs k w (suc n) l h = set-low (set (box-to xs k w n) (64 * n + k) 0) (64 * n + k + 1) w (set-low (box-to xs k w n) (64 * n + k) 0 (box-low xs k w n l h) (omega arith)) l
+box-low xs k w (suc n) l h = set-low (set (box-to xs k w n) (row-size * n + k) 0) (row-size * n + k + 1) w (set-low (box-to xs k w n) (row-size * n + k) 0 (box-low xs k w n l h) (omega arith)) l
 
 -- ---- the greatest of a column
 max-le : (xs : List ℕ) (k b : ℕ) → ((j : ℕ) → extent xs j k ≤ b) → (n : ℕ) → max-to xs k n ≤ b

@@ -11,7 +11,7 @@ use borrow.Author.Tests.{ltb-true, ltb-false, lt-ltb, le-ltb}
 use Rattle.plan.specs.Limits.{last-row, farthest}
 use Rattle.layout.specs.Contour.{Contour, greatest, clash, separation}
 use Rattle.layout.specs.Join.{upto, beyond, near, separationTo}
-use Rattle.rows.specs.Rows.{extent, Low, clash-to, put-to, put-to-length}
+use Rattle.rows.specs.Rows.{row-size, extent, Low, clash-to, put-to, put-to-length}
 use Rattle.rows.specs.RowLaws.{put-to-above, put-to-else, put-to-left, put-to-right, put-to-left-off, put-to-right-off}
 use Rattle.folding.specs.Fold.{Tally, first, later, side, add-at, add, boxed}
 use Rattle.folding.specs.Lists.{get-past}
@@ -35,7 +35,7 @@ pub record Given (xs ms : List ℕ) (at f c d w m k : ℕ) (a b : Tally) (s n : 
   pub light : s + ((w + 1) + n) ≤ farthest
   pub left : (j : ℕ) → extent xs j at ≡ getD (a .merge .left) j 0
   pub right : (j : ℕ) → extent xs j (at + 1) ≡ getD (a .merge .right) j 0
-  pub fit : 64 * length (a .merge .left) ≤ length xs
+  pub fit : row-size * length (a .merge .left) ≤ length xs
   pub small : d + 1 + length (b .merge .left) ≤ last-row + 1
   pub smallf : length (a .merge .left) ≤ last-row + 1
   pub tall : mark ms f 0 ≡ length (a .merge .left)
@@ -51,7 +51,7 @@ pub record Joined (xs ys : List ℕ) (at : ℕ) (a : Tally) : Type 0 where
   pub right : (j : ℕ) → extent ys j (at + 1) ≡ getD (a .merge .right) j 0
   pub left-off : (j : ℕ) → extent ys j (at + 2) ≡ 0
   pub right-off : (j : ℕ) → extent ys j (at + 3) ≡ 0
-  pub else : (j k : ℕ) → k < 64 → k ≢ at → k ≢ at + 1 → k ≢ at + 2 → k ≢ at + 3 → extent ys j k ≡ extent xs j k
+  pub else : (j k : ℕ) → k < row-size → k ≢ at → k ≢ at + 1 → k ≢ at + 2 → k ≢ at + 3 → extent ys j k ≡ extent xs j k
 
 -- and the marks of both
 pub record Marked (ms ns : List ℕ) (f c : ℕ) (a b : Tally) (p : Contour) : Type 0 where
@@ -67,8 +67,8 @@ pub record Marked (ms ns : List ℕ) (f c : ℕ) (a b : Tally) (p : Contour) : T
   pub others : (x k : ℕ) → k < 4 → x ≢ f → x ≢ c → mark ns x k ≡ mark ms x k
 
 -- rows put below n
-put-joined : (xs X : List ℕ) (at : ℕ) (L R : ℕ → ℕ) (n : ℕ) (a : Tally) → at ≤ 60 → 64 * n ≤ length X → length X ≡ length xs
-    → ((j k : ℕ) → k < 64 → k ≢ at + 2 → k ≢ at + 3 → extent X j k ≡ extent xs j k)
+put-joined : (xs X : List ℕ) (at : ℕ) (L R : ℕ → ℕ) (n : ℕ) (a : Tally) → at ≤ 60 → row-size * n ≤ length X → length X ≡ length xs
+    → ((j k : ℕ) → k < row-size → k ≢ at + 2 → k ≢ at + 3 → extent X j k ≡ extent xs j k)
     → ((j : ℕ) → j < n → (L j ≡ getD (a .merge .left) j 0) × (R j ≡ getD (a .merge .right) j 0))
     → ((j : ℕ) → n ≤ j → (extent X j at ≡ getD (a .merge .left) j 0) × (extent X j (at + 1) ≡ getD (a .merge .right) j 0) × (extent X j (at + 2) ≡ 0) × (extent X j (at + 3) ≡ 0))
     → Joined xs (put-to X at L R n) at a
@@ -82,7 +82,7 @@ put-joined xs X at L R n a c f len beside up down =
       else = λ j k b n0 n1 n2 n3. put-to-else X at L R n c f j k b n0 n1 n2 n3 ∙ beside j k b n2 n3;
     }
   where
-    at-row : (j k v : ℕ) → k < 64 → (j < n → extent (put-to X at L R n) j k ≡ v) → (n ≤ j → extent X j k ≡ v) → (b : Bool) → ltb j n ≡ b → extent (put-to X at L R n) j k ≡ v
+    at-row : (j k v : ℕ) → k < row-size → (j < n → extent (put-to X at L R n) j k ≡ v) → (n ≤ j → extent X j k ≡ v) → (b : Bool) → ltb j n ≡ b → extent (put-to X at L R n) j k ≡ v
     at-row j k v l up down true q = up (ltb-true j n q)
     at-row j k v l up down false q = let ge = ltb-false j n q in put-to-above X at L R n c f j k l ge ∙ down ge
 
@@ -115,7 +115,7 @@ module _ (al : ℕ) (xs ms : List ℕ) (at f c d w m k : ℕ) (a b : Tally) (s n
   x-right : (j : ℕ) → extent (C .rows) j (at + 3) ≡ getD (p .right) j 0
   x-right j = let i : at + 2 + 1 ≡ at + 3 = omega arith in rw i at (done .right j)
 
-  x-else : (j i : ℕ) → i < 64 → i ≢ at + 2 → i ≢ at + 3 → extent (C .rows) j i ≡ extent xs j i
+  x-else : (j i : ℕ) → i < row-size → i ≢ at + 2 → i ≢ at + 3 → extent (C .rows) j i ≡ extent xs j i
   x-else j i l n0 n1 = done .beside j i l n0 (omega arith)
 
   x-first : (j : ℕ) → extent (C .rows) j at ≡ getD (a .merge .left) j 0
@@ -130,7 +130,7 @@ module _ (al : ℕ) (xs ms : List ℕ) (at f c d w m k : ℕ) (a b : Tally) (s n
   past-right : (j : ℕ) → hs ≤ j → extent (C .rows) j (at + 3) ≡ 0
   past-right j l = x-right j ∙ get-past (p .right) j (omega (arith, p-right))
 
-  hs-fits : 64 * hs ≤ length (C .rows)
+  hs-fits : row-size * hs ≤ length (C .rows)
   hs-fits = omega (arith, hs-is, done .same, h .under .fit)
 
   -- the marks of the parent
@@ -208,7 +208,7 @@ module _ (al : ℕ) (xs ms : List ℕ) (at f c d w m k : ℕ) (a b : Tally) (s n
         past-right j l,
       ))
   joined-later g i false q =
-      let fits : 64 * max (mark (C .marks) f 0) hs ≤ length (C .rows) = omega (arith, hs-fits, n-tall, h .fit, done .same) in
+      let fits : row-size * max (mark (C .marks) f 0) hs ≤ length (C .rows) = omega (arith, hs-fits, n-tall, h .fit, done .same) in
       let len = upto-tall (a .merge) p g in
       let right : (j : ℕ) → getD (upto (a .merge) p g .right) j 0 ≡ getD (p .right) j 0 = held-upto-right al m a p s (h .held) g i (ltb-false m (a .done) q) in
       put-joined xs (C .rows) at _ _ (max (mark (C .marks) f 0) hs) (later a p g (upto (a .merge) p g)) (h .column) fits (done .same) x-else

@@ -3,6 +3,9 @@
 // While a cell is open: the joined rows below its box, and of the child joined last its right extent, how far it stands past the appointed
 // child, and its distance from the first. Once it is complete: how far its appointed child stands from its first, its left and its right
 // extent, and its own distance from its first sibling.
+//
+// In the calls, rows begins with the child's top row; at and at + 1 are the columns of its parent f, at + 2 and at + 3 its own; hf and hs are
+// the rows of either.
 
 use rows::box_rows;
 use rows::clash;

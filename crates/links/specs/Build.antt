@@ -79,13 +79,13 @@ placed-length ks ls zero = refl
 placed-length ks ls (suc k) = simp length-set (placed-length ks ls k)
 
 -- the cells from d on still have their numbers
-pub placed-later : (ks ls : List ℕ) (d c : ℕ) → d ≤ c → link (placed ks ls d) c 3 ≡ link ls c 3
+placed-later : (ks ls : List ℕ) (d c : ℕ) → d ≤ c → link (placed ks ls d) c 3 ≡ link ls c 3
 unfolding placed
 placed-later ks ls zero c l = refl
 placed-later ks ls (suc d) c l = let ne : 4 * c + 3 ≢ 4 * d + 3 = omega arith in rw getD-set-other (placed-later ks ls d c (omega arith))
 
 -- a count is at most the number of cells counted
-pub count-low : (fs ls : List ℕ) → ((f : ℕ) → getD ls (4 * f + 3) 0 ≡ 0) → (k : ℕ) → 4 * k + 4 ≤ length ls → ((c : ℕ) → 0 < c → c ≤ k → up fs c < c) → (f : ℕ) → getD (counted fs ls k) (4 * f + 3) 0 ≤ k
+count-low : (fs ls : List ℕ) → ((f : ℕ) → getD ls (4 * f + 3) 0 ≡ 0) → (k : ℕ) → 4 * k + 4 ≤ length ls → ((c : ℕ) → 0 < c → c ≤ k → up fs c < c) → (f : ℕ) → getD (counted fs ls k) (4 * f + 3) 0 ≤ k
 unfolding counted
 count-low fs ls z zero l p f = omega (arith, z f)
 count-low fs ls z (suc k) l p f = go (ℕ-discrete f (up fs (suc k))) (count-low fs ls z k (omega arith) (λ c a b. p c a (omega arith)))
@@ -102,13 +102,13 @@ count-low fs ls z (suc k) l p f = go (ℕ-discrete f (up fs (suc k))) (count-low
         let e2 : 4 * f + 3 ≢ 4 * suc k + 2 = omega arith in
         rw (getD-set-other, getD-set-other) (omega (arith, ih f))
 
-pub chain-step : (fs ls : List ℕ) (n c : ℕ) → 0 < c → c < n → chained fs ls (n - c) c ≡ chain-one fs (chained fs ls (n - (c + 1)) (c + 1)) c
+chain-step : (fs ls : List ℕ) (n c : ℕ) → 0 < c → c < n → chained fs ls (n - c) c ≡ chain-one fs (chained fs ls (n - (c + 1)) (c + 1)) c
 unfolding chained
 chain-step fs ls n c l lt =
     let e : n - c ≡ suc (n - (c + 1)) = omega arith in
     rw (e, add-one)
 
-pub count-step : (fs ls : List ℕ) (c : ℕ) → 0 < c → counted fs ls (c + 1 - 1) ≡ count-one fs (counted fs ls (c - 1)) c
+count-step : (fs ls : List ℕ) (c : ℕ) → 0 < c → counted fs ls (c + 1 - 1) ≡ count-one fs (counted fs ls (c - 1)) c
 unfolding counted
 count-step fs ls c l =
     let e : c + 1 - 1 ≡ suc (c - 1) = omega arith in
@@ -172,7 +172,3 @@ appointing fs ks ls n h {l₁ = l₁} e₁ e₂ =
 pub links-found : (fs ks ls : List ℕ) (n : ℕ) {l₁ l₂ l₃ : List ℕ} → l₁ ≡ chained fs ls (n - 1) 1 → l₂ ≡ counted fs l₁ (n - 1) → l₃ ≡ placed ks l₂ n → l₃ ≡ links-of fs ks n ls
 unfolding links-of
 links-found fs ks ls n e₁ e₂ e₃ = cc
-
-pub links-length : (fs ks ls : List ℕ) (n : ℕ) → length (links-of fs ks n ls) ≡ length ls
-unfolding links-of
-links-length fs ks ls n = placed-length ks _ n ∙ count-length fs _ (n - 1) ∙ chain-length fs ls (n - 1) 1

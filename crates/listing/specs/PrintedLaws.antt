@@ -26,9 +26,10 @@ digits-same zero m n h g = digits-one 0 n (omega arith) ∙ sym (digits-one m n 
 digits-same (suc k) zero n h g = digits-one (suc k) n (omega arith) ∙ sym (digits-one 0 n (omega arith))
 digits-same (suc k) (suc m) n h g =
     let same = digits-same k m (n / 10) in
-    elim (decLt n 10)
-    [ yes l ↦ digits-one (suc k) n l ∙ sym (digits-one (suc m) n l)
-    | no l ↦ let l : 10 ≤ n = omega arith in digits-more k n l ∙ ap (λ s. s ++ (digit (n % 10) ∷ [])) (same (omega arith) (omega arith)) ∙ sym (digits-more m n l) ]
+    elim (decLt n 10) [
+      | yes l ↦ digits-one (suc k) n l ∙ sym (digits-one (suc m) n l)
+      | no l ↦ let l : 10 ≤ n = omega arith in digits-more k n l ∙ ap (λ s. s ++ (digit (n % 10) ∷ [])) (same (omega arith) (omega arith)) ∙ sym (digits-more m n l)
+    ]
 
 module _ (n : ℕ) where
   pub decimal-one : n < 10 → decimal n ≡ digit n ∷ []
@@ -45,9 +46,10 @@ at-most zero n h = rw (decimal-one n h) (omega arith)
 at-most (suc k) n h =
     let fewer = at-most k (n / 10) in
     let p : 10 ^ suc (suc k) ≡ 10 ^ suc k * 10 = pow-suc 10 (suc k) in
-    elim (decLt n 10)
-    [ yes l ↦ rw (decimal-one n l) (omega arith)
-    | no l ↦ rw (decimal-more n (omega arith), length-append) (omega (arith, fewer (omega (arith, p)))) ]
+    elim (decLt n 10) [
+      | yes l ↦ rw (decimal-one n l) (omega arith)
+      | no l ↦ rw (decimal-more n (omega arith), length-append) (omega (arith, fewer (omega (arith, p))))
+    ]
 
 pub nine : {n : ℕ} → 10 ≤ n → n < 2 ^ 32 → length (decimal (n / 10)) ≤ 9
 nine {n} l h = at-most 8 (n / 10) (omega arith)
@@ -74,9 +76,10 @@ unfolding value value-after
 digits-value zero n h = rw (decimal-one n (omega arith)) (omega arith)
 digits-value (suc k) n h =
     let front = digits-value k (n / 10) in
-    elim (decLt n 10)
-    [ yes l ↦ rw (decimal-one n l) (omega arith)
-    | no l ↦ rw (decimal-more n (omega arith), value-append, front (omega arith)) (omega arith) ]
+    elim (decLt n 10) [
+      | yes l ↦ rw (decimal-one n l) (omega arith)
+      | no l ↦ rw (decimal-more n (omega arith), value-append, front (omega arith)) (omega arith)
+    ]
 
 pub value-decimal : (n : ℕ) → value (decimal n) ≡ n
 value-decimal n = digits-value n n (omega arith)

@@ -12,19 +12,24 @@ ghost use Rattle.listing.specs.LineLaws.{spaced};
 ghost use Rattle.listing.specs.Put.{Put};
 ghost use Rattle.listing.specs.Line.{«line-size», «line-of»};
 
+// Bytes of a line's buffer: no line has more than 98.
+pub const LINE_SIZE: usize = 128;
+
 const SPACE: u8 = 32;
+
 const LINE_FEED: u8 = 10;
+
 const MINUS_SIGN: u8 = 45;
 
 // A line: its bytes, then zeros.
 pub struct Line {
-    pub bytes: [u8; 128],
+    pub bytes: [u8; LINE_SIZE],
     pub length: usize,
 }
 
 // One byte.
-fn put(b: u8, out: &mut [u8; 128], at: usize) -> usize
-    requires { ⌜ at < 128 ⌝ }
+fn put(b: u8, out: &mut [u8; LINE_SIZE], at: usize) -> usize
+    requires { ⌜ at < line-size ⌝ }
     ensures { λ r. ⌜ Put (now (out .entry)) at (b ∷ []) (now (out .exit)) r ⌝ }
 {
     out[at] = b;
@@ -32,8 +37,8 @@ fn put(b: u8, out: &mut [u8; 128], at: usize) -> usize
 }
 
 // A text.
-fn copy(text: &[u8], out: &mut [u8; 128], at: usize) -> usize
-    requires { ⌜ at + length (now text) ≤ 128 ⌝ }
+fn copy(text: &[u8], out: &mut [u8; LINE_SIZE], at: usize) -> usize
+    requires { ⌜ at + length (now text) ≤ line-size ⌝ }
     ensures { λ r. ⌜ Put (now (out .entry)) at (now (text .entry)) (now (out .exit)) r ⌝ }
 {
     let mut i = 0;
@@ -53,8 +58,8 @@ fn digit(d: u32) -> u8
 }
 
 // A number in decimal.
-fn decimal(n: u32, out: &mut [u8; 128], at: usize) -> usize
-    requires { ⌜ at + 10 ≤ 128 ⌝ }
+fn decimal(n: u32, out: &mut [u8; LINE_SIZE], at: usize) -> usize
+    requires { ⌜ at + 10 ≤ line-size ⌝ }
     ensures { λ r. ⌜ Put (now (out .entry)) at (decimal n) (now (out .exit)) r × (r ≤ at + 10) ⌝ }
 {
     if n < 10 {
@@ -73,8 +78,8 @@ fn below_zero(x: i32) -> u32
 }
 
 // A whole number: a minus sign where it is negative, then decimal.
-fn signed(x: i32, out: &mut [u8; 128], at: usize) -> usize
-    requires { ⌜ at + 11 ≤ 128 ⌝ }
+fn signed(x: i32, out: &mut [u8; LINE_SIZE], at: usize) -> usize
+    requires { ⌜ at + 11 ≤ line-size ⌝ }
     ensures { λ r. ⌜ Put (now (out .entry)) at (signed x) (now (out .exit)) r × (r ≤ at + 11) ⌝ }
 {
     if x < 0 {
@@ -85,8 +90,8 @@ fn signed(x: i32, out: &mut [u8; 128], at: usize) -> usize
 }
 
 // A field after another: a space, and a number.
-fn field(n: u32, out: &mut [u8; 128], at: usize) -> usize
-    requires { ⌜ at + 11 ≤ 128 ⌝ }
+fn field(n: u32, out: &mut [u8; LINE_SIZE], at: usize) -> usize
+    requires { ⌜ at + 11 ≤ line-size ⌝ }
     ensures { λ r. ⌜ Put (now (out .entry)) at (space ∷ decimal n) (now (out .exit)) r × (r ≤ at + 11) ⌝ }
 {
     let digits = put(SPACE, out, at);
@@ -94,8 +99,8 @@ fn field(n: u32, out: &mut [u8; 128], at: usize) -> usize
 }
 
 // The same of a whole number.
-fn signed_field(x: i32, out: &mut [u8; 128], at: usize) -> usize
-    requires { ⌜ at + 12 ≤ 128 ⌝ }
+fn signed_field(x: i32, out: &mut [u8; LINE_SIZE], at: usize) -> usize
+    requires { ⌜ at + 12 ≤ line-size ⌝ }
     ensures { λ r. ⌜ Put (now (out .entry)) at (space ∷ signed x) (now (out .exit)) r × (r ≤ at + 12) ⌝ }
 {
     let digits = put(SPACE, out, at);
@@ -103,8 +108,8 @@ fn signed_field(x: i32, out: &mut [u8; 128], at: usize) -> usize
 }
 
 // The same of a label; nothing where it is empty.
-fn label_field(label: &[u8], out: &mut [u8; 128], at: usize) -> usize
-    requires { ⌜ (length (now label) ≤ 40) × (at + 41 ≤ 128) ⌝ }
+fn label_field(label: &[u8], out: &mut [u8; LINE_SIZE], at: usize) -> usize
+    requires { ⌜ (length (now label) ≤ most-label) × (at + 41 ≤ line-size) ⌝ }
     ensures { λ r. ⌜ Put (now (out .entry)) at (spaced (now (label .entry))) (now (out .exit)) r × (r ≤ at + 41) ⌝ }
 {
     if label.len() == 0 {
@@ -118,7 +123,7 @@ fn label_field(label: &[u8], out: &mut [u8; 128], at: usize) -> usize
 pub fn sheet_line(cells: u32, allowance: u32, width: u32, rows: u32) -> Line
     ensures { λ r. ⌜ (r ≡ line-of (sheet-line cells allowance width rows)) × (r .length ≤ line-size) ⌝ }
 {
-    let mut out = [0u8; 128];
+    let mut out = [0u8; LINE_SIZE];
     let a = copy(b"sheet", &mut out, 0);
     let b = field(cells, &mut out, a);
     let c = field(allowance, &mut out, b);
@@ -136,7 +141,7 @@ pub fn cell_line(cell: u32, x: i32, y: i32, width: u32, depth: u32, label: &[u8]
     requires { ⌜ length (now label) ≤ most-label ⌝ }
     ensures { λ r. ⌜ (r ≡ line-of (cell-line cell x y width depth (now (label .entry)))) × (r .length ≤ line-size) ⌝ }
 {
-    let mut out = [0u8; 128];
+    let mut out = [0u8; LINE_SIZE];
     let a = decimal(cell, &mut out, 0);
     let b = signed_field(x, &mut out, a);
     let c = signed_field(y, &mut out, b);
@@ -154,7 +159,7 @@ pub fn cell_line(cell: u32, x: i32, y: i32, width: u32, depth: u32, label: &[u8]
 pub fn refused_line(number: u32, cell: u32) -> Line
     ensures { λ r. ⌜ (r ≡ line-of (refused-line number cell)) × (r .length ≤ line-size) ⌝ }
 {
-    let mut out = [0u8; 128];
+    let mut out = [0u8; LINE_SIZE];
     let a = copy(b"refused", &mut out, 0);
     let b = field(number, &mut out, a);
     let c = field(cell, &mut out, b);

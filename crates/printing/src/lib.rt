@@ -4,7 +4,6 @@ use listing::Line;
 use listing::cell_line;
 use listing::refused_line;
 use listing::sheet_line;
-use plan::Refusal;
 use plan::limits::MOST_CELLS;
 use planfile::Reading;
 ghost use mathlib.Core.Path.{_≡_};
@@ -25,7 +24,7 @@ fn print(line: Line)
 // The line of a cell of a plan that is laid out so.
 fn line_at(plan: Reading, file: &[u8], positions: &[i32], c: usize) -> Line
     requires { ⌜ (c < 256) × (2 * c + 1 < length (now positions)) ⌝ }
-    ensures { λ r. ⌜ (r ≡ line-of (line-at plan (now (file .entry)) (now (positions .entry)) c)) × Whole r ⌝ }
+    ensures { λ r. ⌜ (r ≡ line-of (line-at plan (now (file .entry)) (now (positions .entry)) c)) × (r .length ≤ line-size) ⌝ }
 {
     let columns = plan.columns;
     let widths = columns.width;

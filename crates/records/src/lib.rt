@@ -10,7 +10,7 @@ ghost use Rattle.records.specs.Apart.{«lent-at», blank, clipped, «wit
 ghost use Rattle.records.specs.Together.{«record-in», filled};
 
 // One record of a lent table.
-pub fn record_at(table: &[Record], c: usize) -> Record
+fn record_at(table: &[Record], c: usize) -> Record
     requires { ⌜ c < length (now table) ⌝ }
     ensures { λ r. ⌜ r ≡ lent-at (now (table .entry)) c ⌝ }
 {
@@ -67,7 +67,7 @@ pub fn columns_of(table: &[Record]) -> Columns
 }
 
 // The record of cell c, from the columns of a reading.
-pub fn record_of(reading: Reading, c: usize) -> Record
+fn record_of(reading: Reading, c: usize) -> Record
     requires { ⌜ c < 256 ⌝ }
     ensures { λ r. ⌜ r ≡ record-in reading c ⌝ }
 {

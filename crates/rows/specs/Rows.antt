@@ -8,9 +8,13 @@ use lib.ListN.{length, getD, set, length-set}
 use lib.Dec.{ltb}
 use Rattle.plan.specs.Limits.{farthest}
 
+-- numbers in a row
+abbrev pub row-size : ℕ
+row-size = 64
+
 -- row j, column k
 abbrev pub extent : List ℕ → ℕ → ℕ → ℕ
-extent xs j k = getD xs (64 * j + k) 0
+extent xs j k = getD xs (row-size * j + k) 0
 
 -- every number of a list is at most question 15's bound
 abbrev pub Low : List ℕ → Type 0
@@ -18,7 +22,7 @@ Low xs = (i : ℕ) → getD xs i 0 ≤ farthest
 
 -- row j of the column k becomes 0, w: a row of a box
 abbrev pub box-one : List ℕ → ℕ → ℕ → ℕ → List ℕ
-box-one xs k w j = set (set xs (64 * j + k) 0) (64 * j + k + 1) w
+box-one xs k w j = set (set xs (row-size * j + k) 0) (row-size * j + k + 1) w
 
 -- so do the rows below n
 unfoldable pub box-to : List ℕ → ℕ → ℕ → ℕ → List ℕ
@@ -42,7 +46,7 @@ shifted-of there old g new = cond there (max (old + g) new) new
 -- row j of the column at becomes l, r, and that of the column at + 2 is cleared
 abbrev pub put-one : List ℕ → ℕ → ℕ → ℕ → ℕ → List ℕ
 put-one xs at j l r =
-    set (set (set (set xs (64 * j + at) l) (64 * j + at + 1) r) (64 * j + at + 2) 0) (64 * j + at + 3) 0
+    set (set (set (set xs (row-size * j + at) l) (row-size * j + at + 1) r) (row-size * j + at + 2) 0) (row-size * j + at + 3) 0
 
 -- so do the rows below n, with L and R
 unfoldable pub put-to : List ℕ → ℕ → (ℕ → ℕ) → (ℕ → ℕ) → ℕ → List ℕ

@@ -4,7 +4,7 @@ ghost use mathlib.Core.Path.{_≡_};
 ghost use Prim.Native.Nat.{_+_, _-_, _*_, _≤_, _<_, max};
 ghost use Rattle.plan.specs.Limits.{farthest};
 ghost use lib.ListN.{length, getD};
-ghost use Rattle.rows.specs.Rows.{Low, box-to, max-to, clash-to, shifted-of, put-one, upto-rows, beyond-rows};
+ghost use Rattle.rows.specs.Rows.{row-size, Low, box-to, max-to, clash-to, shifted-of, put-one, upto-rows, beyond-rows};
 
 // Numbers in a row of the scratch: a left and a right extent for each of 32 levels.
 pub const ROW: usize = 64;
@@ -24,15 +24,15 @@ pub fn greater(a: u32, b: u32) -> u32
 
 // A number of the scratch.
 pub fn extent_at(rows: &[u32], row: usize, column: usize) -> u32
-    requires { ⌜ 64 * row + column < length (now rows) ⌝ }
-    ensures { λ r. ⌜ r ≡ getD (now (rows .entry)) (64 * row + column) 0 ⌝ }
+    requires { ⌜ row-size * row + column < length (now rows) ⌝ }
+    ensures { λ r. ⌜ r ≡ getD (now (rows .entry)) (row-size * row + column) 0 ⌝ }
 {
     rows[ROW * row + column]
 }
 
 // The first n rows of the column k become 0, w.
 pub fn box_rows(rows: &mut [u32], k: usize, n: usize, w: u32)
-    requires { ⌜ (k ≤ 62) × (64 * n ≤ length (now rows)) ⌝ }
+    requires { ⌜ (k ≤ 62) × (row-size * n ≤ length (now rows)) ⌝ }
     ensures { λ _. ⌜ now (rows .exit) ≡ box-to (now (rows .entry)) k w n ⌝ }
 {
     let mut j: usize = 0;
@@ -46,7 +46,7 @@ pub fn box_rows(rows: &mut [u32], k: usize, n: usize, w: u32)
 
 // The greatest of the first n rows in the column k.
 pub fn column_max(rows: &[u32], k: usize, n: usize) -> u32
-    requires { ⌜ (k ≤ 63) × (64 * n ≤ length (now rows)) ⌝ }
+    requires { ⌜ (k ≤ 63) × (row-size * n ≤ length (now rows)) ⌝ }
     ensures { λ r. ⌜ r ≡ max-to (now (rows .entry)) k n ⌝ }
 {
     let mut g: u32 = 0;
@@ -68,7 +68,7 @@ fn needed(r: u32, x: u32, l: u32) -> u32
 
 // The least distance at which the first n rows of the column k + 2 clear those of the column k, seen from x.
 pub fn clash(rows: &[u32], k: usize, x: u32, n: usize) -> u32
-    requires { ⌜ (k ≤ 60) × (64 * n ≤ length (now rows)) × Low (now rows) ⌝ }
+    requires { ⌜ (k ≤ 60) × (row-size * n ≤ length (now rows)) × Low (now rows) ⌝ }
     ensures { λ r. ⌜ r ≡ clash-to (now (rows .entry)) k x n ⌝ }
 {
     let mut g: u32 = 0;
@@ -85,7 +85,7 @@ pub fn clash(rows: &[u32], k: usize, x: u32, n: usize) -> u32
 
 // Row j of the column at becomes l, r, and that of the column at + 2 is cleared.
 pub fn put_row(rows: &mut [u32], at: usize, j: usize, l: u32, r: u32)
-    requires { ⌜ (at ≤ 60) × (64 * j + 64 ≤ length (now rows)) ⌝ }
+    requires { ⌜ (at ≤ 60) × (row-size * j + row-size ≤ length (now rows)) ⌝ }
     ensures { λ _. ⌜ now (rows .exit) ≡ put-one (now (rows .entry)) at j l r ⌝ }
 {
     let b = ROW * j + at;
@@ -108,7 +108,7 @@ fn shifted(there: bool, old: u32, g: u32, new: u32) -> u32
 
 // The next child's column joins its parent's, of which h rows are there. The child, at or before the appointed one, stands g to the right of the latest.
 pub fn join_upto(rows: &mut [u32], at: usize, h: usize, g: u32, n: usize)
-    requires { ⌜ (at ≤ 60) × (64 * n ≤ length (now rows)) × Low (now rows) × (g ≤ 4 * farthest) ⌝ }
+    requires { ⌜ (at ≤ 60) × (row-size * n ≤ length (now rows)) × Low (now rows) × (g ≤ 4 * farthest) ⌝ }
     ensures { λ _. ⌜ now (rows .exit) ≡ upto-rows (now (rows .entry)) at h g n ⌝ }
 {
     let mut j: usize = 0;
@@ -123,7 +123,7 @@ pub fn join_upto(rows: &mut [u32], at: usize, h: usize, g: u32, n: usize)
 
 // The next child's column joins its parent's. The child stands x to the right of the appointed one.
 pub fn join_beyond(rows: &mut [u32], at: usize, x: u32, n: usize)
-    requires { ⌜ (at ≤ 60) × (64 * n ≤ length (now rows)) × Low (now rows) × (x ≤ 4 * farthest) ⌝ }
+    requires { ⌜ (at ≤ 60) × (row-size * n ≤ length (now rows)) × Low (now rows) × (x ≤ 4 * farthest) ⌝ }
     ensures { λ _. ⌜ now (rows .exit) ≡ beyond-rows (now (rows .entry)) at x n ⌝ }
 {
     let mut j: usize = 0;

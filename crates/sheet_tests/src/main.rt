@@ -3,17 +3,20 @@ fn number(low: u8, high: u8) -> usize {
     (low as usize) + 256 * (high as usize)
 }
 
-// Reads a file of so many bytes and prints its sheet; false where there is no such file.
-fn print_file(space: &mut [u8], size: usize) -> bool {
+// Reads so many bytes; false where the input ends before.
+fn filled(space: &mut [u8], size: usize) -> bool {
     if space.len() < size {
         return false;
     }
     let n = io::read_full(0, &mut space[..size]);
-    if n < size {
-        return false;
+    size <= n
+}
+
+fn print_file(space: &[u8], size: usize) {
+    if space.len() < size {
+        return;
     }
     printing::print_sheet(&space[..size]);
-    true
 }
 
 // The next file; false where the input has ended.
@@ -23,7 +26,11 @@ fn print_next(space: &mut [u8]) -> bool {
         return false;
     }
     let size = number(length[0], length[1]);
-    print_file(space, size)
+    if !filled(space, size) {
+        return false;
+    }
+    print_file(space, size);
+    true
 }
 
 fn main() {

@@ -6,10 +6,14 @@ use native.Mathlib.Omega.{arith}
 use lib.Dec.{T, leb→le}
 use lib.ListN.{length}
 use lib.IntN.{ℤ, pos, _+ℤ_}
-use Rattle.whole.specs.Whole.{whole, sum}
-use Rattle.plan.specs.Limits.{most-allowance}
+use lib.Signed.{_≤ℤ_}
+use Rattle.whole.specs.Whole.{whole, plus, narrow, sum, neg-plus, neg-minus}
+use Rattle.whole.specs.Range.{Within}
+use Rattle.plan.specs.Limits.{most-allowance, most-width, farthest, last-row}
 use Rattle.plan.specs.Paths.{within-self}
-use Rattle.plan.specs.Plan.{Table, Is, Sound}
+use Rattle.plan.specs.Plan as plan
+use Rattle.plan.specs.Plan.{Table, Is, Sound, W}
+use Rattle.plan.specs.Bottoms.{bottom-one}
 use Rattle.plan.specs.Fit.{Fit}
 use Rattle.plan.specs.Near.{Near, near-accepted}
 use Rattle.plan.specs.Questions.{refusal, check, check-given}
@@ -21,7 +25,7 @@ use Rattle.rules.specs.Placement.{Placement, right, bottom, width, rows}
 use Rattle.rules.specs.Search.{Verdict, kept, broken}
 use Rattle.rules.specs.Verdict.{verdict, answer, faulty}
 use Rattle.rules.specs.VerdictLaws.{kept-keeps, fine-answer}
-use Rattle.rules.specs.Extents.{width-le, width-ge}
+use Rattle.rules.specs.Extents.{width-le, width-ge, rows-plan}
 use Rattle.spans.specs.Columns.{at}
 use Rattle.verdict.specs.declared.Checked.the-variants.{Kept, Broken}
 use Rattle.verdict.specs.declared.search.Sights.{Sights}
@@ -72,3 +76,34 @@ module _ (t : Table) (p : Placement) (s : Sights) (sound : Sound t) (some : 1 �
 pub answered-broken : (t : Table) (p : Placement) (al : ℕ) {r a b : ℕ} → verdict t p al ≡ broken r a b → Broken r a b ≡ answered (answer t p al)
 unfolding answered answer
 answered-broken t p al e = rw (e, answer)
+
+-- ---- width and rows of a kept sheet are not negative, and small
+module _ (t : Table) (al : ℕ) (ps : List ℤ) (h : Accepted t al ps) where
+  x-near : (c : ℕ) → Is t c → Within farthest (placed ps .x c)
+  unfolding placed
+  x-near c i = h .near .x c i
+
+  pub width-natural : width t (placed ps) ≡ pos (plus (width t (placed ps)))
+  unfolding right
+  width-natural =
+      let down = width-ge t (placed ps) 0 0 0 (h .fit .some-cell) (h .fit .some-cell)
+      (omega (whole, sum (placed ps .x 0) (pos 0), sum (placed ps .x 0) (pos (W t 0)))) in
+      omega (whole, narrow (width t (placed ps)))
+
+  pub width-small : width t (placed ps) ≤ℤ pos (farthest + farthest + most-width)
+  unfolding right
+  width-small =
+      width-le t (placed ps) (farthest + farthest + most-width) (h .fit .some-cell)
+      (λ a b i j.
+          let lo = x-near b j .low in
+          let hi = x-near a i .high in
+          omega (
+            whole, h .fit .wide a i .1, sum (placed ps .x a) (pos (W t a)), sum (placed ps .x b) (pos (farthest + farthest + most-width)),
+            neg-plus (pos farthest), neg-minus (pos farthest),
+          ))
+
+  pub rows-natural : verdict t (placed ps) al ≡ kept → rows t (placed ps) ≡ pos (plan.bottom t 0 + 1)
+  rows-natural e = rows-plan t (placed ps) (h .fit .sound) (kept-keeps t (placed ps) al (h .fit .some-cell) e .s1) (h .fit .some-cell)
+
+  pub rows-small : plan.bottom t 0 + 1 ≤ last-row + 1
+  rows-small = omega (arith, bottom-one t (h .fit .sound) 0 (λ n. n ≤ last-row) (omega arith) (λ a i w. h .fit .rows-few a i))

@@ -155,11 +155,12 @@ module _ (t : Table) (p : Placement) (s : Sights) (sound : Sound t) (g : Sees t 
         same-test
         (that-is (both (says-lt (at (s .base) a) (at (s .bottom) a)) (both (says-lt (at (s .base) a) (at (s .bottom) b)) (says-le (at (s .y) b) (at (s .bottom) a))))
         (λ h.
-            let k : base t p a <ℤ bottom t p a = omega (whole, base-lift a i, bottom-lift a i, h .0) in
-            (bears a i k, (omega (whole, k, sum (base t p a) (pos 1)), omega (whole, base-lift a i, bottom-lift b j, h .1 .0, sum (base t p a) (pos 1)), omega (whole, g .ys b j, bottom-lift a i, h .1 .1))))
-        (λ h.
-            (omega (whole, base-lift a i, bottom-lift a i, h .1 .0, sum (base t p a) (pos 1)),
-              (omega (whole, base-lift a i, bottom-lift b j, h .1 .1, sum (base t p a) (pos 1)), omega (whole, g .ys b j, bottom-lift a i, h .1 .2)))))
+        let k : base t p a <ℤ bottom t p a = omega (whole, base-lift a i, bottom-lift a i, h .0) in
+        (bears a i k, (omega (whole, k, sum (base t p a) (pos 1)), omega (whole, base-lift a i, bottom-lift b j, h .1 .0, sum (base t p a) (pos 1)), omega (whole, g .ys b j, bottom-lift a i, h .1 .1))))
+        (λ h. (
+          omega (whole, base-lift a i, bottom-lift a i, h .1 .0, sum (base t p a) (pos 1)),
+          (omega (whole, base-lift a i, bottom-lift b j, h .1 .1, sum (base t p a) (pos 1)), omega (whole, g .ys b j, bottom-lift a i, h .1 .2)),
+        )))
         (both (says-le 1 (length (children t a))) (says-rows (base t p a +ℤ pos 1) (bottom t p a) b j))
 
     -- ---- S5

@@ -2,14 +2,14 @@
 pub mod search;
 pub mod sights;
 
-use crate::search::search;
 use crate::search::Found;
+use crate::search::search;
 use crate::sights::look;
+use plan::Columns;
+use plan::Refusal;
 use plan::questions::allowance_refusal;
 use plan::questions::lent_refusal;
 use plan::questions::near_refusal;
-use plan::Columns;
-use plan::Refusal;
 use spans::greater;
 ghost use mathlib.Core.Path.{_≡_};
 ghost use Prim.Native.Nat.{_≤_, min};

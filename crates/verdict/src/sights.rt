@@ -1,7 +1,7 @@
 // The columns that the rules read, made of a table and a placement.
 use crate::search::Sights;
-use plan::limits::FARTHEST;
 use plan::Columns;
+use plan::limits::FARTHEST;
 use spans::lay;
 use spans::measure;
 use spans::number;

@@ -1,12 +1,12 @@
 // Check and Ends on sheets G to J of document 01, a double fault, the farthest coordinates, and each rule broken alone. A line for each case.
-use connectors::ends;
 use connectors::Ended;
+use connectors::ends;
 use io::print_decimal;
 use io::write_all;
 use libc::STDOUT_FILENO;
 use plan::Columns;
-use verdict::check;
 use verdict::Checked;
+use verdict::check;
 use whole::raise;
 use whole::within;
 
@@ -132,21 +132,78 @@ fn worked() {
         check(
             f,
             &[
-                0, 0, -19, 2, -22, 4, -19, 4, -9, 4, -12, 6, -9, 6, -12, 8, 0, 2, 0, 4, 0, 6, -9,
-                8, 0, 8,
+                0,
+                0,
+                -19,
+                2,
+                -22,
+                4,
+                -19,
+                4,
+                -9,
+                4,
+                -12,
+                6,
+                -9,
+                6,
+                -12,
+                8,
+                0,
+                2,
+                0,
+                4,
+                0,
+                6,
+                -9,
+                8,
+                0,
+                8,
             ],
             3,
         ),
     );
-    let d = table(6, &[65535, 0, 0, 1, 2, 2], &[2, 2, 2, 1, 1, 1], &[2, 1, 1, 9, 9, 1]);
-    show(b"double fault", check(d, &[0, 0, -3, 2, 0, 2, -3, 4, -10, 4, 0, 4], 200));
+    let d = table(
+        6,
+        &[65535, 0, 0, 1, 2, 2],
+        &[2, 2, 2, 1, 1, 1],
+        &[2, 1, 1, 9, 9, 1],
+    );
+    show(
+        b"double fault",
+        check(d, &[0, 0, -3, 2, 0, 2, -3, 4, -10, 4, 0, 4], 200),
+    );
 }
 
 // F's sheet for 3, and each rule broken alone.
 fn alone() {
     let f = sheet_f();
     let mut p = [
-        0, 0, -20, 2, -23, 4, -20, 4, -10, 4, -13, 6, -10, 6, -13, 8, 0, 2, 0, 4, 0, 6, -9, 8, 0, 8,
+        0,
+        0,
+        -20,
+        2,
+        -23,
+        4,
+        -20,
+        4,
+        -10,
+        4,
+        -13,
+        6,
+        -10,
+        6,
+        -13,
+        8,
+        0,
+        2,
+        0,
+        4,
+        0,
+        6,
+        -9,
+        8,
+        0,
+        8,
     ];
     show(b"F", check(f, &p, 3));
     show(b"S5", check(f, &p, 2));
@@ -185,7 +242,10 @@ fn far() {
     let late = table(3, &[65535, 2, 0], &[2, 1, 1], &[4, 3, 5]);
     show(b"parent not lower", check(late, &[0, 0, -4, 2, 0, 2], 0));
     let bare = table(3, &[65535, 0, 0], &[2, 2, 1], &[4, 3, 5]);
-    show(b"run without children", check(bare, &[0, 0, -4, 2, 0, 2], 0));
+    show(
+        b"run without children",
+        check(bare, &[0, 0, -4, 2, 0, 2], 0),
+    );
 }
 
 fn connected() {
@@ -194,7 +254,10 @@ fn connected() {
     show_ends(b"ends 2", ends(b, &[0, 0, -4, 2, 0, 2], 2));
     show_ends(b"ends 0", ends(b, &[0, 0, -4, 2, 0, 2], 0));
     show_ends(b"ends 3", ends(b, &[0, 0, -4, 2, 0, 2], 3));
-    show_ends(b"ends far", ends(b, &[65535, -65535, -65535, 65535, 0, 2], 1));
+    show_ends(
+        b"ends far",
+        ends(b, &[65535, -65535, -65535, 65535, 0, 2], 1),
+    );
     show_ends(b"ends too far", ends(b, &[0, 0, -4, 2, 0, 65536], 1));
     show_ends(b"ends short", ends(b, &[0, 0, -4, 2, 0], 1));
 }

@@ -194,7 +194,7 @@ module _ (t : Table) (b : Chart) (su : Suits t b) (Q : Memory → Type 0) where
 
       e-is : step b (at c (f ∷ stack) 0 ys ns) ≡ at f stack (getD cs 0 0) (E .rows) (E .marks)
       unfolding E
-      e-is = step-close b c f stack 0 (mem ys ns) refl ∙ (λ i. record { stack = f ∷ stack; next = next-is i; memory = closed b (ls i) f c (mem ys ns) })
+      e-is = step-close b c f stack (mem ys ns) ∙ (λ i. record { stack = f ∷ stack; next = next-is i; memory = closed b (ls i) f c (mem ys ns) })
 
       -- those to come are still blank
       blank : Blank t (E .marks) cs

@@ -12,7 +12,7 @@ use lib.Dec.{ltb}
 use borrow.Author.Tests.{ltb-true, ltb-false}
 use Rattle.plan.specs.Limits.{most-cells, most-level, last-row, scratch-size, farthest}
 use Rattle.layout.specs.Contour.{Contour, greatest}
-use Rattle.rows.specs.Rows.{extent, Low}
+use Rattle.rows.specs.Rows.{row-size, extent, Low}
 use Rattle.rows.specs.RowLaws.{Column, column, left, right, left-off, right-off, other}
 use Rattle.folding.specs.Fold.{Tally, fresh, add, boxed}
 use Rattle.folding.specs.Lists.{get-greatest, length-box}
@@ -33,7 +33,7 @@ pub record Shows (xs ms : List ℕ) (f v u m : ℕ) (a : Tally) (n : ℕ) : Type
   pub room : u + length (a .merge .left) ≤ last-row + 1
   pub left : (j : ℕ) → extent xs (u + j) (2 * v) ≡ getD (a .merge .left) j 0
   pub right : (j : ℕ) → extent xs (u + j) (2 * v + 1) ≡ getD (a .merge .right) j 0
-  pub clear : (j k : ℕ) → 2 * v + 2 ≤ k → k < 64 → extent xs (u + j) k ≡ 0
+  pub clear : (j k : ℕ) → 2 * v + 2 ≤ k → k < row-size → extent xs (u + j) k ≡ 0
   pub tall : mark ms f 0 ≡ length (a .merge .left)
   pub edge : mark ms f 1 ≡ a .edge
   pub past : mark ms f 2 ≡ a .merge .past
@@ -48,8 +48,8 @@ SameMarks ms ns x = (k : ℕ) → k < 4 → mark ns x k ≡ mark ms x k
 pub record Kept (xs ms ys ns : List ℕ) (f v u : ℕ) (Outside : ℕ → Type 0) : Type 0 where
   pub same : length ys ≡ length xs
   pub same-marks : length ns ≡ length ms
-  pub above : (i k : ℕ) → k < 64 → i < u → extent ys i k ≡ extent xs i k
-  pub before : (i k : ℕ) → k < 64 → k < 2 * v → extent ys i k ≡ extent xs i k
+  pub above : (i k : ℕ) → k < row-size → i < u → extent ys i k ≡ extent xs i k
+  pub before : (i k : ℕ) → k < row-size → k < 2 * v → extent ys i k ≡ extent xs i k
   pub others : (x : ℕ) → x ≢ f → Outside x → SameMarks ms ns x
 
 pub kept-none : (xs ms : List ℕ) (f v u : ℕ) (O : ℕ → Type 0) → Kept xs ms xs ms f v u O
@@ -84,7 +84,7 @@ pub record Long (b : Chart) : Type 0 where
 pub open-shows : (b : Chart) (xs ms : List ℕ) (f v u m : ℕ) (a : Tally) (n i c k : ℕ) → Shows xs ms f v u m a n → Fine b u (suc v) i c → ((k : ℕ) → k < 4 → mark ms c k ≡ 0)
     → Shows xs ms c (suc v) (u + deep b c + 1) k fresh 0
 open-shows b xs ms f v u m a n i c k h fine z =
-    let nil : (j k : ℕ) → 2 * v + 2 ≤ k → k < 64 → extent xs (u + deep b c + 1 + j) k ≡ 0 =
+    let nil : (j k : ℕ) → 2 * v + 2 ≤ k → k < row-size → extent xs (u + deep b c + 1 + j) k ≡ 0 =
     (λ j k p q. let e : u + (deep b c + 1 + j) ≡ u + deep b c + 1 + j = omega arith in rw e at (h .clear (deep b c + 1 + j) k p q)) in
     record {
       size = h .size;
@@ -103,28 +103,28 @@ open-shows b xs ms f v u m a n i c k h fine z =
     }
 
 -- ---- the part of the scratch from row y on
-drop-at : (xs : List ℕ) (y j k : ℕ) → extent (drop (64 * y) xs) j k ≡ extent xs (y + j) k
+drop-at : (xs : List ℕ) (y j k : ℕ) → extent (drop (row-size * y) xs) j k ≡ extent xs (y + j) k
 drop-at xs y j k =
-    let e : 64 * y + (64 * j + k) ≡ 64 * (y + j) + k = omega arith in
-    getD-drop (64 * y) xs (64 * j + k) 0 ∙ ap (λ (i : ℕ). getD xs i 0) e
+    let e : row-size * y + (row-size * j + k) ≡ row-size * (y + j) + k = omega arith in
+    getD-drop (row-size * y) xs (row-size * j + k) 0 ∙ ap (λ (i : ℕ). getD xs i 0) e
 
-put-above : (xs zs : List ℕ) (y : ℕ) → 64 * y ≤ length xs → (i k : ℕ) → k < 64 → i < y → extent (take (64 * y) xs ++ zs) i k ≡ extent xs i k
+put-above : (xs zs : List ℕ) (y : ℕ) → row-size * y ≤ length xs → (i k : ℕ) → k < row-size → i < y → extent (take (row-size * y) xs ++ zs) i k ≡ extent xs i k
 put-above xs zs y fit i k b lt =
-    let short : 64 * i + k < 64 * y = omega arith in
-    let len : length (take (64 * y) xs) ≡ 64 * y = length-take-le (64 * y) xs fit in
-    List·getD-append (take (64 * y) xs) zs 0 (64 * i + k) (omega arith) ∙ getD-take (64 * y) xs (64 * i + k) 0 short
+    let short : row-size * i + k < row-size * y = omega arith in
+    let len : length (take (row-size * y) xs) ≡ row-size * y = length-take-le (row-size * y) xs fit in
+    List·getD-append (take (row-size * y) xs) zs 0 (row-size * i + k) (omega arith) ∙ getD-take (row-size * y) xs (row-size * i + k) 0 short
 
-put-at : (xs zs : List ℕ) (y : ℕ) → 64 * y ≤ length xs → (j k : ℕ) → extent (take (64 * y) xs ++ zs) (y + j) k ≡ extent zs j k
+put-at : (xs zs : List ℕ) (y : ℕ) → row-size * y ≤ length xs → (j k : ℕ) → extent (take (row-size * y) xs ++ zs) (y + j) k ≡ extent zs j k
 put-at xs zs y fit j k =
-    let len : length (take (64 * y) xs) ≡ 64 * y = length-take-le (64 * y) xs fit in
-    let e : 64 * (y + j) + k ≡ length (take (64 * y) xs) + (64 * j + k) = omega arith in
-    ap (λ (i : ℕ). getD (take (64 * y) xs ++ zs) i 0) e ∙ getD-append-add (take (64 * y) xs) zs (64 * j + k) 0
+    let len : length (take (row-size * y) xs) ≡ row-size * y = length-take-le (row-size * y) xs fit in
+    let e : row-size * (y + j) + k ≡ length (take (row-size * y) xs) + (row-size * j + k) = omega arith in
+    ap (λ (i : ℕ). getD (take (row-size * y) xs ++ zs) i 0) e ∙ getD-append-add (take (row-size * y) xs) zs (row-size * j + k) 0
 
-put-length : (xs zs : List ℕ) (y : ℕ) → 64 * y ≤ length xs → length zs ≡ length (drop (64 * y) xs) → length (take (64 * y) xs ++ zs) ≡ length xs
+put-length : (xs zs : List ℕ) (y : ℕ) → row-size * y ≤ length xs → length zs ≡ length (drop (row-size * y) xs) → length (take (row-size * y) xs ++ zs) ≡ length xs
 put-length xs zs y fit e =
-    let len : length (take (64 * y) xs) ≡ 64 * y = length-take-le (64 * y) xs fit in
-    let d = length-drop (64 * y) xs in
-    omega (arith, length-append (take (64 * y) xs) zs)
+    let len : length (take (row-size * y) xs) ≡ row-size * y = length-take-le (row-size * y) xs fit in
+    let d = length-drop (row-size * y) xs in
+    omega (arith, length-append (take (row-size * y) xs) zs)
 
 -- what is shown after the child c, with the children e and the contour p, is closed
 pub record Shut (xs ms ns : List ℕ) (f v u m : ℕ) (a : Tally) (n c : ℕ) (e : Tally) (p : Contour) (Outside : ℕ → Type 0) (M : Memory) : Type 0 where
@@ -142,7 +142,7 @@ module _ (b : Chart) (xs ms ys ns : List ℕ) (f v u m : ℕ) (a : Tally) (s i c
     (kept : Kept xs ms ys ns c (suc v) (u + deep b c + 1) Outside) (f≢c : f ≢ c) (f-small : f < most-cells) (out : Outside f)
     (light : s + ((wide b c + 1) + n) ≤ farthest) (place : a .done ≡ i) (appointed : apt b f ≡ m) (long : Long b) where
   abbrev zs : List ℕ
-  zs = drop (64 * top b c) ys
+  zs = drop (row-size * top b c) ys
 
   row : top b c ≡ u
   row = fine .row
@@ -150,7 +150,7 @@ module _ (b : Chart) (xs ms ys ns : List ℕ) (f v u m : ℕ) (a : Tally) (s i c
   z-at : (j k : ℕ) → extent zs j k ≡ extent ys (u + j) k
   z-at j k = drop-at ys (top b c) j k ∙ ap (λ (y : ℕ). extent ys (y + j) k) row
 
-  z-before : (j k : ℕ) → k < 64 → k < 2 * v + 2 → extent zs j k ≡ extent xs (u + j) k
+  z-before : (j k : ℕ) → k < row-size → k < 2 * v + 2 → extent zs j k ≡ extent xs (u + j) k
   z-before j k l lt = z-at j k ∙ kept .before (u + j) k l (omega arith)
 
   z-below : (j k : ℕ) → extent zs (deep b c + 1 + j) k ≡ extent ys (u + deep b c + 1 + j) k
@@ -158,7 +158,7 @@ module _ (b : Chart) (xs ms ys ns : List ℕ) (f v u m : ℕ) (a : Tally) (s i c
       let q : u + (deep b c + 1 + j) ≡ u + deep b c + 1 + j = omega arith in
       z-at (deep b c + 1 + j) k ∙ ap (λ (y : ℕ). extent ys y k) q
 
-  z-clear : (j k : ℕ) → 2 * v + 4 ≤ k → k < 64 → extent zs j k ≡ 0
+  z-clear : (j k : ℕ) → 2 * v + 4 ≤ k → k < row-size → extent zs j k ≡ 0
   z-clear j k p q = go (ltb j (deep b c + 1)) refl
     where
       go : (z : Bool) → ltb j (deep b c + 1) ≡ z → extent zs j k ≡ 0
@@ -170,11 +170,11 @@ module _ (b : Chart) (xs ms ys ns : List ℕ) (f v u m : ℕ) (a : Tally) (s i c
           let q′ : deep b c + 1 + (j - (deep b c + 1)) ≡ j = omega arith in
           (rw q′ at (z-below (j - (deep b c + 1)) k)) ∙ hc .clear (j - (deep b c + 1)) k (omega arith) q
 
-  fits : 64 * top b c ≤ length ys
+  fits : row-size * top b c ≤ length ys
   fits = omega (arith, row, fine .low, hc .size)
 
-  z-length : length zs ≡ length ys - 64 * top b c
-  z-length = length-drop (64 * top b c) ys
+  z-length : length zs ≡ length ys - row-size * top b c
+  z-length = length-drop (row-size * top b c) ys
 
   f-marks : SameMarks ms ns f
   f-marks = kept .others f f≢c out
@@ -211,7 +211,7 @@ module _ (b : Chart) (xs ms ys ns : List ℕ) (f v u m : ℕ) (a : Tally) (s i c
         edge = f-marks 1 (omega arith) ∙ h .edge;
         past = f-marks 2 (omega arith) ∙ h .past;
         far = f-marks 3 (omega arith) ∙ h .far;
-        low = drop-low ys (64 * top b c) (hc .low);
+        low = drop-low ys (row-size * top b c) (hc .low);
       }
 
   abbrev P : Contour
@@ -252,12 +252,12 @@ module _ (b : Chart) (xs ms ys ns : List ℕ) (f v u m : ℕ) (a : Tally) (s i c
   marked = settled .marks
 
   abbrev qs : List ℕ
-  qs = take (64 * top b c) ys ++ M .rows
+  qs = take (row-size * top b c) ys ++ M .rows
 
   q-at : (j k : ℕ) → extent qs (u + j) k ≡ extent (M .rows) j k
   q-at j k = ap (λ (y : ℕ). extent qs (y + j) k) (sym row) ∙ put-at ys (M .rows) (top b c) fits j k
 
-  q-above : (q k : ℕ) → k < 64 → q < u → extent qs q k ≡ extent ys q k
+  q-above : (q k : ℕ) → k < row-size → q < u → extent qs q k ≡ extent ys q k
   q-above q k l lt = put-above ys (M .rows) (top b c) fits q k l (omega (arith, row))
 
   q-length : length qs ≡ length xs
@@ -266,17 +266,17 @@ module _ (b : Chart) (xs ms ys ns : List ℕ) (f v u m : ℕ) (a : Tally) (s i c
   held′ : Held m A (s + ((wide b c + 1) + n))
   held′ = held-after (b .allowance) zs ns (2 * v) f c (deep b c) (wide b c) m k a e s n given
 
-  beside : (j k : ℕ) → 2 * v + 2 ≤ k → k < 64 → extent (M .rows) j k ≡ 0
+  beside : (j k : ℕ) → 2 * v + 2 ≤ k → k < row-size → extent (M .rows) j k ≡ 0
   beside j k p q = go k (column (2 * v) k) p q
     where
-      go : (k : ℕ) → Column (2 * v) k → 2 * v + 2 ≤ k → k < 64 → extent (M .rows) j k ≡ 0
+      go : (k : ℕ) → Column (2 * v) k → 2 * v + 2 ≤ k → k < row-size → extent (M .rows) j k ≡ 0
       go k left p q = absurd (omega arith)
       go k right p q = absurd (omega arith)
       go k left-off p q = joined .left-off j
       go k right-off p q = joined .right-off j
       go k (other n0 n1 n2 n3) p q = joined .else j k q n0 n1 n2 n3 ∙ z-clear j k (omega arith) q
 
-  earlier : (q k : ℕ) → k < 64 → k < 2 * v → extent qs q k ≡ extent xs q k
+  earlier : (q k : ℕ) → k < row-size → k < 2 * v → extent qs q k ≡ extent xs q k
   earlier q k l lt = go (ltb q u) refl
     where
       go : (z : Bool) → ltb q u ≡ z → extent qs q k ≡ extent xs q k
@@ -288,21 +288,21 @@ module _ (b : Chart) (xs ms ys ns : List ℕ) (f v u m : ℕ) (a : Tally) (s i c
           q-at (q - u) k ∙ joined .else (q - u) k l (omega arith) (omega arith) (omega arith) (omega arith) ∙ z-before (q - u) k l (omega arith) in
           rw eq at all
 
-  part-low : (j k : ℕ) → k < 64 → extent (M .rows) j k ≤ farthest
+  part-low : (j k : ℕ) → k < row-size → extent (M .rows) j k ≤ farthest
   part-low j k l = go k (column (2 * v) k) l
     where
-      go : (k : ℕ) → Column (2 * v) k → k < 64 → extent (M .rows) j k ≤ farthest
+      go : (k : ℕ) → Column (2 * v) k → k < row-size → extent (M .rows) j k ≤ farthest
       go k left l = rw (joined .left j) (omega (arith, get-greatest (A .merge .left) j, held′ .wide, light))
       go k right l = rw (joined .right j) (omega (arith, held′ .right j, held′ .wide, light))
       go k left-off l = rw (joined .left-off j) (omega arith)
       go k right-off l = rw (joined .right-off j) (omega arith)
-      go k (other n0 n1 n2 n3) l = rw (joined .else j k l n0 n1 n2 n3) (drop-low ys (64 * top b c) (hc .low) (64 * j + k))
+      go k (other n0 n1 n2 n3) l = rw (joined .else j k l n0 n1 n2 n3) (drop-low ys (row-size * top b c) (hc .low) (row-size * j + k))
 
   q-low : Low qs
   q-low = low-rows qs (λ q k l. go q k l (ltb q u) refl)
     where
-      go : (q k : ℕ) → k < 64 → (z : Bool) → ltb q u ≡ z → extent qs q k ≤ farthest
-      go q k l true g = rw (q-above q k l (ltb-true q u g)) (hc .low (64 * q + k))
+      go : (q k : ℕ) → k < row-size → (z : Bool) → ltb q u ≡ z → extent qs q k ≤ farthest
+      go q k l true g = rw (q-above q k l (ltb-true q u g)) (hc .low (row-size * q + k))
       go q k l false g =
           let ge : u ≤ q = ltb-false q u g in
           let eq : u + (q - u) ≡ q = omega arith in

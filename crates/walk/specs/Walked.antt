@@ -20,7 +20,7 @@ use Rattle.plan.specs.Sums.{total-parts, total-subtree}
 use Rattle.layout.specs.Contour.{Contour, greatest}
 use Rattle.layout.specs.Sheet.{contours, whole-contour}
 use Rattle.layout.specs.Forest.{Forest, forest, grown}
-use Rattle.rows.specs.Rows.{extent, Low, box-to, box-to-length}
+use Rattle.rows.specs.Rows.{row-size, extent, Low, box-to, box-to-length}
 use Rattle.rows.specs.RowLaws.{box-left, box-right, box-above, box-beside}
 use Rattle.folding.specs.Fold.{Tally, fresh, boxed, partial}
 use Rattle.folding.specs.FoldLaws.{partial-none, partial-box, partial-middle}
@@ -30,7 +30,8 @@ use Rattle.joining.specs.Joining.{Memory, mem, mark, height, completed}
 use Rattle.joining.specs.MarkLaws.{low-marks, low-four}
 use Rattle.joining.specs.Complete.{Under, Complete, complete, completing, height-is, left-tall, right-tall}
 use Rattle.links.specs.Links.{link}
-use Rattle.walk.specs.Machine.{Chart, State, wide, deep, root-closed, step, step-end, Safe, Turning, most-turns, turns, turns-are, stack-of, state-of}
+use Rattle.walk.specs.Machine.{Chart, State, wide, deep, root-closed, step, step-end, Safe, Turning, most-turns, turns, turns-are}
+use Rattle.walk.specs.Turns.{stack-of, state-of}
 use Rattle.walk.specs.Tree.{tail-all, Out, below-below, sum, below-most, sum-within}
 use Rattle.walk.specs.Shows.{Shows, SameMarks, Kept}
 use Rattle.walk.specs.Claim.{Suits, Right, right-keep, Rights, at, claim}
@@ -51,10 +52,10 @@ pub record Walked (b : Chart) (xs ys ns : List ℕ) : Type 0 where
   pub root : mark ns 0 3 ≡ 0
   pub marked : (t : Table) → Suits t b → (x : ℕ) → Is t x → Right t (b .allowance) ns x
 
-zeros-same : (xs ys : List ℕ) → length ys ≡ length xs → ((i : ℕ) → getD xs i 0 ≡ 0) → ((j k : ℕ) → k < 64 → extent ys j k ≡ 0) → ys ≡ xs
+zeros-same : (xs ys : List ℕ) → length ys ≡ length xs → ((i : ℕ) → getD xs i 0 ≡ 0) → ((j k : ℕ) → k < row-size → extent ys j k ≡ 0) → ys ≡ xs
 zeros-same xs ys len zx zy = ext-getD 0 ys xs len (λ i l.
-    let e : 64 * (i / 64) + i % 64 ≡ i = omega (arith, div-add-mod' i 64) in
-    (rw e at (zy (i / 64) (i % 64) (omega arith))) ∙ sym (zx i))
+    let e : row-size * (i / row-size) + i % row-size ≡ i = omega (arith, div-add-mod' i row-size) in
+    (rw e at (zy (i / row-size) (i % row-size) (omega arith))) ∙ sym (zx i))
 
 -- ---- the root is closed, with the children a joined
 module _ (b : Chart) (xs ms ys ns : List ℕ) (m : ℕ) (a : Tally) (n : ℕ) (Outside : ℕ → Type 0)
@@ -94,15 +95,15 @@ module _ (b : Chart) (xs ms ys ns : List ℕ) (m : ℕ) (a : Tally) (n : ℕ) (O
   abbrev Y : List ℕ
   Y = box-to (C .rows) 0 0 hs
 
-  fits : 64 * hs ≤ length (C .rows)
+  fits : row-size * hs ≤ length (C .rows)
   fits = omega (arith, height-is ys ns 0 0 d w m a n under, done .same, under .fit)
 
   -- a row of the root's, or one past its last
-  own-row : (j k : ℕ) (vs : List ℕ) → k < 64 → length vs ≡ hs → ((j : ℕ) → extent (C .rows) j k ≡ getD vs j 0) → ((j : ℕ) → j < hs → extent Y j k ≡ 0) → (z : Bool) → ltb j hs ≡ z → extent Y j k ≡ 0
+  own-row : (j k : ℕ) (vs : List ℕ) → k < row-size → length vs ≡ hs → ((j : ℕ) → extent (C .rows) j k ≡ getD vs j 0) → ((j : ℕ) → j < hs → extent Y j k ≡ 0) → (z : Bool) → ltb j hs ≡ z → extent Y j k ≡ 0
   own-row j k vs l len is box true e = box j (ltb-true _ _ e)
   own-row j k vs l len is box false e = let le = ltb-false j hs e in box-above (C .rows) 0 0 hs (omega arith) j k l le ∙ is j ∙ get-past vs j (omega arith)
 
-  y-zero : (j k : ℕ) → k < 64 → extent Y j k ≡ 0
+  y-zero : (j k : ℕ) → k < row-size → extent Y j k ≡ 0
   y-zero j zero l = own-row j 0 (p .left) l (left-tall ys ns 0 0 d w m a n under) (done .left) (box-left (C .rows) 0 0 hs (omega arith) fits) (ltb j hs) refl
   y-zero j (suc zero) l = own-row j 1 (p .right) l (right-tall ys ns 0 0 d w m a n under) (done .right) (box-right (C .rows) 0 0 hs (omega arith) fits) (ltb j hs) refl
   y-zero j (suc (suc k)) l =
@@ -250,7 +251,7 @@ module _ (t : Table) (b : Chart) (su : Suits t b) (xs ms : List ℕ) (lx : scrat
         }
 
     last : Safe b End 1 (at 0 [] 0 ys ns)
-    last = (ending, subst (Safe b End 0) (sym (step-end b 0 0 (mem ys ns) refl)) (refl, end))
+    last = (ending, subst (Safe b End 0) (sym (step-end b 0 (mem ys ns))) (refl, end))
 
   -- the whole walk is safe, and ends well
   safe : Safe b End (2 * sum (λ x. 1) F + 1) (at 0 [] (link (b .links) 0 0) xs ms)

@@ -12,7 +12,8 @@ ghost use lib.ListN.{length, getD};
 ghost use Rattle.joining.specs.Joining.{mem};
 ghost use Rattle.joining.specs.Settle.{finished};
 ghost use Rattle.walk.specs.Walked.{Walking, Walked};
-ghost use Rattle.walk.specs.Machine.{Finishing, Rooting, root-closed, stack-of, chart, state-of, step, Closing, closed, Turning};
+ghost use Rattle.walk.specs.Machine.{Finishing, Rooting, root-closed, chart, step, Closing, closed, Turning};
+ghost use Rattle.walk.specs.Turns.{stack-of, state-of};
 
 fn wide8(x: u8) -> usize
     ensures { λ r. ⌜ r ≡ x ⌝ }
@@ -156,7 +157,48 @@ pub struct Turned {
     pub next: usize,
 }
 
-// One turn: the next child of the last open cell is opened, or that cell is closed.
+// The latest open cell is closed.
+fn shut(
+    links: &[u16],
+    widths: &[u16],
+    depths: &[u8],
+    tops: &[u16],
+    allowance: u32,
+    chain: Chain,
+    rows: &mut [u32],
+    marks: &mut [u32],
+) -> Turned
+    requires { ⌜ Turning (chart (now links) (now widths) (now depths) (now tops) allowance) (state-of (chain .cells) (chain .count) 0 (now rows) (now marks)) ⌝ }
+    ensures { λ r. ⌜ state-of (r .chain .cells) (r .chain .count) (r .next) (now (rows .exit)) (now (marks .exit)) ≡ step (chart (now (links .entry)) (now (widths .entry)) (now (depths .entry)) (now (tops .entry)) allowance) (state-of (chain .cells) (chain .count) 0 (now (rows .entry)) (now (marks .entry))) ⌝ }
+{
+    let level = chain.count - 1;
+    if level == 0 {
+        finish_root(rows, marks, number(depths, 0), width_of(widths, 0));
+        return Turned {
+            chain: chain.popped(),
+            next: 0,
+        };
+    }
+    let c = chain.cell(level);
+    close(
+        links,
+        widths,
+        depths,
+        tops,
+        allowance,
+        level - 1,
+        chain.cell(level - 1),
+        c,
+        rows,
+        marks,
+    );
+    Turned {
+        chain: chain.popped(),
+        next: link_of(links, c, 1),
+    }
+}
+
+// One turn: the next child of the latest open cell is opened, or that cell is closed.
 fn turn(
     links: &[u16],
     widths: &[u16],
@@ -177,32 +219,7 @@ fn turn(
             next: link_of(links, next, 0),
         };
     }
-    let level = chain.count - 1;
-    let c = chain.cell(level);
-    if 0 < level {
-        let f = chain.cell(level - 1);
-        close(
-            links,
-            widths,
-            depths,
-            tops,
-            allowance,
-            level - 1,
-            f,
-            c,
-            rows,
-            marks,
-        );
-        return Turned {
-            chain: chain.popped(),
-            next: link_of(links, c, 1),
-        };
-    }
-    finish_root(rows, marks, number(depths, 0), width_of(widths, 0));
-    Turned {
-        chain: chain.popped(),
-        next: 0,
-    }
+    shut(links, widths, depths, tops, allowance, chain, rows, marks)
 }
 
 // The walk of the tree below cell 0.

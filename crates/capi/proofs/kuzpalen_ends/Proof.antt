@@ -42,7 +42,8 @@ use Rattle.plan.specs.declared.Record.{Record}
 use Rattle.plan.specs.declared.Columns.{Columns}
 use Rattle.capi.specs.declared.EndsAnswer.{EndsAnswer}
 use Rattle.connectors.specs.Ended.{ended-of}
-use Rattle.records.specs.Apart.{lent-columns}
+use Rattle.plan.specs.Records.{cells-of}
+use Rattle.engine.specs.LentLaws.{ends-lent}
 use Rattle.capi.specs.Answers.{ends-answer}
 use Rattle.plan.proofs.Record as T
 use Rattle.plan.proofs.Columns as B
@@ -108,7 +109,7 @@ module _ {M : Type 1} (𝓤 : URA M) (H : Heap 𝓤) (A : Atoms 𝓤) (W : Given
   said-core : (r : Columns) (d : EndsAnswer) → ent 𝓤 (ensured 𝓤 H A core.ended (core.clauses 𝓤 H A mem run) (κ′, tt) (r, (p, (w, tt))) tt d) (fact 𝓤 (d ≡ ends-answer (ended-of (table-of r) (p .now) w)))
   said-core r d = exE 𝓤 _ (λ ws. snd∗ 𝓤 (sem 𝓤 H A (lasts core.ended (κ′, tt) (r, (p, (w, tt))) ws)) (fact 𝓤 (d ≡ ends-answer (ended-of (table-of r) (p .now) w))))
 
-  exits : (d : EndsAnswer) (u : Val) → d ≡ ends-answer (ended-of (table-of (lent-columns (x .now))) (p .now) w) → ent 𝓤 (⋆ 𝓤 H A (‵ (flft κ q) ∷ Token ∷ Lent 𝓤 H A κ x ∷ Own ∷ ‵ (L.the-row .own d (u ∷ [])) ∷ [])) (Post u)
+  exits : (d : EndsAnswer) (u : Val) → d ≡ ends-answer (ended-of (cells-of (x .now)) (p .now) w) → ent 𝓤 (⋆ 𝓤 H A (‵ (flft κ q) ∷ Token ∷ Lent 𝓤 H A κ x ∷ Own ∷ ‵ (L.the-row .own d (u ∷ [])) ∷ [])) (Post u)
   exits d u e =
       qed W (‵ (flft κ q) ∷ Token ∷ Lent 𝓤 H A κ x ∷ Own ∷ ‵ (L.the-row .own d (u ∷ [])) ∷ []) ∵
       suffices ! _ (ends-at 𝓤 H A entry.ended stayed (entry.clauses 𝓤 H A mem run) W ((κs, qs, tt, a, at), tt) u d (tt, (tt, (tt, tt))) (tt, (tt, (tt, tt)))) $ says ! e $
@@ -136,7 +137,7 @@ module _ {M : Type 1} (𝓤 : URA M) (H : Heap 𝓤) (A : Atoms 𝓤) (W : Given
         land ! (from ! (stop !)) (init ! 14 refl (LL.lawful L.the-type L′.the-laws 𝓤 H A W .typed d _ is′ .0)) $
         returns ! (look ! 14 refl) $ forget ! 6 refl $ forget ! 8 refl $ forget ! 10 refl $ forget ! 12 refl $ forget ! 14 refl $
         move ! (14 ∷ 15 ∷ []) $ free1 ! $ move ! (12 ∷ 13 ∷ []) $ free1 ! $ move ! (10 ∷ 11 ∷ []) $ free1 ! $ move ! (8 ∷ 9 ∷ []) $ free1 ! $ move ! (6 ∷ 7 ∷ []) $ free1 ! $ free0 ! $
-        keep ! (4 ∷ 1 ∷ 5 ∷ 2 ∷ 0 ∷ []) $ by ! (exits d u (e₂ ∙ ap (λ (y : Columns). ends-answer (ended-of (table-of y) (p .now) w)) e₁))))))))))))
+        keep ! (4 ∷ 1 ∷ 5 ∷ 2 ∷ 0 ∷ []) $ by ! (exits d u (e₂ ∙ ap ends-answer (ends-lent (x .now) r e₁ (p .now) w _ refl)))))))))))))
 
 module _ {M : Type 1} (𝓤 : URA M) (H : Heap 𝓤) (A : Atoms 𝓤) (W : Given 𝓤 H A) (mem : Memory → SProp 𝓤) (run : Routine → Fun 𝓤) (𝓣 : Tables 𝓤 H)
     (known-columns : Triple 𝓤 (𝓣 .C #records·columns-of) (Apart 𝓤 H A mem run)) (known-core : Triple 𝓤 (𝓣 .C #capi·ended) (Core 𝓤 H A mem run)) where

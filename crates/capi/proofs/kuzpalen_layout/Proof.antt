@@ -1,6 +1,6 @@
 -- `capi::kuzpalen_layout` meets its contract: a walk of its MIR, by hand. `columns_of` is called on the table, and `laid` on the columns and on the two `&mut` slices, which are given up to it.
 -- Assumes nothing.
-use mathlib.Core.Path.{_≡_, refl, subst}
+use mathlib.Core.Path.{_≡_, refl}
 use Prim.Native.Nat.{ℕ, _<_, _^_}
 use mathlib.Core.List.{[], _∷_, List}
 use lib.IntN.{ℤ}
@@ -42,7 +42,8 @@ use Rattle.plan.specs.Columns.{table-of}
 use Rattle.plan.specs.declared.Record.{Record}
 use Rattle.plan.specs.declared.Columns.{Columns}
 use Rattle.capi.specs.declared.LayoutAnswer.{LayoutAnswer}
-use Rattle.records.specs.Apart.{lent-columns}
+use Rattle.plan.specs.Records.{cells-of}
+use Rattle.engine.specs.LentLaws.{layout-lent}
 use Rattle.capi.specs.Answers.{Laying}
 use Rattle.plan.proofs.Record as T
 use Rattle.plan.proofs.Columns as B
@@ -107,7 +108,7 @@ module _ {M : Type 1} (𝓤 : URA M) (H : Heap 𝓤) (A : Atoms 𝓤) (W : Given
   abbrev Done : Columns → LayoutAnswer → List ℕ → List ℤ → Type 0
   Done r n zs zs′ = Laying (table-of r) w (p .now) zs (p′ .now) zs′ n
 
-  exits : (n : LayoutAnswer) (u : Val) (zs : List ℕ) (zs′ : List ℤ) → Laying (table-of (lent-columns (x .now))) w (p .now) zs (p′ .now) zs′ n → length zs ≡ length (p .now) → length zs′ ≡ length (p′ .now)
+  exits : (n : LayoutAnswer) (u : Val) (zs : List ℕ) (zs′ : List ℤ) → Laying (cells-of (x .now)) w (p .now) zs (p′ .now) zs′ n → length zs ≡ length (p .now) → length zs′ ≡ length (p′ .now)
       → ent 𝓤 (⋆ 𝓤 H A (‵ (flft κ q) ∷ Tokens ∷ Lent 𝓤 H A κ x ∷ ‵ (finally u32 (p .name) zs) ∷ ‵ (finally i32 (p′ .name) zs′) ∷ ‵ (L.the-row .own n (u ∷ [])) ∷ [])) (Post u)
   exits n u zs zs′ e l l′ =
       qed W (‵ (flft κ q) ∷ Tokens ∷ Lent 𝓤 H A κ x ∷ ‵ (finally u32 (p .name) zs) ∷ ‵ (finally i32 (p′ .name) zs′) ∷ ‵ (L.the-row .own n (u ∷ [])) ∷ []) ∵
@@ -140,7 +141,7 @@ module _ {M : Type 1} (𝓤 : URA M) (H : Heap 𝓤) (A : Atoms 𝓤) (W : Given
         land ! (from ! (stop !)) (init ! 25 refl (LL.lawful L.the-type L′.the-laws 𝓤 H A W .typed n _ is′ .0)) $
         returns ! (look ! 25 refl) $ forget ! 7 refl $ forget ! 9 refl $ forget ! 11 refl $ forget ! 13 refl $ forget ! 15 refl $ forget ! 17 refl $ forget ! 19 refl $ forget ! 21 refl $ forget ! 23 refl $ forget ! 25 refl $
         move ! (25 ∷ 26 ∷ []) $ free1 ! $ move ! (23 ∷ 24 ∷ []) $ free1 ! $ move ! (21 ∷ 22 ∷ []) $ free1 ! $ move ! (19 ∷ 20 ∷ []) $ free1 ! $ move ! (17 ∷ 18 ∷ []) $ free1 ! $ move ! (15 ∷ 16 ∷ []) $ free1 ! $ move ! (13 ∷ 14 ∷ []) $ free1 ! $ move ! (11 ∷ 12 ∷ []) $ free1 ! $ move ! (9 ∷ 10 ∷ []) $ free1 ! $ move ! (7 ∷ 8 ∷ []) $ free1 ! $ free0 ! $
-        keep ! (5 ∷ 1 ∷ 6 ∷ 4 ∷ 2 ∷ 0 ∷ []) $ by ! (exits n u (zs .1 .1 .0) (zs .1 .1 .1 .0) (subst (λ (y : Columns). Laying (table-of y) w (p .now) (zs .1 .1 .0) (p′ .now) (zs .1 .1 .1 .0) n) e₁ e₂) l l′)))))))))))))))))))
+        keep ! (5 ∷ 1 ∷ 6 ∷ 4 ∷ 2 ∷ 0 ∷ []) $ by ! (exits n u (zs .1 .1 .0) (zs .1 .1 .1 .0) (record { laid = e₂ .laid; lays = layout-lent (x .now) r e₁ w (p .now) (zs .1 .1 .0) (p′ .now) (zs .1 .1 .1 .0) (e₂ .laid) (e₂ .lays); answers = e₂ .answers }) l l′)))))))))))))))))))
 
 module _ {M : Type 1} (𝓤 : URA M) (H : Heap 𝓤) (A : Atoms 𝓤) (W : Given 𝓤 H A) (mem : Memory → SProp 𝓤) (run : Routine → Fun 𝓤) (𝓣 : Tables 𝓤 H)
     (known-columns : Triple 𝓤 (𝓣 .C #records·columns-of) (Apart 𝓤 H A mem run)) (known-core : Triple 𝓤 (𝓣 .C #capi·laid) (Core 𝓤 H A mem run)) where

@@ -4,67 +4,51 @@ use Prim.Native.Nat.{_-_}
 use Rattle.joining.proofs.complete.Statement.{statement}
 use Rattle.joining.proofs.complete.Tie as tie
 
--- src/lib.rt:79:14
 add-hs : tie.Need-add-hs
 add-hs c = search needs
 
--- src/lib.rt:79:29
 mark-of-requires : tie.Need-mark-of-requires
 mark-of-requires c κs = search needs
 
--- src/lib.rt:79:22
 wide32-requires : tie.Need-wide32-requires
 wide32-requires c κs = search needs
 
--- src/lib.rt:79:14
 add-hs-2 : tie.Need-add-hs-2
 add-hs-2 c = search needs
 
--- src/lib.rt:80:18
 mark-of-requires-2 : tie.Need-mark-of-requires-2
 mark-of-requires-2 c κs = search needs
 
--- src/lib.rt:80:41
 mark-of-requires-3 : tie.Need-mark-of-requires-3
 mark-of-requires-3 c κs = search needs
 
--- src/lib.rt:80:18
 sub-middle : tie.Need-sub-middle
 sub-middle c = search needs
 
--- src/lib.rt:81:24
 add-box-rows : tie.Need-add-box-rows
 add-box-rows c = search needs
 
--- src/lib.rt:81:5
 box-rows-requires : tie.Need-box-rows-requires
 box-rows-requires c κs = search needs
 
--- src/lib.rt:82:9
 column-max-requires : tie.Need-column-max-requires
 column-max-requires c κs = search needs
 
--- src/lib.rt:83:30
 add-column-max : tie.Need-add-column-max
 add-column-max c = search needs
 
--- src/lib.rt:83:9
 column-max-requires-2 : tie.Need-column-max-requires-2
 column-max-requires-2 c κs = search needs
 
--- src/lib.rt:84:5
 put-marks-requires : tie.Need-put-marks-requires
 put-marks-requires c κs = search needs
 
--- src/lib.rt:68:1
 same-length : tie.Need-same-length
 same-length c = search needs
 
--- src/lib.rt:68:1
 same-length-2 : tie.Need-same-length-2
 same-length-2 c = search needs
 
--- src/lib.rt:68:1
 returns : tie.Need-returns
 unfolding completed
 returns c = (cc, cc)

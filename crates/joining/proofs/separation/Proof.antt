@@ -4,67 +4,51 @@ use Prim.Native.Nat.{_-_}
 use Rattle.joining.proofs.separation.Statement.{statement}
 use Rattle.joining.proofs.separation.Tie as tie
 
--- src/lib.rt:101:9
 mark-of-requires : tie.Need-mark-of-requires
 mark-of-requires c κs = search needs
 
--- src/lib.rt:102:9
 mark-of-requires-2 : tie.Need-mark-of-requires-2
 mark-of-requires-2 c κs = search needs
 
--- src/lib.rt:103:28
 mark-of-requires-3 : tie.Need-mark-of-requires-3
 mark-of-requires-3 c κs = search needs
 
--- src/lib.rt:103:21
 wide32-requires : tie.Need-wide32-requires
 wide32-requires c κs = search needs
 
--- src/lib.rt:103:9
 shorter-requires : tie.Need-shorter-requires
 shorter-requires c κs = search needs
 
--- src/lib.rt:104:31
 mark-of-requires-4 : tie.Need-mark-of-requires-4
 mark-of-requires-4 c κs = search needs
 
--- src/lib.rt:104:9
 clash-requires : tie.Need-clash-requires
 clash-requires c κs = search needs
 
--- src/lib.rt:106:17
 add-greater : tie.Need-add-greater
 add-greater c = search needs
 
--- src/lib.rt:106:24
 add-greater-2 : tie.Need-add-greater-2
 add-greater-2 c = search needs
 
--- src/lib.rt:106:9
 greater-requires : tie.Need-greater-requires
 greater-requires c κs = search needs
 
--- src/lib.rt:107:27
 add-less : tie.Need-add-less
 add-less c = search needs
 
--- src/lib.rt:107:27
 add-less-2 : tie.Need-add-less-2
 add-less-2 c = search needs
 
--- src/lib.rt:107:22
 less-requires : tie.Need-less-requires
 less-requires c κs = search needs
 
--- src/lib.rt:107:9
 greater-requires-2 : tie.Need-greater-requires-2
 greater-requires-2 c κs = search needs
 
--- src/lib.rt:105:5
 greater-requires-3 : tie.Need-greater-requires-3
 greater-requires-3 c κs = search needs
 
--- src/lib.rt:89:1
 returns : tie.Need-returns
 unfolding apart
 returns c =

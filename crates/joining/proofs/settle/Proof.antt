@@ -6,37 +6,29 @@ use mathlib.Core.Path.{_∙_, sym}
 use Rattle.joining.proofs.settle.Statement.{statement}
 use Rattle.joining.proofs.settle.Tie as tie
 
--- src/lib.rt:181:9
 settle-first-requires : tie.Need-settle-first-requires
 settle-first-requires c κs = search needs
 
--- src/lib.rt:182:9
 same-length : tie.Need-same-length
 same-length c = search needs
 
--- src/lib.rt:182:9
 same-length-2 : tie.Need-same-length-2
 same-length-2 c = search needs
 
--- src/lib.rt:182:9
 returns : tie.Need-returns
 returns c =
     let a = c .before .before .before .before .before .before .before .before .before .before .args in
     c .before .before .before .before .settle-first .ensures ∙ sym (at-first (mem (a .rows .now) (a .marks .now)) (a .at) (a .f) (a .c) (a .hs) (a .place) (a .apt) (a .allowance) (omega arith))
 
--- src/lib.rt:184:5
 settle-later-requires : tie.Need-settle-later-requires
 settle-later-requires c κs = search needs
 
--- src/lib.rt:166:1
 same-length-3 : tie.Need-same-length-3
 same-length-3 c = search needs
 
--- src/lib.rt:166:1
 same-length-4 : tie.Need-same-length-4
 same-length-4 c = search needs
 
--- src/lib.rt:166:1
 returns-2 : tie.Need-returns-2
 returns-2 c =
     let a = c .before .before .before .before .before .before .before .before .before .before .args in

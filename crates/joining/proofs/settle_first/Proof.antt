@@ -3,31 +3,24 @@ use Prim.Native.Nat.{_-_}
 use Rattle.joining.proofs.settle_first.Statement.{statement}
 use Rattle.joining.proofs.settle_first.Tie as tie
 
--- src/lib.rt:116:5
 join-upto-requires : tie.Need-join-upto-requires
 join-upto-requires c κs = search needs
 
--- src/lib.rt:117:9
 mark-of-requires : tie.Need-mark-of-requires
 mark-of-requires c κs = search needs
 
--- src/lib.rt:118:25
 cast-put-marks : tie.Need-cast-put-marks
 cast-put-marks c = search needs
 
--- src/lib.rt:118:5
 put-marks-requires : tie.Need-put-marks-requires
 put-marks-requires c κs = search needs
 
--- src/lib.rt:112:1
 same-length : tie.Need-same-length
 same-length c = search needs
 
--- src/lib.rt:112:1
 same-length-2 : tie.Need-same-length-2
 same-length-2 c = search needs
 
--- src/lib.rt:112:1
 returns : tie.Need-returns
 returns c = cc
 

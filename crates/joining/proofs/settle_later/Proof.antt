@@ -4,63 +4,48 @@ use Prim.Native.Nat.{_-_}
 use Rattle.joining.proofs.settle_later.Statement.{statement}
 use Rattle.joining.proofs.settle_later.Tie as tie
 
--- src/lib.rt:156:9
 separation-requires : tie.Need-separation-requires
 separation-requires c κs = search needs
 
--- src/lib.rt:157:13
 mark-of-requires : tie.Need-mark-of-requires
 mark-of-requires c κs = search needs
 
--- src/lib.rt:157:13
 add-x : tie.Need-add-x
 add-x c = search needs
 
--- src/lib.rt:158:21
 mark-of-requires-2 : tie.Need-mark-of-requires-2
 mark-of-requires-2 c κs = search needs
 
--- src/lib.rt:158:9
 wide32-requires : tie.Need-wide32-requires
 wide32-requires c κs = search needs
 
--- src/lib.rt:159:52
 mark-of-requires-3 : tie.Need-mark-of-requires-3
 mark-of-requires-3 c κs = search needs
 
--- src/lib.rt:159:9
 join-side-requires : tie.Need-join-side-requires
 join-side-requires c κs = search needs
 
--- src/lib.rt:160:9
 mark-of-requires-4 : tie.Need-mark-of-requires-4
 mark-of-requires-4 c κs = search needs
 
--- src/lib.rt:161:5
 note-requires : tie.Need-note-requires
 note-requires c κs = search needs
 
--- src/lib.rt:162:25
 taller-requires : tie.Need-taller-requires
 taller-requires c κs = search needs
 
--- src/lib.rt:162:25
 cast-put-marks : tie.Need-cast-put-marks
 cast-put-marks c = search needs
 
--- src/lib.rt:162:5
 put-marks-requires : tie.Need-put-marks-requires
 put-marks-requires c κs = search needs
 
--- src/lib.rt:143:1
 same-length : tie.Need-same-length
 same-length c = search needs
 
--- src/lib.rt:143:1
 same-length-2 : tie.Need-same-length-2
 same-length-2 c = search needs
 
--- src/lib.rt:143:1
 returns : tie.Need-returns
 returns c =
     let a = c .before .before .before .before .before .before .before .before .before .before .before .before .before .before .before .before .before .before .before .before .before .before .before .before .before .before .before .args in

@@ -14,20 +14,16 @@ Inv-loop kinds n links₀ c₀ links c = (c ≤ n) × (length links ≡ length l
 abbrev μ-loop : tie.MeasureT-loop
 μ-loop kinds n links₀ c₀ links c = n - c
 
--- src/lib.rt:88:5
 loop-holds : tie.Need-loop-holds Inv-loop μ-loop
 unfolding placed
 loop-holds c = (search needs, refl, refl)
 
--- src/lib.rt:89:31
 kind-requires : tie.Need-kind-requires Inv-loop μ-loop
 kind-requires c κs = search needs
 
--- src/lib.rt:89:47
 link-of-requires : tie.Need-link-of-requires Inv-loop μ-loop
 link-of-requires c κs = search needs
 
--- src/lib.rt:89:13
 appointed-requires : tie.Need-appointed-requires Inv-loop μ-loop
 appointed-requires c κs =
     let a = c .before .before .before .before .before .before .before .args in
@@ -35,7 +31,6 @@ appointed-requires c κs =
     let q = placed-small (a .kinds .now) (a .links .now) (a .n) (l .c) (c .before .before .before .before .before .before .before .pre) (l .inv .2) (c .link-of .ensures) in
     q
 
--- src/lib.rt:90:29
 sub-links : tie.Need-sub-links Inv-loop μ-loop
 sub-links c =
     let a = c .before .before .before .before .before .before .before .before .args in
@@ -43,7 +38,6 @@ sub-links c =
     let q = placed-small (a .kinds .now) (a .links .now) (a .n) (l .c) (c .before .before .before .before .before .before .before .before .pre) (l .inv .2) (c .before .link-of .ensures) in
     omega (arith, c .appointed .ensures, appointed-small (c .before .before .before .kind .result) (c .before .link-of .result) q)
 
--- src/lib.rt:90:28
 cast-links : tie.Need-cast-links Inv-loop μ-loop
 cast-links c =
     let a = c .before .before .before .before .before .before .before .before .args in
@@ -51,42 +45,33 @@ cast-links c =
     let q = placed-small (a .kinds .now) (a .links .now) (a .n) (l .c) (c .before .before .before .before .before .before .before .before .pre) (l .inv .2) (c .before .link-of .ensures) in
     omega (arith, c .appointed .ensures, appointed-small (c .before .before .before .kind .result) (c .before .link-of .result) q)
 
--- src/lib.rt:90:15
 mul-links : tie.Need-mul-links Inv-loop μ-loop
 mul-links c = search needs
 
--- src/lib.rt:90:15
 add-links : tie.Need-add-links Inv-loop μ-loop
 add-links c = search needs
 
--- src/lib.rt:90:9
 mul-links-2 : tie.Need-mul-links-2 Inv-loop μ-loop
 mul-links-2 c = search needs
 
--- src/lib.rt:90:9
 slice-write-links : tie.Need-slice-write-links Inv-loop μ-loop
 slice-write-links c = search needs
 
--- src/lib.rt:91:9
 add-c : tie.Need-add-c Inv-loop μ-loop
 add-c c = search needs
 
--- src/lib.rt:88:5
 loop-less : tie.Need-loop-less Inv-loop μ-loop
 loop-less c = search needs
 
--- src/lib.rt:88:5
 loop-again : tie.Need-loop-again Inv-loop μ-loop
 loop-again c =
     let a = c .before .before .before .before .before .before .before .before .args in
     let l = c .before .before .before .before .before .loop in
     (search needs, simp length-set (l .inv .1), placed-more (a .kinds .now) (a .links .now) (l .c) (l .inv .2) (c .before .before .before .kind .ensures) (c .before .link-of .ensures) (c .appointed .ensures))
 
--- src/lib.rt:83:1
 same-length : tie.Need-same-length Inv-loop μ-loop
 same-length c = search needs
 
--- src/lib.rt:83:1
 returns : tie.Need-returns Inv-loop μ-loop
 returns c =
     let l = c .before .loop in

@@ -13,7 +13,6 @@ Inv-loop parents n links₀ c₀ links c = (0 < c) × (c ≤ n) × (length links
 abbrev μ-loop : tie.MeasureT-loop
 μ-loop parents n links₀ c₀ links c = c
 
--- src/lib.rt:25:5
 loop-holds : tie.Need-loop-holds Inv-loop μ-loop
 unfolding chained
 loop-holds c =
@@ -22,15 +21,12 @@ loop-holds c =
     let e : a .n - a .n ≡ 0 = omega arith in
     (st .pre .some, omega arith, refl, rw e)
 
--- src/lib.rt:26:9
 sub-c : tie.Need-sub-c Inv-loop μ-loop
 sub-c c = search needs
 
--- src/lib.rt:27:21
 parent-requires : tie.Need-parent-requires Inv-loop μ-loop
 parent-requires c κs = search needs
 
--- src/lib.rt:27:17
 mul-b : tie.Need-mul-b Inv-loop μ-loop
 mul-b c =
     let l = c .before .before in
@@ -38,7 +34,6 @@ mul-b c =
     let a = st .args in
     omega (arith, c .parent .ensures, st .pre .before (l .loop .c - 1) (omega (arith, c .before .loop-test .taken)) (omega (arith, c .before .loop-test .taken)), st .pre .few, st .pre .room)
 
--- src/lib.rt:28:28
 mul-links : tie.Need-mul-links Inv-loop μ-loop
 mul-links c =
     let l = c .before .before in
@@ -46,7 +41,6 @@ mul-links c =
     let a = st .args in
     omega (arith, c .parent .ensures, st .pre .before (l .loop .c - 1) (omega (arith, c .before .loop-test .taken)) (omega (arith, c .before .loop-test .taken)), st .pre .few, st .pre .room)
 
--- src/lib.rt:28:28
 slice-read-links : tie.Need-slice-read-links Inv-loop μ-loop
 slice-read-links c =
     let l = c .before .before .before in
@@ -54,27 +48,21 @@ slice-read-links c =
     let a = st .args in
     omega (arith, c .before .parent .ensures, st .pre .before (l .loop .c - 1) (omega (arith, c .before .before .loop-test .taken)) (omega (arith, c .before .before .loop-test .taken)), st .pre .few, st .pre .room)
 
--- src/lib.rt:28:15
 mul-links-2 : tie.Need-mul-links-2 Inv-loop μ-loop
 mul-links-2 c = search needs
 
--- src/lib.rt:28:15
 add-links : tie.Need-add-links Inv-loop μ-loop
 add-links c = search needs
 
--- src/lib.rt:28:9
 mul-links-3 : tie.Need-mul-links-3 Inv-loop μ-loop
 mul-links-3 c = search needs
 
--- src/lib.rt:28:9
 slice-write-links : tie.Need-slice-write-links Inv-loop μ-loop
 slice-write-links c = search needs
 
--- src/lib.rt:29:20
 cast-links : tie.Need-cast-links Inv-loop μ-loop
 cast-links c = search needs
 
--- src/lib.rt:29:9
 mul-links-4 : tie.Need-mul-links-4 Inv-loop μ-loop
 mul-links-4 c =
     let l = c .before .before .before in
@@ -82,7 +70,6 @@ mul-links-4 c =
     let a = st .args in
     omega (arith, c .before .parent .ensures, st .pre .before (l .loop .c - 1) (omega (arith, c .before .before .loop-test .taken)) (omega (arith, c .before .before .loop-test .taken)), st .pre .few, st .pre .room)
 
--- src/lib.rt:29:9
 slice-write-links-2 : tie.Need-slice-write-links-2 Inv-loop μ-loop
 slice-write-links-2 c =
     let l = c .before .before .before in
@@ -90,11 +77,9 @@ slice-write-links-2 c =
     let a = st .args in
     simp length-set (omega (arith, c .before .parent .ensures, st .pre .before (l .loop .c - 1) (omega (arith, c .before .before .loop-test .taken)) (omega (arith, c .before .before .loop-test .taken)), st .pre .few, st .pre .room))
 
--- src/lib.rt:25:5
 loop-less : tie.Need-loop-less Inv-loop μ-loop
 loop-less c = search needs
 
--- src/lib.rt:25:5
 loop-again : tie.Need-loop-again Inv-loop μ-loop
 loop-again c =
     let l = c .before .before .before in
@@ -102,7 +87,6 @@ loop-again c =
     let a = st .args in
     (omega arith, omega arith, simp length-set (l .loop .inv .2), chain-more (a .parents .now) (a .links .now) (a .n) (l .loop .c) (omega arith) (l .loop .inv .1) (l .loop .inv .3) (c .before .parent .ensures))
 
--- src/lib.rt:20:1
 same-length : tie.Need-same-length Inv-loop μ-loop
 same-length c =
     let l = c .before in
@@ -110,7 +94,6 @@ same-length c =
     let a = st .args in
     l .loop .inv .2
 
--- src/lib.rt:20:1
 returns : tie.Need-returns Inv-loop μ-loop
 returns c =
     let l = c .before in

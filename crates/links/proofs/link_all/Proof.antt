@@ -4,27 +4,22 @@ use Rattle.links.specs.Build.{chained-building, appointing, links-found}
 use Rattle.links.proofs.link_all.Statement.{statement}
 use Rattle.links.proofs.link_all.Tie as tie
 
--- src/lib.rt:101:5
 chain-siblings-requires : tie.Need-chain-siblings-requires
 chain-siblings-requires c κs = search needs
 
--- src/lib.rt:102:5
 number-siblings-requires : tie.Need-number-siblings-requires
 number-siblings-requires c κs =
     let a = c .before .before .before .before .before .before .before .before .args in
     chained-building (a .parents .now) (a .links .now) (a .n) (c .before .before .before .before .before .before .before .before .pre .building) (c .before .before .before .chain-siblings .ensures)
 
--- src/lib.rt:103:5
 appoint-requires : tie.Need-appoint-requires
 appoint-requires c κs =
     let a = c .before .before .before .before .before .before .before .before .before .before .before .before .args in
     appointing (a .parents .now) (a .kinds .now) (a .links .now) (a .n) (c .before .before .before .before .before .before .before .before .before .before .before .before .pre) (c .before .before .before .before .before .before .before .chain-siblings .ensures) (c .before .before .before .number-siblings .ensures)
 
--- src/lib.rt:97:1
 same-length : tie.Need-same-length
 same-length c = search needs
 
--- src/lib.rt:97:1
 returns : tie.Need-returns
 returns c =
     let a = c .before .before .before .before .before .before .before .before .before .before .before .before .before .before .before .args in

@@ -13,7 +13,6 @@ Inv-loop parents n links₀ c₀ links c = (0 < c) × (c ≤ n) × (length links
 abbrev μ-loop : tie.MeasureT-loop
 μ-loop parents n links₀ c₀ links c = n - c
 
--- src/lib.rt:39:5
 loop-holds : tie.Need-loop-holds Inv-loop μ-loop
 unfolding counted
 loop-holds c =
@@ -22,11 +21,9 @@ loop-holds c =
     let e : 1 - 1 ≡ 0 = omega arith in
     (omega arith, omega (arith, st .pre .some), refl, refl)
 
--- src/lib.rt:40:21
 parent-requires : tie.Need-parent-requires Inv-loop μ-loop
 parent-requires c κs = search needs
 
--- src/lib.rt:40:17
 mul-b : tie.Need-mul-b Inv-loop μ-loop
 mul-b c =
     let l = c .before .before in
@@ -34,7 +31,6 @@ mul-b c =
     let a = st .args in
     omega (arith, c .parent .ensures, st .pre .before (l .loop .c) (omega (arith, c .before .loop-test .taken)) (omega (arith, c .before .loop-test .taken)), st .pre .few, st .pre .room)
 
--- src/lib.rt:40:17
 add-b : tie.Need-add-b Inv-loop μ-loop
 add-b c =
     let l = c .before .before in
@@ -42,7 +38,6 @@ add-b c =
     let a = st .args in
     omega (arith, c .parent .ensures, st .pre .before (l .loop .c) (omega (arith, c .before .loop-test .taken)) (omega (arith, c .before .loop-test .taken)), st .pre .few, st .pre .room)
 
--- src/lib.rt:41:17
 mul-k : tie.Need-mul-k Inv-loop μ-loop
 mul-k c =
     let l = c .before .before in
@@ -50,7 +45,6 @@ mul-k c =
     let a = st .args in
     omega (arith, c .parent .ensures, st .pre .before (l .loop .c) (omega (arith, c .before .loop-test .taken)) (omega (arith, c .before .loop-test .taken)), st .pre .few, st .pre .room)
 
--- src/lib.rt:41:17
 slice-read-k : tie.Need-slice-read-k Inv-loop μ-loop
 slice-read-k c =
     let l = c .before .before .before in
@@ -58,23 +52,18 @@ slice-read-k c =
     let a = st .args in
     omega (arith, c .before .parent .ensures, st .pre .before (l .loop .c) (omega (arith, c .before .before .loop-test .taken)) (omega (arith, c .before .before .loop-test .taken)), st .pre .few, st .pre .room)
 
--- src/lib.rt:42:15
 mul-links : tie.Need-mul-links Inv-loop μ-loop
 mul-links c = search needs
 
--- src/lib.rt:42:15
 add-links : tie.Need-add-links Inv-loop μ-loop
 add-links c = search needs
 
--- src/lib.rt:42:9
 mul-links-2 : tie.Need-mul-links-2 Inv-loop μ-loop
 mul-links-2 c = search needs
 
--- src/lib.rt:42:9
 slice-write-links : tie.Need-slice-write-links Inv-loop μ-loop
 slice-write-links c = search needs
 
--- src/lib.rt:43:20
 add-links-2 : tie.Need-add-links-2 Inv-loop μ-loop
 add-links-2 c =
     let l = c .before .before .before in
@@ -82,7 +71,6 @@ add-links-2 c =
     let a = st .args in
     omega (arith, count-fits (a .parents .now) (a .links .now) (a .n) (l .loop .c) (c .before .parent .result) (st .pre) (l .loop .inv .0) (omega arith) (l .loop .inv .3))
 
--- src/lib.rt:43:9
 mul-links-3 : tie.Need-mul-links-3 Inv-loop μ-loop
 mul-links-3 c =
     let l = c .before .before .before in
@@ -90,7 +78,6 @@ mul-links-3 c =
     let a = st .args in
     omega (arith, c .before .parent .ensures, st .pre .before (l .loop .c) (omega (arith, c .before .before .loop-test .taken)) (omega (arith, c .before .before .loop-test .taken)), st .pre .few, st .pre .room)
 
--- src/lib.rt:43:9
 slice-write-links-2 : tie.Need-slice-write-links-2 Inv-loop μ-loop
 slice-write-links-2 c =
     let l = c .before .before .before in
@@ -98,15 +85,12 @@ slice-write-links-2 c =
     let a = st .args in
     simp length-set (omega (arith, c .before .parent .ensures, st .pre .before (l .loop .c) (omega (arith, c .before .before .loop-test .taken)) (omega (arith, c .before .before .loop-test .taken)), st .pre .few, st .pre .room))
 
--- src/lib.rt:44:9
 add-c : tie.Need-add-c Inv-loop μ-loop
 add-c c = search needs
 
--- src/lib.rt:39:5
 loop-less : tie.Need-loop-less Inv-loop μ-loop
 loop-less c = search needs
 
--- src/lib.rt:39:5
 loop-again : tie.Need-loop-again Inv-loop μ-loop
 loop-again c =
     let l = c .before .before .before in
@@ -114,7 +98,6 @@ loop-again c =
     let a = st .args in
     (omega arith, omega arith, simp length-set (l .loop .inv .2), count-more (a .parents .now) (a .links .now) (l .loop .c) (l .loop .inv .0) (l .loop .inv .3) (c .before .parent .ensures))
 
--- src/lib.rt:34:1
 same-length : tie.Need-same-length Inv-loop μ-loop
 same-length c =
     let l = c .before in
@@ -122,7 +105,6 @@ same-length c =
     let a = st .args in
     l .loop .inv .2
 
--- src/lib.rt:34:1
 returns : tie.Need-returns Inv-loop μ-loop
 returns c =
     let l = c .before in

@@ -6,19 +6,15 @@ use Rattle.marks.specs.Marks.{Long, linking, walking, marked}
 use Rattle.marks.proofs.marks_of.Statement.{statement}
 use Rattle.marks.proofs.marks_of.Tie as tie
 
--- src/lib.rt:27:14
 slice-aggregate-link-all : tie.Need-slice-aggregate-link-all
 slice-aggregate-link-all c = search needs
 
--- src/lib.rt:27:24
 slice-aggregate-link-all-2 : tie.Need-slice-aggregate-link-all-2
 slice-aggregate-link-all-2 c = search needs
 
--- src/lib.rt:27:41
 slice-aggregate-link-all-3 : tie.Need-slice-aggregate-link-all-3
 slice-aggregate-link-all-3 c = search needs
 
--- src/lib.rt:27:5
 link-all-requires : tie.Need-link-all-requires
 link-all-requires c κs =
     let st = c .before .before .before .before .before .before .before .before in
@@ -30,19 +26,15 @@ link-all-requires c κs =
     let long : Long (a .t) = record { parents = omega arith; kinds = omega arith; widths = omega arith; depths = omega arith } in
     linking (a .t) (a .tops .now) (a .allowance) (a .rows .now) (a .marks .now) (st .pre) long
 
--- src/lib.rt:28:10
 slice-aggregate-walk : tie.Need-slice-aggregate-walk
 slice-aggregate-walk c = search needs
 
--- src/lib.rt:28:18
 slice-aggregate-walk-2 : tie.Need-slice-aggregate-walk-2
 slice-aggregate-walk-2 c = search needs
 
--- src/lib.rt:28:27
 slice-aggregate-walk-3 : tie.Need-slice-aggregate-walk-3
 slice-aggregate-walk-3 c = search needs
 
--- src/lib.rt:28:5
 walk-requires : tie.Need-walk-requires
 walk-requires c κs =
     let st = c .before .before .before .before .before .before .before .before .before .before .before .before .before .before .before .before in
@@ -55,11 +47,9 @@ walk-requires c κs =
     let y : length (a .tops .now) ≡ 256 = search needs in
     walking (a .t) (a .tops .now) (a .allowance) (a .rows .now) (a .marks .now) (st .pre) long _ (c .before .before .before .before .before .before .before .link-all .ensures) (omega arith) (search needs)
 
--- src/lib.rt:12:1
 same-length : tie.Need-same-length
 same-length c = search needs
 
--- src/lib.rt:12:1
 returns : tie.Need-returns
 returns c =
     let st = c .before .before .before .before .before .before .before .before .before .before .before .before .before .before .before .before .before .before .before in

@@ -12,53 +12,42 @@ Inv-loop rows k x n g₀ j₀ g j = (j ≤ n) × (g ≡ clash-to rows k x j)
 abbrev μ-loop : tie.MeasureT-loop
 μ-loop rows k x n g₀ j₀ g j = n - j
 
--- src/lib.rt:68:5
 loop-holds : tie.Need-loop-holds Inv-loop μ-loop
 unfolding clash-to
 loop-holds c = (search needs, refl)
 
--- src/lib.rt:69:46
 add-extent-at : tie.Need-add-extent-at Inv-loop μ-loop
 add-extent-at c = search needs
 
--- src/lib.rt:69:31
 extent-at-requires : tie.Need-extent-at-requires Inv-loop μ-loop
 extent-at-requires c κs = search needs
 
--- src/lib.rt:69:72
 add-extent-at-2 : tie.Need-add-extent-at-2 Inv-loop μ-loop
 add-extent-at-2 c = search needs
 
--- src/lib.rt:69:57
 extent-at-requires-2 : tie.Need-extent-at-requires-2 Inv-loop μ-loop
 extent-at-requires-2 c κs = search needs
 
--- src/lib.rt:69:24
 needed-requires : tie.Need-needed-requires Inv-loop μ-loop
 needed-requires c κs =
     let st = c .before .before .before .before .before in
     (rw (c .before .extent-at .ensures) (st .pre .2 _), rw (c .extent-at2 .ensures) (st .pre .2 _))
 
--- src/lib.rt:69:9
 greater-requires : tie.Need-greater-requires Inv-loop μ-loop
 greater-requires c κs = search needs
 
--- src/lib.rt:70:9
 add-j : tie.Need-add-j Inv-loop μ-loop
 add-j c = search needs
 
--- src/lib.rt:68:5
 loop-less : tie.Need-loop-less Inv-loop μ-loop
 loop-less c = search needs
 
--- src/lib.rt:68:5
 loop-again : tie.Need-loop-again Inv-loop μ-loop
 loop-again c =
     let l = c .before .before .before .before .before in
     let a = l .before .before .args in
     (search needs, cc (clash-to-more (a .rows .now) (a .k) (a .x) (l .loop .j)))
 
--- src/lib.rt:62:1
 returns : tie.Need-returns Inv-loop μ-loop
 returns c =
     let l = c .before in

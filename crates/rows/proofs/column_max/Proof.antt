@@ -12,35 +12,28 @@ Inv-loop rows k n g₀ j₀ g j = (j ≤ n) × (g ≡ max-to rows k j)
 abbrev μ-loop : tie.MeasureT-loop
 μ-loop rows k n g₀ j₀ g j = n - j
 
--- src/lib.rt:46:5
 loop-holds : tie.Need-loop-holds Inv-loop μ-loop
 unfolding max-to
 loop-holds c = (search needs, refl)
 
--- src/lib.rt:47:24
 extent-at-requires : tie.Need-extent-at-requires Inv-loop μ-loop
 extent-at-requires c κs = search needs
 
--- src/lib.rt:47:9
 greater-requires : tie.Need-greater-requires Inv-loop μ-loop
 greater-requires c κs = search needs
 
--- src/lib.rt:48:9
 add-j : tie.Need-add-j Inv-loop μ-loop
 add-j c = search needs
 
--- src/lib.rt:46:5
 loop-less : tie.Need-loop-less Inv-loop μ-loop
 loop-less c = search needs
 
--- src/lib.rt:46:5
 loop-again : tie.Need-loop-again Inv-loop μ-loop
 loop-again c =
     let l = c .before .before .before in
     let a = l .before .before .args in
     (search needs, cc (max-to-more (a .rows .now) (a .k) (l .loop .j)))
 
--- src/lib.rt:40:1
 returns : tie.Need-returns Inv-loop μ-loop
 returns c =
     let l = c .before in

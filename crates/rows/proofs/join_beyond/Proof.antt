@@ -14,24 +14,19 @@ Inv-loop rows₀ at x n j₀ rows j = (j ≤ n) × (length rows ≡ length rows�
 abbrev μ-loop : tie.MeasureT-loop
 μ-loop rows₀ at x n j₀ rows j = n - j
 
--- src/lib.rt:119:5
 loop-holds : tie.Need-loop-holds Inv-loop μ-loop
 unfolding put-to
 loop-holds c = (search needs, search needs, refl)
 
--- src/lib.rt:120:13
 extent-at-requires : tie.Need-extent-at-requires Inv-loop μ-loop
 extent-at-requires c κs = search needs
 
--- src/lib.rt:121:36
 add-extent-at : tie.Need-add-extent-at Inv-loop μ-loop
 add-extent-at c = search needs
 
--- src/lib.rt:121:21
 extent-at-requires-2 : tie.Need-extent-at-requires-2 Inv-loop μ-loop
 extent-at-requires-2 c κs = search needs
 
--- src/lib.rt:121:17
 add-r : tie.Need-add-r Inv-loop μ-loop
 add-r c =
     let l = c .before .before .before .before .before in
@@ -40,19 +35,15 @@ add-r c =
     let same = unread (a .rows .now) (l .loop .rows) (a .at) _ _ (l .loop .j) (l .loop .inv .2) (omega arith) (omega arith) (a .at + 3) (omega arith) in
     omega (arith, c .extent-at2 .ensures, same, st .pre .2 (64 * l .loop .j + (a .at + 3)), st .pre .3)
 
--- src/lib.rt:122:9
 put-row-requires : tie.Need-put-row-requires Inv-loop μ-loop
 put-row-requires c κs = search needs
 
--- src/lib.rt:123:9
 add-j : tie.Need-add-j Inv-loop μ-loop
 add-j c = search needs
 
--- src/lib.rt:119:5
 loop-less : tie.Need-loop-less Inv-loop μ-loop
 loop-less c = search needs
 
--- src/lib.rt:119:5
 loop-again : tie.Need-loop-again Inv-loop μ-loop
 loop-again c =
     let p = c .before .before .put-row in
@@ -61,11 +52,9 @@ loop-again c =
     let f : 64 * l .loop .j ≤ length (a .rows .now) = omega arith in
     (search needs, search needs, beyond-more (a .rows .now) (l .loop .rows) (a .at) (a .x) (l .loop .j) (l .loop .inv .2) (omega arith) f (c .before .before .before .before .before .before .extent-at .ensures) (c .before .before .before .before .extent-at2 .ensures) refl (p .ensures))
 
--- src/lib.rt:114:1
 same-length : tie.Need-same-length Inv-loop μ-loop
 same-length c = search needs
 
--- src/lib.rt:114:1
 returns : tie.Need-returns Inv-loop μ-loop
 returns c =
     let l = c .before in

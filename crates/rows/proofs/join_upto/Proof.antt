@@ -14,24 +14,19 @@ Inv-loop rows₀ at h g n j₀ rows j = (j ≤ n) × (length rows ≡ length row
 abbrev μ-loop : tie.MeasureT-loop
 μ-loop rows₀ at h g n j₀ rows j = n - j
 
--- src/lib.rt:104:5
 loop-holds : tie.Need-loop-holds Inv-loop μ-loop
 unfolding put-to
 loop-holds c = (search needs, search needs, refl)
 
--- src/lib.rt:105:13
 extent-at-requires : tie.Need-extent-at-requires Inv-loop μ-loop
 extent-at-requires c κs = search needs
 
--- src/lib.rt:106:55
 add-extent-at : tie.Need-add-extent-at Inv-loop μ-loop
 add-extent-at c = search needs
 
--- src/lib.rt:106:40
 extent-at-requires-2 : tie.Need-extent-at-requires-2 Inv-loop μ-loop
 extent-at-requires-2 c κs = search needs
 
--- src/lib.rt:106:13
 shifted-requires : tie.Need-shifted-requires Inv-loop μ-loop
 shifted-requires c κs =
     let l = c .before .before .before .before .before in
@@ -41,27 +36,21 @@ shifted-requires c κs =
     let same : extent (l .loop .rows) (l .loop .j) (a .at) ≡ extent (a .rows .now) (l .loop .j) (a .at) = ap (λ xs. extent xs (l .loop .j) (a .at)) (l .loop .inv .2) ∙ put-to-above (a .rows .now) (a .at) _ _ (l .loop .j) le (omega arith) (l .loop .j) (a .at) (omega arith) (omega arith) in
     (rw (c .before .before .extent-at .ensures, same) (st .pre .2 _), search needs)
 
--- src/lib.rt:107:32
 add-extent-at-2 : tie.Need-add-extent-at-2 Inv-loop μ-loop
 add-extent-at-2 c = search needs
 
--- src/lib.rt:107:13
 extent-at-requires-3 : tie.Need-extent-at-requires-3 Inv-loop μ-loop
 extent-at-requires-3 c κs = search needs
 
--- src/lib.rt:108:9
 put-row-requires : tie.Need-put-row-requires Inv-loop μ-loop
 put-row-requires c κs = search needs
 
--- src/lib.rt:109:9
 add-j : tie.Need-add-j Inv-loop μ-loop
 add-j c = search needs
 
--- src/lib.rt:104:5
 loop-less : tie.Need-loop-less Inv-loop μ-loop
 loop-less c = search needs
 
--- src/lib.rt:104:5
 loop-again : tie.Need-loop-again Inv-loop μ-loop
 loop-again c =
     let p = c .before .before .put-row in
@@ -70,11 +59,9 @@ loop-again c =
     let f : 64 * l .loop .j ≤ length (a .rows .now) = omega arith in
     (search needs, search needs, upto-more (a .rows .now) (l .loop .rows) (a .at) (a .h) (a .g) (l .loop .j) (l .loop .inv .2) (omega arith) f (c .before .before .before .before .before .before .before .before .before .extent-at .ensures) (c .before .before .before .before .before .before .before .extent-at2 .ensures) (c .before .before .before .before .before .before .shifted .ensures) (c .before .before .before .before .extent-at3 .ensures) (p .ensures))
 
--- src/lib.rt:99:1
 same-length : tie.Need-same-length Inv-loop μ-loop
 same-length c = search needs
 
--- src/lib.rt:99:1
 returns : tie.Need-returns Inv-loop μ-loop
 returns c =
     let l = c .before in

@@ -1,71 +1,57 @@
 use borrow.Author.Needs.{needs}
 use Prim.Native.Nat.{_-_, _*_}
 use mathlib.Core.Path.{refl, _∙_}
-use Rattle.walk.specs.Machine.{chart, child-ready, close-found}
+use Rattle.walk.specs.Machine.{chart}
+use Rattle.walk.specs.Turns.{child-ready, close-found}
 use Rattle.walk.proofs.Parts.{tail-seen, tail-put}
 use Rattle.walk.proofs.close.Statement.{statement}
 use Rattle.walk.proofs.close.Tie as tie
 
--- src/lib.rt:75:9
 number-requires : tie.Need-number-requires
 number-requires c κs = search needs
 
--- src/lib.rt:76:9
 width-of-requires : tie.Need-width-of-requires
 width-of-requires c κs = search needs
 
--- src/lib.rt:77:9
 link-of-requires : tie.Need-link-of-requires
 link-of-requires c κs = search needs
 
--- src/lib.rt:78:9
 link-of-requires-2 : tie.Need-link-of-requires-2
 link-of-requires-2 c κs = search needs
 
--- src/lib.rt:79:22
 row-of-requires : tie.Need-row-of-requires
 row-of-requires c κs = search needs
 
--- src/lib.rt:79:17
 mul-start : tie.Need-mul-start
 mul-start c = search needs
 
--- src/lib.rt:80:18
 mul-finish-child : tie.Need-mul-finish-child
 mul-finish-child c = search needs
 
--- src/lib.rt:80:18
 sub-finish-child : tie.Need-sub-finish-child
 sub-finish-child c = search needs
 
--- src/lib.rt:80:18
 part-finish-child-start : tie.Need-part-finish-child-start
 part-finish-child-start c = search needs
 
--- src/lib.rt:80:18
 part-finish-child-end : tie.Need-part-finish-child-end
 part-finish-child-end c = search needs
 
--- src/lib.rt:80:45
 mul-finish-child-2 : tie.Need-mul-finish-child-2
 mul-finish-child-2 c = search needs
 
--- src/lib.rt:80:5
 finish-child-requires : tie.Need-finish-child-requires
 finish-child-requires c κs =
     let st = c .before .before .before .before .before .before .before .before .before .before .before .before .before in
     let a = st .args in
     child-ready (chart (a .links .now) (a .widths .now) (a .depths .now) (a .tops .now) (a .allowance)) (a .level) (a .f) (a .c) (a .rows .now) (a .marks .now) (st .pre) (c .before .before .before .before .before .before .number .ensures) (c .before .before .before .before .before .width-of .ensures) refl (tail-seen (a .rows .now) (64 * c .before .before .row-of .result) ∙ rw (c .before .before .row-of .ensures))
 
--- src/lib.rt:71:1
 same-length : tie.Need-same-length
 same-length c = search needs
 
--- src/lib.rt:71:1
 same-length-2 : tie.Need-same-length-2
 same-length-2 c = search needs
 
--- src/lib.rt:71:1
 returns : tie.Need-returns
 returns c =
     let a = c .before .before .before .before .before .before .before .before .before .before .before .before .before .before .before .before .before .before .args in

@@ -1,34 +1,28 @@
 use borrow.Author.Needs.{needs}
 use Prim.Native.Nat.{_-_}
 use Rattle.joining.specs.Joining.{mem}
-use Rattle.walk.specs.Machine.{settle-ready, finish-found}
+use Rattle.walk.specs.Turns.{settle-ready, finish-found}
 use Rattle.walk.proofs.finish_child.Statement.{statement}
 use Rattle.walk.proofs.finish_child.Tie as tie
 
--- src/lib.rt:57:36
 add-complete : tie.Need-add-complete
 add-complete c = search needs
 
--- src/lib.rt:57:9
 complete-requires : tie.Need-complete-requires
 complete-requires c κs = search needs
 
--- src/lib.rt:58:5
 settle-requires : tie.Need-settle-requires
 settle-requires c κs =
     let st = c .before .before .before .before .before .before .before .before .before .before .before in
     let a = st .args in
     settle-ready (mem (a .rows .now) (a .marks .now)) (a .at) (a .f) (a .c) (a .d) (a .w) (st .pre) (c .before .before .before .before .before .before .complete .ensures .0) (c .before .before .before .before .before .before .complete .ensures .1)
 
--- src/lib.rt:53:1
 same-length : tie.Need-same-length
 same-length c = search needs
 
--- src/lib.rt:53:1
 same-length-2 : tie.Need-same-length-2
 same-length-2 c = search needs
 
--- src/lib.rt:53:1
 returns : tie.Need-returns
 returns c =
     let a = c .before .before .before .before .before .before .before .before .before .before .before .before .before .before .before .before .args in

@@ -1,27 +1,22 @@
 use borrow.Author.Needs.{needs}
 use Prim.Native.Nat.{_-_}
 use Rattle.joining.specs.Joining.{mem}
-use Rattle.walk.specs.Machine.{root-found}
+use Rattle.walk.specs.Turns.{root-found}
 use Rattle.walk.proofs.finish_root.Statement.{statement}
 use Rattle.walk.proofs.finish_root.Tie as tie
 
--- src/lib.rt:66:9
 complete-requires : tie.Need-complete-requires
 complete-requires c κs = search needs
 
--- src/lib.rt:67:5
 box-rows-requires : tie.Need-box-rows-requires
 box-rows-requires c κs = search needs
 
--- src/lib.rt:62:1
 same-length : tie.Need-same-length
 same-length c = search needs
 
--- src/lib.rt:62:1
 same-length-2 : tie.Need-same-length-2
 same-length-2 c = search needs
 
--- src/lib.rt:62:1
 returns : tie.Need-returns
 returns c =
     let a = c .before .before .before .before .before .before .before .before .before .before .before .before .before .args in

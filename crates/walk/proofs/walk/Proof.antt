@@ -2,7 +2,8 @@ use native.Mathlib.Omega.{arith}
 use Prim.Native.Nat.{_<_, _-_}
 use mathlib.Core.Path.{_≡_, refl, _∙_}
 use lib.ListN.{length}
-use Rattle.walk.specs.Machine.{chart, state-of, most-turns, turns, stack-of-length}
+use Rattle.walk.specs.Machine.{chart, most-turns, turns}
+use Rattle.walk.specs.Turns.{state-of, stack-of-length}
 use Rattle.walk.specs.Walked.{Keeps, keeps-start, keeps-turning, keeps-turn, keeps-less, keeps-end}
 use Rattle.walk.proofs.walk.Statement.{statement}
 use Rattle.walk.proofs.walk.Tie as tie
@@ -13,7 +14,6 @@ Inv-loop links widths depths tops allowance rows₀ marks₀ chain₀ next₀ ro
 abbrev μ-loop : tie.MeasureT-loop
 μ-loop links widths depths tops allowance rows₀ marks₀ chain₀ next₀ rows marks chain next = turns (chart links widths depths tops allowance) most-turns (state-of (chain .cells) (chain .count) next rows marks)
 
--- src/lib.rt:160:9
 link-of-requires : tie.Need-link-of-requires Inv-loop μ-loop
 link-of-requires c κs =
     let st = c .before .before .before .before .before .before in
@@ -21,7 +21,6 @@ link-of-requires c κs =
     let b = (chart (a .links .now) (a .widths .now) (a .depths .now) (a .tops .now) (a .allowance)) in
     (omega (arith, st .pre .suits .links .size), omega arith)
 
--- src/lib.rt:161:5
 loop-holds : tie.Need-loop-holds Inv-loop μ-loop
 loop-holds c =
     let st = c .before .before .before .before .before .before .before in
@@ -29,7 +28,6 @@ loop-holds c =
     let b = (chart (a .links .now) (a .widths .now) (a .depths .now) (a .tops .now) (a .allowance)) in
     (keeps-start b (a .rows .now) (a .marks .now) (st .pre) _ _ refl (c .link-of .ensures), refl, refl)
 
--- src/lib.rt:162:13
 turn-requires : tie.Need-turn-requires Inv-loop μ-loop
 turn-requires c κs =
     let st = c .before .before .before .before .before .before .before .before .before .before .before .before in
@@ -41,7 +39,6 @@ turn-requires c κs =
     let lt = rw (← stack-of-length (l .loop .chain .cells) (l .loop .chain .count)) at some in
     keeps-turning b (a .rows .now) now (l .loop .inv .0) lt
 
--- src/lib.rt:161:5
 loop-less : tie.Need-loop-less Inv-loop μ-loop
 loop-less c =
     let st = c .before .before .before .before .before .before .before .before .before .before .before .before .before .before .before .before .before .before in
@@ -53,7 +50,6 @@ loop-less c =
     let lt = rw (← stack-of-length (l .loop .chain .cells) (l .loop .chain .count)) at some in
     keeps-less b (a .rows .now) now (l .loop .inv .0) lt _ (c .before .before .before .before .before .turn .ensures)
 
--- src/lib.rt:161:5
 loop-again : tie.Need-loop-again Inv-loop μ-loop
 loop-again c =
     let st = c .before .before .before .before .before .before .before .before .before .before .before .before .before .before .before .before .before .before in
@@ -65,15 +61,12 @@ loop-again c =
     let lt = rw (← stack-of-length (l .loop .chain .cells) (l .loop .chain .count)) at some in
     (keeps-turn b (a .rows .now) now (l .loop .inv .0) lt _ (c .before .before .before .before .before .turn .ensures), c .before .before .before .before .before .turn .kept .1 .1 .1 .1 .1 .1 .1 .0 ∙ l .loop .inv .1, c .before .before .before .before .before .turn .kept .1 .1 .1 .1 .1 .1 .1 .1 .0 ∙ l .loop .inv .2)
 
--- src/lib.rt:152:1
 same-length : tie.Need-same-length Inv-loop μ-loop
 same-length c = c .before .before .loop .inv .1
 
--- src/lib.rt:152:1
 same-length-2 : tie.Need-same-length-2 Inv-loop μ-loop
 same-length-2 c = c .before .before .loop .inv .2
 
--- src/lib.rt:152:1
 returns : tie.Need-returns Inv-loop μ-loop
 returns c =
     let st = c .before .before .before .before .before .before .before .before .before .before in

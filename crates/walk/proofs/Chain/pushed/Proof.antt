@@ -1,22 +1,18 @@
 use borrow.Author.Needs.{needs}
 use Prim.Native.Nat.{_-_}
-use Rattle.walk.specs.Machine.{stack-of-push}
+use Rattle.walk.specs.Turns.{stack-of-push}
 use Rattle.walk.proofs.Chain.pushed.Statement.{statement}
 use Rattle.walk.proofs.Chain.pushed.Tie as tie
 
--- src/lib.rt:95:9
 mul-self : tie.Need-mul-self
 mul-self c = search needs
 
--- src/lib.rt:95:9
 element-write-self : tie.Need-element-write-self
 element-write-self c = search needs
 
--- src/lib.rt:96:22
 add-self : tie.Need-add-self
 add-self c = search needs
 
--- src/lib.rt:90:5
 returns : tie.Need-returns
 returns c = stack-of-push (c .args .t1 .cells) (c .args .t1 .count) (c .args .c) (search needs)
 

@@ -1,0 +1,58 @@
+-- From the columns of a lent table to its records: the calls answer the same. Nothing that a reader must believe stands here. Assumes nothing.
+use mathlib.Core.Path.{_≡_, refl, sym, ap, _∙_}
+use mathlib.Core.List.{List}
+use Prim.Native.Nat.{ℕ, _<_}
+use native.Mathlib.Omega.{arith}
+use borrow.Author.Tests.{ne-eqb}
+use lib.Dec.{leb}
+use lib.ListN.{length}
+use lib.IntN.{ℤ}
+use Rattle.plan.specs.Plan.{Table}
+use Rattle.plan.specs.Columns.{table-of}
+use Rattle.plan.specs.Records.{cells-of}
+use Rattle.plan.specs.declared.Record.{Record}
+use Rattle.plan.specs.declared.Columns.{Columns}
+use Rattle.plan.specs.Limits.{most-cells, scratch-size}
+use Rattle.plan.specs.Questions.{asked, or-else, refusal, layout, layout-given}
+use Rattle.plan.specs.QuestionLaws.{both-none}
+use Rattle.plan.specs.declared.Refusal.{Refusal}
+use Rattle.drawing.specs.Laid.{answer, positions-after, Lays}
+use Rattle.drawing.specs.declared.Laid.{Laid}
+use Rattle.drawing.specs.declared.Laid.the-variants.{Refused}
+use Rattle.verdict.specs.Checked.{checked-of}
+use Rattle.verdict.specs.declared.Checked.{Checked}
+use Rattle.connectors.specs.Ended.{ended-of}
+use Rattle.connectors.specs.declared.Ended.{Ended}
+use Rattle.records.specs.Apart.{lent-columns}
+use Rattle.records.specs.ApartLaws.{of-records}
+use Rattle.records.specs.CrowdedLaws.{crowded, layout-crowded, check-crowded, ends-crowded}
+
+-- Layout refuses every table that is too long, and alike
+module _ (al : ℕ) (s s′ : List ℕ) (ps ps′ : List ℤ) (d : Laid) where
+  abbrev no : Refusal
+  no = or-else (asked 1 (leb scratch-size (length s)) 0) crowded
+
+  refuses : ¬ (no .number ≡ 0)
+  refuses z = let h : crowded .number ≡ 0 = both-none (asked 1 (leb scratch-size (length s)) 0) crowded z .1 in absurd (omega arith)
+
+  answer-crowded : (u : Table) → most-cells < length u → answer u al (refusal layout (layout-given u al (length s) (length ps))) ≡ Refused (no .number) (no .cell)
+  unfolding answer
+  answer-crowded u h = rw (layout-crowded u h al (length s) (length ps), ne-eqb (no .number) 0 refuses)
+
+  lays-crowded : (u v : Table) → most-cells < length u → most-cells < length v → Lays u al s s′ ps ps′ d → Lays v al s s′ ps ps′ d
+  unfolding positions-after
+  lays-crowded u v p q g =
+      let e : d ≡ Refused (no .number) (no .cell) = g .answers ∙ answer-crowded u p in
+      record { answers = e ∙ sym (answer-crowded v q); positions = rw e (rw e at (g .positions)); scratch = g .scratch }
+
+module _ (t : List Record) (r : Columns) (e : r ≡ lent-columns t) where
+  pub layout-lent : (al : ℕ) (s s′ : List ℕ) (ps ps′ : List ℤ) (d : Laid) → Lays (table-of r) al s s′ ps ps′ d → Lays (cells-of t) al s s′ ps ps′ d
+  layout-lent al s s′ ps ps′ d h = of-records (λ u. Lays u al s s′ ps ps′ d) t (lays-crowded al s s′ ps ps′ d) (rw e at h)
+
+  pub check-lent : (ps : List ℤ) (al : ℕ) (d : Checked) → d ≡ checked-of (table-of r) ps al → d ≡ checked-of (cells-of t) ps al
+  unfolding checked-of
+  check-lent ps al d h = of-records (λ u. d ≡ checked-of u ps al) t (λ u v p q g. g ∙ rw (check-crowded u p al ps, check-crowded v q al ps)) (rw e at h)
+
+  pub ends-lent : (ps : List ℤ) (c : ℕ) (d : Ended) → d ≡ ended-of (table-of r) ps c → d ≡ ended-of (cells-of t) ps c
+  unfolding ended-of
+  ends-lent ps c d h = of-records (λ u. d ≡ ended-of u ps c) t (λ u v p q g. g ∙ rw (ends-crowded u p ps c, ends-crowded v q ps c)) (rw e at h)

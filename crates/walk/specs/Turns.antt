@@ -1,0 +1,114 @@
+-- The chain of open cells as the code has it, and a turn as the code takes it. Assumes nothing.
+use mathlib.Core.Path.{_≡_, refl, _∙_, ap, sym, subst}
+use mathlib.Core.Logic.{_≢_}
+use mathlib.Core.List.{List, [], _∷_, _++_}
+use Prim.Native.Nat.{ℕ, zero, suc, _+_, _-_, _*_, _≤_, _<_}
+use native.Mathlib.Omega.{arith}
+use native.Mathlib.Numerals.{add-one}
+use lib.ListN.{length, getD, set, take, drop}
+use lib.Seq.{getD-set-same, getD-set-other}
+use Rattle.rows.specs.Rows.{row-size, box-to}
+use Rattle.joining.specs.Joining.{Memory, mem, height, completed, settled, Settling}
+use Rattle.joining.specs.Settle.{finished}
+use Rattle.links.specs.Links.{link}
+use Rattle.walk.specs.Machine.{Chart, wide, deep, top, apt, State, closed, root-closed, step, step-open, step-close, step-end, Finishing, Closing, Ending, Shutting, Turning}
+
+-- ---- the chain: an array of 32 cells and a count. The stack has its last cell on top
+unfoldable pub stack-of : List ℕ → ℕ → List ℕ
+stack-of cs zero = []
+stack-of cs (suc k) = getD cs k 0 ∷ stack-of cs k
+
+pub stack-of-length : (cs : List ℕ) (k : ℕ) → length (stack-of cs k) ≡ k
+unfolding stack-of
+stack-of-length cs zero = refl
+stack-of-length cs (suc k) = ap suc (stack-of-length cs k)
+
+stack-of-set : (cs : List ℕ) (i v k : ℕ) → k ≤ i → stack-of (set cs i v) k ≡ stack-of cs k
+unfolding stack-of
+stack-of-set cs i v zero le = refl
+stack-of-set cs i v (suc k) le =
+    let ne : k ≢ i = omega arith in
+    rw (getD-set-other cs i k v 0 ne, stack-of-set cs i v k (omega arith))
+
+pub stack-of-push : (cs : List ℕ) (k v : ℕ) → k < length cs → stack-of (set cs k v) (k + 1) ≡ v ∷ stack-of cs k
+unfolding stack-of
+stack-of-push cs k v lt = rw (add-one, getD-set-same cs k v 0 lt, stack-of-set cs k v k (omega arith))
+
+stack-of-top : (cs : List ℕ) (k : ℕ) → 0 < k → stack-of cs k ≡ getD cs (k - 1) 0 ∷ stack-of cs (k - 1)
+unfolding stack-of
+stack-of-top cs k lt =
+    let e : k ≡ suc (k - 1) = omega arith in
+    ap (stack-of cs) e
+
+abbrev pub state-of : List ℕ → ℕ → ℕ → List ℕ → List ℕ → State
+state-of cs k next xs ms = record { stack = stack-of cs k; next = next; memory = mem xs ms }
+
+-- ---- a turn, as the code takes it
+module _ (cs : List ℕ) (k : ℕ) where
+  two : 1 < k → stack-of cs k ≡ getD cs (k - 1) 0 ∷ getD cs (k - 1 - 1) 0 ∷ stack-of cs (k - 1 - 1)
+  two lt = stack-of-top cs k (omega arith) ∙ ap (λ (l : List ℕ). getD cs (k - 1) 0 ∷ l) (stack-of-top cs (k - 1) (omega arith))
+
+  one : k ≡ 1 → stack-of cs k ≡ getD cs 0 0 ∷ []
+  unfolding stack-of
+  one e = rw e
+
+pub turn-open : (b : Chart) (cs : List ℕ) (k next : ℕ) (xs ms cs′ : List ℕ) (k′ : ℕ) {n : ℕ} → 0 < next → n ≡ link (b .links) next 0 → stack-of cs′ k′ ≡ next ∷ stack-of cs k
+    → state-of cs′ k′ n xs ms ≡ step b (state-of cs k next xs ms)
+turn-open b cs k next xs ms cs′ k′ lt en es =
+    (λ i. record { stack = es i; next = en i; memory = mem xs ms }) ∙ sym (step-open b (stack-of cs k) next (mem xs ms) lt)
+
+pub turn-close : (b : Chart) (cs : List ℕ) (k : ℕ) (xs ms cs′ : List ℕ) (k′ : ℕ) {n c f level : ℕ} {xs′ ms′ : List ℕ} → 1 < k → c ≡ getD cs (k - 1) 0 → f ≡ getD cs (k - 1 - 1) 0
+    → level ≡ k - 1 - 1 → n ≡ link (b .links) c 1 → stack-of cs′ k′ ≡ stack-of cs (k - 1) → mem xs′ ms′ ≡ closed b level f c (mem xs ms) → state-of cs′ k′ n xs′ ms′ ≡ step b (state-of cs k 0 xs ms)
+turn-close b cs k xs ms cs′ k′ {n} {c} {f} {level} {xs′} {ms′} lt ec ef el en es em =
+    let under : stack-of cs (k - 1) ≡ getD cs (k - 1 - 1) 0 ∷ stack-of cs (k - 1 - 1) = stack-of-top cs (k - 1) (omega arith) in
+    let len : length (stack-of cs (k - 1 - 1)) ≡ level = stack-of-length cs (k - 1 - 1) ∙ sym el in
+    let go : step b (state-of cs k 0 xs ms) ≡ record { stack = f ∷ stack-of cs (k - 1 - 1); next = link (b .links) c 1; memory = closed b level f c (mem xs ms) } =
+    ap (λ (l : List ℕ). step b (record { stack = l; next = 0; memory = mem xs ms })) (two cs k lt ∙ rw (← ec, ← ef)) ∙ step-close b c f (stack-of cs (k - 1 - 1)) (mem xs ms) ∙ rw len in
+    (λ i. record { stack = (es ∙ under ∙ ap (λ (x : ℕ). x ∷ stack-of cs (k - 1 - 1)) (sym ef)) i; next = en i; memory = em i }) ∙ sym go
+
+pub turn-end : (b : Chart) (cs : List ℕ) (k : ℕ) (xs ms cs′ : List ℕ) (k′ : ℕ) {d w : ℕ} {xs′ ms′ : List ℕ} → k ≡ 1 → d ≡ deep b 0 → w ≡ wide b 0 → stack-of cs′ k′ ≡ stack-of cs (k - 1)
+    → mem xs′ ms′ ≡ root-closed (mem xs ms) d w → state-of cs′ k′ 0 xs′ ms′ ≡ step b (state-of cs k 0 xs ms)
+turn-end b cs k xs ms cs′ k′ ek ed ew es em =
+    let bottom : stack-of cs (k - 1) ≡ [] = rw ek (unfold stack-of in refl) in
+    let go : step b (state-of cs k 0 xs ms) ≡ record { stack = []; next = 0; memory = root-closed (mem xs ms) (deep b 0) (wide b 0) } =
+    ap (λ (l : List ℕ). step b (record { stack = l; next = 0; memory = mem xs ms })) (one cs k ek) ∙ step-end b (getD cs 0 0) (mem xs ms) in
+    let em′ = rw (ed, ew) at em in
+    (λ i. record { stack = (es ∙ bottom) i; next = 0; memory = em′ i }) ∙ sym go
+
+-- ---- what a turn needs, told of the chain
+pub shut-two : (b : Chart) (cs : List ℕ) (k : ℕ) (xs ms : List ℕ) {c f level : ℕ} → Turning b (state-of cs k 0 xs ms) → 1 < k → c ≡ getD cs (k - 1) 0 → f ≡ getD cs (k - 1 - 1) 0 → level ≡ k - 1 - 1
+    → Closing b level f c xs ms
+shut-two b cs k xs ms {c} {f} {level} h lt ec ef el =
+    let s : Shutting b (getD cs (k - 1) 0 ∷ getD cs (k - 1 - 1) 0 ∷ stack-of cs (k - 1 - 1)) (mem xs ms) = subst (λ (l : List ℕ). Shutting b l (mem xs ms)) (two cs k lt) (h .shut refl) in
+    let s₁ = subst (λ (x : ℕ). Closing b (length (stack-of cs (k - 1 - 1))) (getD cs (k - 1 - 1) 0) x xs ms) (sym ec) s in
+    let s₂ = subst (λ (x : ℕ). Closing b (length (stack-of cs (k - 1 - 1))) x c xs ms) (sym ef) s₁ in
+    subst (λ (l : ℕ). Closing b l f c xs ms) (stack-of-length cs (k - 1 - 1) ∙ sym el) s₂
+
+pub shut-one : (b : Chart) (cs : List ℕ) (k : ℕ) (xs ms : List ℕ) → Turning b (state-of cs k 0 xs ms) → k ≡ 1 → Ending b (mem xs ms)
+shut-one b cs k xs ms h e = subst (λ (l : List ℕ). Shutting b l (mem xs ms)) (one cs k e) (h .shut refl)
+
+pub turn-some : (b : Chart) (cs : List ℕ) (k : ℕ) (xs ms : List ℕ) → Turning b (state-of cs k 0 xs ms) → (0 < k) × (k ≤ 32)
+turn-some b cs k xs ms h = let e = stack-of-length cs k in (omega (arith, h .some), omega (arith, h .many))
+
+-- ---- the numbers that the code finds on its way
+pub settle-ready : (m : Memory) (at f c d w : ℕ) {hs : ℕ} {xs ms : List ℕ} → Finishing m at f c d w → mem xs ms ≡ completed m (at + 2) c d w → hs ≡ height (m .marks) c d → Settling (mem xs ms) at f c hs
+settle-ready m at f c d w h e eh = rw (e, eh) (h .settling)
+
+pub finish-found : (m : Memory) (at f c d w place apt a : ℕ) {hs : ℕ} {xs ms xs′ ms′ : List ℕ} → mem xs ms ≡ completed m (at + 2) c d w → hs ≡ height (m .marks) c d
+    → mem xs′ ms′ ≡ settled (mem xs ms) at f c hs place apt a → mem xs′ ms′ ≡ finished m at f c d w place apt a
+finish-found m at f c d w place apt a e eh es = es ∙ rw (e, eh)
+
+pub root-found : (m : Memory) (d w : ℕ) {hs : ℕ} {xs ms xs′ : List ℕ} → mem xs ms ≡ completed m 0 0 d w → hs ≡ height (m .marks) 0 d → xs′ ≡ box-to xs 0 0 hs → mem xs′ ms ≡ root-closed m d w
+unfolding root-closed
+root-found m d w e eh ex = cc (ap (λ (n : Memory). n .rows) e, ap (λ (n : Memory). n .marks) e)
+
+pub child-ready : (b : Chart) (level f c : ℕ) (xs ms : List ℕ) → Closing b level f c xs ms → {d w at : ℕ} {ys : List ℕ} → d ≡ deep b c → w ≡ wide b c → at ≡ 2 * level → ys ≡ drop (row-size * top b c) xs → Finishing (mem ys ms) at f c d w
+child-ready b level f c xs ms h ed ew ea ey = rw (ed, ew, ea, ey) (h .finishing)
+
+pub close-found : (b : Chart) (level f c : ℕ) (xs ms : List ℕ) {d w y place a : ℕ} {ys ys′ ms′ zs : List ℕ} → d ≡ deep b c → w ≡ wide b c → y ≡ top b c → place ≡ link (b .links) c 2 → a ≡ apt b f
+    → ys ≡ drop (row-size * y) xs → mem ys′ ms′ ≡ finished (mem ys ms) (2 * level) f c d w place a (b .allowance) → zs ≡ take (row-size * y) xs ++ ys′ → mem zs ms′ ≡ closed b level f c (mem xs ms)
+unfolding closed
+close-found b level f c xs ms ed ew ey ep ea eys em ez =
+    let e = rw (ed, ew, ep, ea, eys, ey) at em in
+    let ez′ = rw ey at ez in
+    (λ i. mem (ez′ i) (e i .marks)) ∙ (λ i. mem (take (row-size * top b c) xs ++ e i .rows) (finished (mem (drop (row-size * top b c) xs) ms) (2 * level) f c (deep b c) (wide b c) (link (b .links) c 2) (apt b f) (b .allowance) .marks))
