@@ -141,6 +141,19 @@ pub fn label_refusal(file: &[u8], cell: usize) -> Refusal {
     Refusal { number: r.number, cell: r.cell }
 }
 
+/// Label: a cell's label, as that part of the file's own bytes; refused, the empty part at byte 0.
+pub fn label(file: &[u8], cell: usize) -> &[u8] {
+    if label_refusal(file, cell).number != 0 {
+        return &file[..0];
+    }
+    let mut table = [Record::default(); 256];
+    if read(file, &mut table).is_err() {
+        return &file[..0];
+    }
+    let start = table[cell].label_start as usize;
+    &file[start..start + table[cell].label_length as usize]
+}
+
 /// Layout: x then y of each cell into the positions; 16,384 numbers of scratch, which are left zero.
 pub fn layout(table: &[Record], allowance: u32, scratch: &mut [u32], positions: &mut [i32]) -> Result<Sheet, Refusal> {
     // SAFETY: the pointers are good for their lengths, and the two that are written share nothing.

@@ -1,15 +1,18 @@
 //! Compares every call of the compiled engine with the reference on seeded random inputs: the answers,
-//! and every lent buffer whole after the call. Stops at the first difference, with status 1.
+//! and every lent buffer whole after the call. Each buffer ends, or begins, at a page that may not be
+//! touched. Stops at the first difference, with status 1.
 //!
 //!     compare [INPUTS [SEED [FIRST]]]
 //!
 //! Input number k depends on the seed and k alone, so a difference is run again by `compare 1 SEED k`.
 
 use bindings::Record;
+use compare::guard::Guarded;
 use reference::generate as make;
 use reference::rng::Rng;
 use reference::{Cell, Refusal, MAX_CELLS, SCRATCH};
 use std::collections::BTreeMap;
+use std::mem::size_of;
 use std::process::exit;
 use std::time::Instant;
 
@@ -34,11 +37,20 @@ fn records(cells: &[Cell]) -> Vec<Record> {
     cells.iter().map(record).collect()
 }
 
+/// Where the buffers that are lent to the engine stand.
+struct Rooms {
+    file: Guarded,
+    table: Guarded,
+    positions: Guarded,
+    scratch: Guarded,
+}
+
 struct Run {
     seed: u64,
     number: u64,
     seen: Seen,
     calls: u64,
+    rooms: Rooms,
 }
 
 impl Run {
@@ -66,21 +78,28 @@ impl Run {
             label_start: rng.next() as u16,
         };
         let mut theirs = vec![pattern; room];
-        let mut ours = records(&theirs);
-        let expected = reference::read(file, &mut theirs);
-        let got = bindings::read(file, &mut ours)
+        let at_end = rng.once_in(2);
+        let lent = self.rooms.file.lend(file, at_end);
+        let ours = self.rooms.table.lend(&records(&theirs), at_end);
+        let got = bindings::read(lent, ours)
             .map(|p| (p.count as u32, p.allowance as u32))
             .map_err(|r| Refusal { number: r.number as u32, cell: r.cell as u32 });
+        let (lent, ours) = (lent.to_vec(), ours.to_vec());
+        let expected = reference::read(file, &mut theirs);
         self.same("Read's answer", &got, &expected, &file);
         self.same("the table after Read", &ours, &records(&theirs), &file);
+        self.same("the file after Read", &lent.as_slice(), &file, &file);
         self.count("Read", named(&expected.map(|_| ())));
     }
 
     fn labels(&mut self, rng: &mut Rng, file: &[u8]) {
         for cell in [0, rng.index(4), rng.index(300), rng.next() as usize] {
             let expected = reference::label_refusal(file, cell);
-            let got = bindings::label_refusal(file, cell);
+            let lent = self.rooms.file.lend(file, rng.once_in(2));
+            let got = bindings::label_refusal(lent, cell);
+            let part = place_of(bindings::label(lent, cell), lent);
             self.same("Label's refusal", &(got.number as u32, got.cell as u32), &(expected.number, expected.cell), &(cell, file));
+            self.same("Label's part of the file", &part, &place_of(reference::label(file, cell), file), &(cell, file));
             self.count("Label", if expected.number == 0 { "accepted".into() } else { format!("refused {:2}", expected.number) });
         }
     }
@@ -94,28 +113,37 @@ impl Run {
         let scratch = if rng.once_in(60) { SCRATCH - 1 - rng.index(2) } else { SCRATCH + rng.index(3) * rng.index(40) };
         let (x, s) = (rng.next() as i32, rng.next() as u32);
         let (mut theirs, mut their_scratch) = (vec![x; room], vec![s; scratch]);
-        let (mut ours, mut our_scratch) = (theirs.clone(), their_scratch.clone());
-        let expected = reference::layout(cells, allowance, &mut theirs, &mut their_scratch);
-        let got = bindings::layout(&records(cells), allowance, &mut our_scratch, &mut ours)
+        let at_end = rng.once_in(2);
+        let ours = self.rooms.positions.lend(&theirs, at_end);
+        let our_scratch = self.rooms.scratch.lend(&their_scratch, at_end);
+        let table = self.rooms.table.lend(&records(cells), at_end);
+        let got = bindings::layout(table, allowance, our_scratch, ours)
             .map(|m| reference::Measure { width: m.width, rows: m.rows })
             .map_err(|r| Refusal { number: r.number as u32, cell: r.cell as u32 });
+        let (ours, our_scratch, table) = (ours.to_vec(), our_scratch.to_vec(), table.to_vec());
+        let expected = reference::layout(cells, allowance, &mut theirs, &mut their_scratch);
         let input = (allowance, room, scratch, cells);
         self.same("Layout's answer", &got, &expected, &input);
         self.same("the positions after Layout", &ours, &theirs, &input);
         self.same("the scratch after Layout", &our_scratch, &their_scratch, &input);
+        self.same("the table after Layout", &table, &records(cells), &input);
         self.count("Layout", named(&expected.map(|_| ())));
         ours
     }
 
-    fn check(&mut self, cells: &[Cell], positions: &[i32], allowance: u32) {
+    fn check(&mut self, rng: &mut Rng, cells: &[Cell], positions: &[i32], allowance: u32) {
         let expected = reference::check(cells, positions, allowance);
-        let got = bindings::check(&records(cells), positions, allowance)
+        let table = self.rooms.table.lend(&records(cells), rng.once_in(2));
+        let lent = self.rooms.positions.lend(positions, rng.once_in(2));
+        let got = bindings::check(table, lent, allowance)
             .map(|v| match v {
                 bindings::Verdict::Kept(m) => reference::Verdict::Kept(reference::Measure { width: m.width, rows: m.rows }),
                 bindings::Verdict::Broken { rule, a, b } => reference::Verdict::Broken { rule: rule as u32, a: a as u32, b: b as u32 },
             })
             .map_err(|r| Refusal { number: r.number as u32, cell: r.cell as u32 });
+        let (table, lent) = (table.to_vec(), lent.to_vec());
         self.same("Check's answer", &got, &expected, &(allowance, positions, cells));
+        self.same("the buffers after Check", &(lent.as_slice(), table), &(positions, records(cells)), &cells);
         let answer = match expected {
             Ok(reference::Verdict::Kept(_)) => "kept".into(),
             Ok(reference::Verdict::Broken { rule, .. }) => format!("broken S{rule}"),
@@ -124,12 +152,16 @@ impl Run {
         self.count("Check", answer);
     }
 
-    fn ends(&mut self, cells: &[Cell], positions: &[i32], cell: usize) {
+    fn ends(&mut self, rng: &mut Rng, cells: &[Cell], positions: &[i32], cell: usize) {
         let expected = reference::ends(cells, positions, cell);
-        let got = bindings::ends(&records(cells), positions, cell)
+        let table = self.rooms.table.lend(&records(cells), rng.once_in(2));
+        let lent = self.rooms.positions.lend(positions, rng.once_in(2));
+        let got = bindings::ends(table, lent, cell)
             .map(|e| reference::Ends { from: e.from, to: e.to })
             .map_err(|r| Refusal { number: r.number as u32, cell: r.cell as u32 });
+        let (table, lent) = (table.to_vec(), lent.to_vec());
         self.same("Ends' answer", &got, &expected, &(cell, positions, cells));
+        self.same("the buffers after Ends", &(lent.as_slice(), table), &(positions, records(cells)), &cells);
         self.count("Ends", named(&expected.map(|_| ())));
     }
 
@@ -191,7 +223,7 @@ impl Run {
             allowance = rng.pick(&[65_536, 65_537, 100_000, u32::MAX]);
         }
         let ours = self.layout(rng, &cells, allowance);
-        self.check(&cells, &ours, allowance);
+        self.check(rng, &cells, &ours, allowance);
         let foreign = if valid {
             let mut p = make::foreign(rng, &cells, allowance.min(65_535));
             p.extend((0..rng.index(4)).map(|_| 70_000));
@@ -200,11 +232,17 @@ impl Run {
             (0..2 * cells.len() + rng.index(3)).map(|_| rng.between(-70_000, 70_000) as i32).collect()
         };
         let under = if rng.once_in(4) { make::allowance(rng) } else { allowance };
-        self.check(&cells, &foreign, under);
+        self.check(rng, &cells, &foreign, under);
         for cell in [rng.index(cells.len() + 2), rng.index(cells.len() + 1), rng.next() as usize] {
-            self.ends(&cells, if rng.once_in(2) { &ours } else { &foreign }, cell);
+            let positions = if rng.once_in(2) { &ours } else { &foreign };
+            self.ends(rng, &cells, positions, cell);
         }
     }
+}
+
+/// Where a part of a file begins, and its length.
+fn place_of(part: &[u8], file: &[u8]) -> (usize, usize) {
+    (part.as_ptr() as usize - file.as_ptr() as usize, part.len())
 }
 
 fn named(r: &Result<(), Refusal>) -> String {
@@ -253,7 +291,13 @@ fn main() {
     let seed = args.get(1).copied().unwrap_or(SEED);
     let first = args.get(2).copied().unwrap_or(0);
     let began = Instant::now();
-    let mut run = Run { seed, number: 0, seen: Seen::new(), calls: 0 };
+    let rooms = Rooms {
+        file: Guarded::new(20_000),
+        table: Guarded::new(400 * size_of::<Record>()),
+        positions: Guarded::new(4 * 1_000),
+        scratch: Guarded::new(4 * (SCRATCH + 200)),
+    };
+    let mut run = Run { seed, number: 0, seen: Seen::new(), calls: 0, rooms };
     for number in first..first + inputs {
         run.number = number;
         let mut rng = Rng::new(seed, number);

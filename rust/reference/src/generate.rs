@@ -224,12 +224,21 @@ pub fn sheet(cells: &[Cell], allowance: u32) -> Vec<i32> {
 pub fn foreign(rng: &mut Rng, cells: &[Cell], allowance: u32) -> Vec<i32> {
     let plan = Plan::new(cells);
     let n = cells.len();
-    let under = if rng.once_in(3) { allowance.saturating_sub(rng.between(0, 5) as u32) } else { allowance };
+    // Laid out for a greater allowance it may break S5, and for a smaller one it is kept.
+    let under = match rng.index(6) {
+        0 => allowance.saturating_sub(rng.between(0, 5) as u32),
+        1 => allowance + rng.between(1, 30) as u32,
+        _ => allowance,
+    };
     let mut distances = distances_by_pairs(&plan, under as i64);
-    if rng.once_in(2) {
+    let mut pairs: Vec<_> = distances.keys().copied().collect();
+    pairs.sort();
+    if rng.once_in(3) && !pairs.is_empty() {
+        // One distance short by one: S3, S4 or S5, whichever asked for it.
+        let short = rng.pick(&pairs);
+        *distances.get_mut(&short).unwrap() -= 1;
+    } else if rng.once_in(2) {
         // Wider, or narrower here and there.
-        let mut pairs: Vec<_> = distances.keys().copied().collect();
-        pairs.sort();
         for pair in pairs {
             if rng.once_in(4) {
                 *distances.get_mut(&pair).unwrap() += rng.pick(&[1, 1, 2, 7, 100, -1]);
@@ -237,24 +246,24 @@ pub fn foreign(rng: &mut Rng, cells: &[Cell], allowance: u32) -> Vec<i32> {
         }
     }
     let mut p: Vec<i32> = place(&plan, &distances).iter().flat_map(|&(x, y)| [x as i32, y as i32]).collect();
-    match rng.index(8) {
-        0 | 1 => {}
-        2 => {
+    match rng.index(11) {
+        0..=4 => {}
+        5 => {
             // A sub-diagram aside.
             let (top, by) = (rng.index(n), rng.pick(&[-2, -1, 1, 2, 50]));
             for c in plan.sub_diagram(top) {
                 p[2 * c] += by;
             }
         }
-        3 | 4 => {
+        6 | 7 => {
             let k = rng.index(2 * n);
             p[k] += rng.pick(&[-3, -1, 1, 3]);
         }
-        5 => {
+        8 => {
             let k = rng.index(2 * n);
             p[k] = rng.pick(&[-65_536, -65_535, 65_535, 65_536, i32::MIN, i32::MAX, 0]);
         }
-        6 => {
+        9 => {
             let (from, to) = (rng.index(n), rng.index(n));
             p.swap(2 * from, 2 * to);
         }

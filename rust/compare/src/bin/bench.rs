@@ -60,25 +60,25 @@ fn main() {
             let last = records.len() - 1;
             assert_eq!(bindings::ends(&records, &positions, last), plain::ends(&records, &positions, last));
 
-            let mut line = |call: &str, (engine, rust): (f64, f64)| {
+            let line = |call: &str, (engine, rust): (f64, f64)| {
                 println!("| {call} | {shape:?} | {} | {} | {engine:.0} | {rust:.0} | {:.2} |", records.len(), sheet.rows, engine / rust);
             };
             let mut other = scratch.clone();
             line("Layout", race(
-                || drop(black_box(bindings::layout(black_box(&records), 10, &mut scratch, &mut positions))),
-                || drop(black_box(plain::layout(black_box(&records), 10, &mut other, &mut same))),
+                || { black_box(bindings::layout(black_box(&records), 10, &mut scratch, &mut positions)); },
+                || { black_box(plain::layout(black_box(&records), 10, &mut other, &mut same)); },
             ));
             line("Check", race(
-                || drop(black_box(bindings::check(black_box(&records), &positions, 10))),
-                || drop(black_box(plain::check(black_box(&records), &positions, 10))),
+                || { black_box(bindings::check(black_box(&records), &positions, 10)); },
+                || { black_box(plain::check(black_box(&records), &positions, 10)); },
             ));
             line("Read", race(
-                || drop(black_box(bindings::read(black_box(&bytes), &mut t))),
-                || drop(black_box(plain::read(black_box(&bytes), &mut u))),
+                || { black_box(bindings::read(black_box(&bytes), &mut t)); },
+                || { black_box(plain::read(black_box(&bytes), &mut u)); },
             ));
             line("Ends", race(
-                || drop(black_box(bindings::ends(black_box(&records), &positions, last))),
-                || drop(black_box(plain::ends(black_box(&records), &positions, last))),
+                || { black_box(bindings::ends(black_box(&records), &positions, last)); },
+                || { black_box(plain::ends(black_box(&records), &positions, last)); },
             ));
         }
     }
