@@ -14,6 +14,10 @@ unset KUZPALEN_LIB_DIR
 cargo build --offline --quiet --release -p compare
 cargo test --offline --quiet --release -p reference
 ./target/release/compare "$inputs" "$seed"
+if command -v cc >/dev/null; then
+    cc -Wall -Wextra -o target/smoke smoke.c ../target/staticlib/libcapi.a
+    ./target/smoke
+fi
 if [ -x ../target/bin/sheet ]; then
     ./target/release/listing ../target/bin/sheet 1000 "$seed"
 fi

@@ -74,7 +74,7 @@ fn father(rng: &mut Rng, shape: Shape, made: usize, full: usize) -> usize {
     let last = made - 1;
     match shape {
         Shape::Scattered => rng.index(made),
-        Shape::Deep => last - rng.index(made.min(3)),
+        Shape::Deep => last - rng.index(made.min(3 + full)),
         Shape::Chain if rng.once_in(12) => rng.index(made),
         Shape::Chain => last - (full % made.min(8)),
         Shape::Wide => rng.index(made.min(2 + full)),

@@ -65,20 +65,20 @@ fn main() {
             };
             let mut other = scratch.clone();
             line("Layout", race(
-                || { black_box(bindings::layout(black_box(&records), 10, &mut scratch, &mut positions)); },
-                || { black_box(plain::layout(black_box(&records), 10, &mut other, &mut same)); },
+                || { let _ = black_box(bindings::layout(black_box(&records), 10, &mut scratch, &mut positions)); },
+                || { let _ = black_box(plain::layout(black_box(&records), 10, &mut other, &mut same)); },
             ));
             line("Check", race(
-                || { black_box(bindings::check(black_box(&records), &positions, 10)); },
-                || { black_box(plain::check(black_box(&records), &positions, 10)); },
+                || { let _ = black_box(bindings::check(black_box(&records), &positions, 10)); },
+                || { let _ = black_box(plain::check(black_box(&records), &positions, 10)); },
             ));
             line("Read", race(
-                || { black_box(bindings::read(black_box(&bytes), &mut t)); },
-                || { black_box(plain::read(black_box(&bytes), &mut u)); },
+                || { let _ = black_box(bindings::read(black_box(&bytes), &mut t)); },
+                || { let _ = black_box(plain::read(black_box(&bytes), &mut u)); },
             ));
             line("Ends", race(
-                || { black_box(bindings::ends(black_box(&records), &positions, last)); },
-                || { black_box(plain::ends(black_box(&records), &positions, last)); },
+                || { let _ = black_box(bindings::ends(black_box(&records), &positions, last)); },
+                || { let _ = black_box(plain::ends(black_box(&records), &positions, last)); },
             ));
         }
     }
