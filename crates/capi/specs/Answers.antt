@@ -1,0 +1,44 @@
+-- The answers of the calls as structs of numbers: a case's own numbers, and 0 for all that it does not have. Assumes nothing.
+use mathlib.Core.Path.{_≡_}
+use mathlib.Core.List.{List}
+use Prim.Native.Nat.{ℕ}
+use lib.IntN.{ℤ, pos}
+use Rattle.plan.specs.Plan.{Table}
+use Rattle.planfile.specs.declared.Reading.{Reading}
+use Rattle.drawing.specs.Laid.{Lays}
+use Rattle.drawing.specs.declared.Laid.{Laid}
+use Rattle.drawing.specs.declared.Laid.the-variants.{Sheet, Refused as Unlaid}
+use Rattle.verdict.specs.declared.Checked.{Checked}
+use Rattle.verdict.specs.declared.Checked.the-variants.{Kept, Broken, Refused as Unchecked}
+use Rattle.connectors.specs.declared.Ended.{Ended}
+use Rattle.connectors.specs.declared.Ended.the-variants.{Joined, Refused as Unended}
+use Rattle.capi.specs.declared.ReadAnswer.{ReadAnswer}
+use Rattle.capi.specs.declared.Parsed.{Parsed}
+use Rattle.capi.specs.declared.LayoutAnswer.{LayoutAnswer}
+use Rattle.capi.specs.declared.CheckAnswer.{CheckAnswer}
+use Rattle.capi.specs.declared.EndsAnswer.{EndsAnswer}
+
+unfoldable pub read-answer : Reading → ReadAnswer
+read-answer r = record { number = r .refusal .number; cell = r .refusal .cell; allowance = r .allowance; count = r .columns .count }
+
+unfoldable pub parsed : Reading → Parsed
+parsed r = record { reading = r; answer = read-answer r }
+
+unfoldable pub laid-answer : Laid → LayoutAnswer
+laid-answer (Sheet w h) = record { number = 0; cell = 0; width = w; rows = h }
+laid-answer (Unlaid k c) = record { number = k; cell = c; width = 0; rows = 0 }
+
+unfoldable pub check-answer : Checked → CheckAnswer
+check-answer (Kept w h) = record { number = 0; cell = 0; rule = 0; a = 0; b = 0; width = w; rows = h }
+check-answer (Broken r a b) = record { number = 0; cell = 0; rule = r; a = a; b = b; width = 0; rows = 0 }
+check-answer (Unchecked k c) = record { number = k; cell = c; rule = 0; a = 0; b = 0; width = 0; rows = 0 }
+
+unfoldable pub ends-answer : Ended → EndsAnswer
+ends-answer (Joined x y x′ y′) = record { number = 0; cell = 0; «from_x» = x; «from_y» = y; «to_x» = x′; «to_y» = y′ }
+ends-answer (Unended k c) = record { number = k; cell = c; «from_x» = pos 0; «from_y» = pos 0; «to_x» = pos 0; «to_y» = pos 0 }
+
+-- a call of Layout, as `Lays` has it, with the struct for its answer
+pub record Laying (t : Table) (al : ℕ) (s s′ : List ℕ) (ps ps′ : List ℤ) (r : LayoutAnswer) : Type 0 where
+  pub laid : Laid
+  pub lays : Lays t al s s′ ps ps′ laid
+  pub answers : r ≡ laid-answer laid

@@ -1,0 +1,105 @@
+/* Control sheets for brine plans: the calls, for C.
+ *
+ * The library is target/staticlib/libcapi.a, which `rt staticlib capi` writes for x86-64 Linux.
+ *
+ * A lent buffer is a pointer and the number of its elements, not of its bytes. The pointer must be good
+ * for that many, aligned for its type and not NULL, even where the number is 0. A buffer that a call
+ * writes may share no byte with another buffer of the call. Nothing else is asked of a caller, and each
+ * call answers on every input; none keeps a pointer, allocates or fails otherwise.
+ *
+ * Every answer begins with a refusal: `number` is 0, or the number of the first question answered "no"
+ * (1 to 16), and `cell` is then the lowest cell at fault, 0 where no cell is concerned. All other fields
+ * of a refusal are 0, and every lent buffer is then as it was before the call.
+ */
+#ifndef KUZPALEN_H
+#define KUZPALEN_H
+
+#include <stddef.h>
+#include <stdint.h>
+
+#ifdef __cplusplus
+extern "C" {
+#endif
+
+#define KUZPALEN_CELLS 256u      /* the most cells of a plan; the records that Read's table needs */
+#define KUZPALEN_SCRATCH 16384u  /* the numbers that Layout's scratch needs */
+#define KUZPALEN_NO_PARENT 65535u
+
+/* One record of a table, which has one for each cell: cell 0 is the root. */
+typedef struct {
+    uint16_t parent;       /* KUZPALEN_NO_PARENT for the root, else less than the cell's own number */
+    uint8_t kind;          /* 1 step, 2 run, 3 repeat, 4 choice, 5 wait */
+    uint16_t width;        /* 1 to 255 */
+    uint8_t depth;         /* 1 to 15 */
+    uint8_t label_length;  /* the label: so many bytes of the file, */
+    uint16_t label_start;  /* from this one on. Only Read and Label look at the two label fields */
+} kuzpalen_record;
+
+typedef struct {
+    uint8_t number;
+    uint16_t cell;
+    uint16_t allowance;
+    size_t count;          /* the number of cells */
+} kuzpalen_read_answer;
+
+typedef struct {
+    uint8_t number;
+    uint16_t cell;
+} kuzpalen_label_answer;
+
+typedef struct {
+    uint8_t number;
+    uint16_t cell;
+    uint32_t width;
+    uint32_t rows;
+} kuzpalen_layout_answer;
+
+typedef struct {
+    uint8_t number;
+    uint16_t cell;
+    uint8_t rule;          /* 0 for "kept"; 1 to 5 for "broken", the lowest rule broken, */
+    uint16_t a;            /* then the lowest a, */
+    uint16_t b;            /* then the lowest b; 0 for "kept" */
+    uint32_t width;        /* of a placement that is kept, else 0 */
+    uint32_t rows;
+} kuzpalen_check_answer;
+
+typedef struct {
+    uint8_t number;
+    uint16_t cell;
+    int32_t from_x;        /* under the parent's box */
+    int32_t from_y;
+    int32_t to_x;          /* on the cell's box */
+    int32_t to_y;
+} kuzpalen_ends_answer;
+
+/* Read: a plan file into a table. `table_len` is at least KUZPALEN_CELLS, or question 1 refuses. The
+ * first `count` records are written, and no other. */
+kuzpalen_read_answer kuzpalen_read(const uint8_t *file, size_t file_len,
+                                   kuzpalen_record *table, size_t table_len);
+
+/* Label: why a cell has no label, or 0 and 0. Where there is no refusal, the label is the part of the
+ * file that the cell's record names after Read: file + label_start, label_length bytes. */
+kuzpalen_label_answer kuzpalen_label_refusal(const uint8_t *file, size_t file_len, size_t cell);
+
+/* Layout: a table to positions, x then y of each cell. `positions_len` is at least twice `table_len`, and
+ * `scratch_len` at least KUZPALEN_SCRATCH, or question 1 refuses. Positions past those of the cells stay
+ * as they were; the first KUZPALEN_SCRATCH numbers of the scratch become 0, later ones stay. */
+kuzpalen_layout_answer kuzpalen_layout(const kuzpalen_record *table, size_t table_len, uint32_t allowance,
+                                       uint32_t *scratch, size_t scratch_len,
+                                       int32_t *positions, size_t positions_len);
+
+/* Check: whether positions keep S1 to S5. `positions_len` is at least twice `table_len`, or question 1
+ * refuses; numbers past those of the cells are not looked at. */
+kuzpalen_check_answer kuzpalen_check(const kuzpalen_record *table, size_t table_len,
+                                     const int32_t *positions, size_t positions_len, uint32_t allowance);
+
+/* Ends: of the connector from a cell's parent to the cell, which is not the root. */
+kuzpalen_ends_answer kuzpalen_ends(const kuzpalen_record *table, size_t table_len,
+                                   const int32_t *positions, size_t positions_len, size_t cell);
+
+#ifdef __cplusplus
+}
+#endif
+
+#endif

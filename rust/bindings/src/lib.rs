@@ -1,0 +1,193 @@
+//! The engine's calls for Rust. Each takes its buffers as slices and passes them on as a pointer and a
+//! length, which is all that the library asks: no call asks anything more of its caller.
+
+/// One record of a table.
+#[repr(C)]
+#[derive(Clone, Copy, Debug, Default, PartialEq, Eq)]
+pub struct Record {
+    pub parent: u16,
+    pub kind: u8,
+    pub width: u16,
+    pub depth: u8,
+    pub label_length: u8,
+    pub label_start: u16,
+}
+
+/// The number of the first question answered "no", and the lowest cell at fault.
+#[derive(Clone, Copy, Debug, PartialEq, Eq)]
+pub struct Refusal {
+    pub number: u8,
+    pub cell: u16,
+}
+
+#[derive(Clone, Copy, Debug, PartialEq, Eq)]
+pub struct Plan {
+    pub count: usize,
+    pub allowance: u16,
+}
+
+#[derive(Clone, Copy, Debug, PartialEq, Eq)]
+pub struct Sheet {
+    pub width: u32,
+    pub rows: u32,
+}
+
+#[derive(Clone, Copy, Debug, PartialEq, Eq)]
+pub enum Verdict {
+    Kept(Sheet),
+    Broken { rule: u8, a: u16, b: u16 },
+}
+
+#[derive(Clone, Copy, Debug, PartialEq, Eq)]
+pub struct Ends {
+    pub from: (i32, i32),
+    pub to: (i32, i32),
+}
+
+mod raw {
+    use super::Record;
+
+    #[repr(C)]
+    pub struct ReadAnswer {
+        pub number: u8,
+        pub cell: u16,
+        pub allowance: u16,
+        pub count: usize,
+    }
+
+    #[repr(C)]
+    pub struct LabelAnswer {
+        pub number: u8,
+        pub cell: u16,
+    }
+
+    #[repr(C)]
+    pub struct LayoutAnswer {
+        pub number: u8,
+        pub cell: u16,
+        pub width: u32,
+        pub rows: u32,
+    }
+
+    #[repr(C)]
+    pub struct CheckAnswer {
+        pub number: u8,
+        pub cell: u16,
+        pub rule: u8,
+        pub a: u16,
+        pub b: u16,
+        pub width: u32,
+        pub rows: u32,
+    }
+
+    #[repr(C)]
+    pub struct EndsAnswer {
+        pub number: u8,
+        pub cell: u16,
+        pub from_x: i32,
+        pub from_y: i32,
+        pub to_x: i32,
+        pub to_y: i32,
+    }
+
+    extern "C" {
+        pub fn kuzpalen_read(file: *const u8, file_len: usize, table: *mut Record, table_len: usize) -> ReadAnswer;
+        pub fn kuzpalen_label_refusal(file: *const u8, file_len: usize, cell: usize) -> LabelAnswer;
+        pub fn kuzpalen_layout(
+            table: *const Record,
+            table_len: usize,
+            allowance: u32,
+            scratch: *mut u32,
+            scratch_len: usize,
+            positions: *mut i32,
+            positions_len: usize,
+        ) -> LayoutAnswer;
+        pub fn kuzpalen_check(
+            table: *const Record,
+            table_len: usize,
+            positions: *const i32,
+            positions_len: usize,
+            allowance: u32,
+        ) -> CheckAnswer;
+        pub fn kuzpalen_ends(
+            table: *const Record,
+            table_len: usize,
+            positions: *const i32,
+            positions_len: usize,
+            cell: usize,
+        ) -> EndsAnswer;
+    }
+}
+
+fn unless<T>(number: u8, cell: u16, answer: T) -> Result<T, Refusal> {
+    if number == 0 {
+        Ok(answer)
+    } else {
+        Err(Refusal { number, cell })
+    }
+}
+
+/// Read: a file into the first records of the table, which needs room for 256.
+pub fn read(file: &[u8], table: &mut [Record]) -> Result<Plan, Refusal> {
+    // SAFETY: both pointers are good for their lengths, and no byte of the file is in the table.
+    let r = unsafe { raw::kuzpalen_read(file.as_ptr(), file.len(), table.as_mut_ptr(), table.len()) };
+    unless(r.number, r.cell, Plan { count: r.count, allowance: r.allowance })
+}
+
+/// Why Label refuses, or 0 and 0.
+pub fn label_refusal(file: &[u8], cell: usize) -> Refusal {
+    // SAFETY: the pointer is good for its length.
+    let r = unsafe { raw::kuzpalen_label_refusal(file.as_ptr(), file.len(), cell) };
+    Refusal { number: r.number, cell: r.cell }
+}
+
+/// Label: a cell's label, as that part of the file's own bytes; refused, the empty part at byte 0.
+pub fn label(file: &[u8], cell: usize) -> &[u8] {
+    if label_refusal(file, cell).number != 0 {
+        return &file[..0];
+    }
+    let mut table = [Record::default(); 256];
+    if read(file, &mut table).is_err() {
+        return &file[..0];
+    }
+    let start = table[cell].label_start as usize;
+    &file[start..start + table[cell].label_length as usize]
+}
+
+/// Layout: x then y of each cell into the positions; 16,384 numbers of scratch, which are left zero.
+pub fn layout(table: &[Record], allowance: u32, scratch: &mut [u32], positions: &mut [i32]) -> Result<Sheet, Refusal> {
+    // SAFETY: the pointers are good for their lengths, and the two that are written share nothing.
+    let r = unsafe {
+        raw::kuzpalen_layout(
+            table.as_ptr(),
+            table.len(),
+            allowance,
+            scratch.as_mut_ptr(),
+            scratch.len(),
+            positions.as_mut_ptr(),
+            positions.len(),
+        )
+    };
+    unless(r.number, r.cell, Sheet { width: r.width, rows: r.rows })
+}
+
+/// Check: kept, or the lowest rule broken with its two cells.
+pub fn check(table: &[Record], positions: &[i32], allowance: u32) -> Result<Verdict, Refusal> {
+    // SAFETY: the pointers are good for their lengths.
+    let r = unsafe {
+        raw::kuzpalen_check(table.as_ptr(), table.len(), positions.as_ptr(), positions.len(), allowance)
+    };
+    let verdict = if r.rule == 0 {
+        Verdict::Kept(Sheet { width: r.width, rows: r.rows })
+    } else {
+        Verdict::Broken { rule: r.rule, a: r.a, b: r.b }
+    };
+    unless(r.number, r.cell, verdict)
+}
+
+/// Ends: of the connector from a cell's parent to the cell.
+pub fn ends(table: &[Record], positions: &[i32], cell: usize) -> Result<Ends, Refusal> {
+    // SAFETY: the pointers are good for their lengths.
+    let r = unsafe { raw::kuzpalen_ends(table.as_ptr(), table.len(), positions.as_ptr(), positions.len(), cell) };
+    unless(r.number, r.cell, Ends { from: (r.from_x, r.from_y), to: (r.to_x, r.to_y) })
+}

@@ -1,0 +1,85 @@
+//! The engine's time for each call against the same algorithm in plain Rust, in one run: the least of
+//! many short batches of each, taken in turns, so that a busy machine slows both alike.
+
+use bindings::Record;
+use compare::plain;
+use reference::generate::{file, labels, table, Shape, Sizes};
+use reference::rng::Rng;
+use std::hint::black_box;
+use std::time::Instant;
+
+const SEED: u64 = 20_261_115;
+const BATCHES: usize = 60;
+
+/// The least time of one call, in nanoseconds: the engine's, and plain Rust's.
+fn race(mut engine: impl FnMut(), mut rust: impl FnMut()) -> (f64, f64) {
+    let began = Instant::now();
+    engine();
+    let once = began.elapsed().as_nanos().max(50);
+    let calls = (400_000 / once).clamp(4, 4_000) as usize;
+    let mut best = (f64::MAX, f64::MAX);
+    for _ in 0..BATCHES {
+        let began = Instant::now();
+        (0..calls).for_each(|_| engine());
+        best.0 = best.0.min(began.elapsed().as_nanos() as f64 / calls as f64);
+        let began = Instant::now();
+        (0..calls).for_each(|_| rust());
+        best.1 = best.1.min(began.elapsed().as_nanos() as f64 / calls as f64);
+    }
+    best
+}
+
+fn main() {
+    println!("| call | shape | cells | rows | engine ns | Rust ns | ratio |\n|---|---|---|---|---|---|---|");
+    for shape in [Shape::Bushy, Shape::Chain, Shape::Deep, Shape::Wide] {
+        for n in [16, 64, 256] {
+            let mut rng = Rng::new(SEED, n as u64);
+            let mut cells = table(&mut rng, shape, n, &Sizes { max_width: 30, max_depth: 3 });
+            let text = labels(&mut rng, &mut cells);
+            let bytes = file(&text, &cells, 10);
+            let records: Vec<Record> = cells
+                .iter()
+                .map(|c| Record {
+                    parent: c.parent,
+                    kind: c.kind,
+                    width: c.width,
+                    depth: c.depth,
+                    label_length: c.label_len,
+                    label_start: c.label_start,
+                })
+                .collect();
+            let (mut scratch, mut positions) = (vec![0; 16_384], vec![0; 2 * records.len()]);
+            let sheet = bindings::layout(&records, 10, &mut scratch, &mut positions).expect("a valid plan");
+            let mut same = positions.clone();
+            assert_eq!(plain::layout(&records, 10, &mut scratch, &mut same), Ok(sheet));
+            assert_eq!(same, positions);
+            let (mut t, mut u) = (vec![Record::default(); 256], vec![Record::default(); 256]);
+            assert_eq!(bindings::read(&bytes, &mut t), plain::read(&bytes, &mut u));
+            assert_eq!(t, u);
+            assert_eq!(bindings::check(&records, &positions, 10), plain::check(&records, &positions, 10));
+            let last = records.len() - 1;
+            assert_eq!(bindings::ends(&records, &positions, last), plain::ends(&records, &positions, last));
+
+            let line = |call: &str, (engine, rust): (f64, f64)| {
+                println!("| {call} | {shape:?} | {} | {} | {engine:.0} | {rust:.0} | {:.2} |", records.len(), sheet.rows, engine / rust);
+            };
+            let mut other = scratch.clone();
+            line("Layout", race(
+                || { let _ = black_box(bindings::layout(black_box(&records), 10, &mut scratch, &mut positions)); },
+                || { let _ = black_box(plain::layout(black_box(&records), 10, &mut other, &mut same)); },
+            ));
+            line("Check", race(
+                || { let _ = black_box(bindings::check(black_box(&records), &positions, 10)); },
+                || { let _ = black_box(plain::check(black_box(&records), &positions, 10)); },
+            ));
+            line("Read", race(
+                || { let _ = black_box(bindings::read(black_box(&bytes), &mut t)); },
+                || { let _ = black_box(plain::read(black_box(&bytes), &mut u)); },
+            ));
+            line("Ends", race(
+                || { let _ = black_box(bindings::ends(black_box(&records), &positions, last)); },
+                || { let _ = black_box(plain::ends(black_box(&records), &positions, last)); },
+            ));
+        }
+    }
+}

@@ -1,0 +1,319 @@
+//! Compares every call of the compiled engine with the reference on seeded random inputs: the answers,
+//! and every lent buffer whole after the call. Each buffer ends, or begins, at a page that may not be
+//! touched. Stops at the first difference, with status 1.
+//!
+//!     compare [INPUTS [SEED [FIRST]]]
+//!
+//! Input number k depends on the seed and k alone, so a difference is run again by `compare 1 SEED k`.
+
+use bindings::Record;
+use compare::guard::Guarded;
+use reference::generate as make;
+use reference::rng::Rng;
+use reference::{Cell, Refusal, MAX_CELLS, SCRATCH};
+use std::collections::BTreeMap;
+use std::mem::size_of;
+use std::process::exit;
+use std::time::Instant;
+
+const SEED: u64 = 20_261_115;
+const INPUTS: u64 = 120_000;
+
+/// How often each call gave each answer.
+type Seen = BTreeMap<(&'static str, String), u64>;
+
+fn record(c: &Cell) -> Record {
+    Record {
+        parent: c.parent,
+        kind: c.kind,
+        width: c.width,
+        depth: c.depth,
+        label_length: c.label_len,
+        label_start: c.label_start,
+    }
+}
+
+fn records(cells: &[Cell]) -> Vec<Record> {
+    cells.iter().map(record).collect()
+}
+
+/// Where the buffers that are lent to the engine stand.
+struct Rooms {
+    file: Guarded,
+    table: Guarded,
+    positions: Guarded,
+    scratch: Guarded,
+}
+
+struct Run {
+    seed: u64,
+    number: u64,
+    seen: Seen,
+    calls: u64,
+    rooms: Rooms,
+}
+
+impl Run {
+    fn same<T: PartialEq + std::fmt::Debug>(&self, what: &str, ours: &T, theirs: &T, input: &dyn std::fmt::Debug) {
+        if ours != theirs {
+            println!("DIFFERENCE: seed {} input {}: {what}", self.seed, self.number);
+            println!("  engine    {ours:?}\n  reference {theirs:?}\n  input {input:?}");
+            exit(1);
+        }
+    }
+
+    fn count(&mut self, call: &'static str, answer: String) {
+        self.calls += 1;
+        *self.seen.entry((call, answer)).or_insert(0) += 1;
+    }
+
+    fn read(&mut self, rng: &mut Rng, file: &[u8]) {
+        let room = if rng.once_in(40) { rng.index(MAX_CELLS) } else { MAX_CELLS + rng.index(20) };
+        let pattern = Cell {
+            parent: rng.next() as u16,
+            kind: rng.next() as u8,
+            width: rng.next() as u16,
+            depth: rng.next() as u8,
+            label_len: rng.next() as u8,
+            label_start: rng.next() as u16,
+        };
+        let mut theirs = vec![pattern; room];
+        let at_end = rng.once_in(2);
+        let lent = self.rooms.file.lend(file, at_end);
+        let ours = self.rooms.table.lend(&records(&theirs), at_end);
+        let got = bindings::read(lent, ours)
+            .map(|p| (p.count as u32, p.allowance as u32))
+            .map_err(|r| Refusal { number: r.number as u32, cell: r.cell as u32 });
+        let (lent, ours) = (lent.to_vec(), ours.to_vec());
+        let expected = reference::read(file, &mut theirs);
+        self.same("Read's answer", &got, &expected, &file);
+        self.same("the table after Read", &ours, &records(&theirs), &file);
+        self.same("the file after Read", &lent.as_slice(), &file, &file);
+        self.count("Read", named(&expected.map(|_| ())));
+    }
+
+    fn labels(&mut self, rng: &mut Rng, file: &[u8]) {
+        for cell in [0, rng.index(4), rng.index(300), rng.next() as usize] {
+            let expected = reference::label_refusal(file, cell);
+            let lent = self.rooms.file.lend(file, rng.once_in(2));
+            let got = bindings::label_refusal(lent, cell);
+            let part = place_of(bindings::label(lent, cell), lent);
+            self.same("Label's refusal", &(got.number as u32, got.cell as u32), &(expected.number, expected.cell), &(cell, file));
+            self.same("Label's part of the file", &part, &place_of(reference::label(file, cell), file), &(cell, file));
+            self.count("Label", if expected.number == 0 { "accepted".into() } else { format!("refused {:2}", expected.number) });
+        }
+    }
+
+    fn layout(&mut self, rng: &mut Rng, cells: &[Cell], allowance: u32) -> Vec<i32> {
+        let room = match rng.index(40) {
+            0 => (2 * cells.len()).saturating_sub(1 + rng.index(3)),
+            1 => 2 * cells.len(),
+            _ => 2 * cells.len() + rng.index(9),
+        };
+        let scratch = if rng.once_in(60) { SCRATCH - 1 - rng.index(2) } else { SCRATCH + rng.index(3) * rng.index(40) };
+        let (x, s) = (rng.next() as i32, rng.next() as u32);
+        let (mut theirs, mut their_scratch) = (vec![x; room], vec![s; scratch]);
+        let at_end = rng.once_in(2);
+        let ours = self.rooms.positions.lend(&theirs, at_end);
+        let our_scratch = self.rooms.scratch.lend(&their_scratch, at_end);
+        let table = self.rooms.table.lend(&records(cells), at_end);
+        let got = bindings::layout(table, allowance, our_scratch, ours)
+            .map(|m| reference::Measure { width: m.width, rows: m.rows })
+            .map_err(|r| Refusal { number: r.number as u32, cell: r.cell as u32 });
+        let (ours, our_scratch, table) = (ours.to_vec(), our_scratch.to_vec(), table.to_vec());
+        let expected = reference::layout(cells, allowance, &mut theirs, &mut their_scratch);
+        let input = (allowance, room, scratch, cells);
+        self.same("Layout's answer", &got, &expected, &input);
+        self.same("the positions after Layout", &ours, &theirs, &input);
+        self.same("the scratch after Layout", &our_scratch, &their_scratch, &input);
+        self.same("the table after Layout", &table, &records(cells), &input);
+        self.count("Layout", named(&expected.map(|_| ())));
+        ours
+    }
+
+    fn check(&mut self, rng: &mut Rng, cells: &[Cell], positions: &[i32], allowance: u32) {
+        let expected = reference::check(cells, positions, allowance);
+        let table = self.rooms.table.lend(&records(cells), rng.once_in(2));
+        let lent = self.rooms.positions.lend(positions, rng.once_in(2));
+        let got = bindings::check(table, lent, allowance)
+            .map(|v| match v {
+                bindings::Verdict::Kept(m) => reference::Verdict::Kept(reference::Measure { width: m.width, rows: m.rows }),
+                bindings::Verdict::Broken { rule, a, b } => reference::Verdict::Broken { rule: rule as u32, a: a as u32, b: b as u32 },
+            })
+            .map_err(|r| Refusal { number: r.number as u32, cell: r.cell as u32 });
+        let (table, lent) = (table.to_vec(), lent.to_vec());
+        self.same("Check's answer", &got, &expected, &(allowance, positions, cells));
+        self.same("the buffers after Check", &(lent.as_slice(), table), &(positions, records(cells)), &cells);
+        let answer = match expected {
+            Ok(reference::Verdict::Kept(_)) => "kept".into(),
+            Ok(reference::Verdict::Broken { rule, .. }) => format!("broken S{rule}"),
+            Err(r) => format!("refused {:2}", r.number),
+        };
+        self.count("Check", answer);
+    }
+
+    fn ends(&mut self, rng: &mut Rng, cells: &[Cell], positions: &[i32], cell: usize) {
+        let expected = reference::ends(cells, positions, cell);
+        let table = self.rooms.table.lend(&records(cells), rng.once_in(2));
+        let lent = self.rooms.positions.lend(positions, rng.once_in(2));
+        let got = bindings::ends(table, lent, cell)
+            .map(|e| reference::Ends { from: e.from, to: e.to })
+            .map_err(|r| Refusal { number: r.number as u32, cell: r.cell as u32 });
+        let (table, lent) = (table.to_vec(), lent.to_vec());
+        self.same("Ends' answer", &got, &expected, &(cell, positions, cells));
+        self.same("the buffers after Ends", &(lent.as_slice(), table), &(positions, records(cells)), &cells);
+        self.count("Ends", named(&expected.map(|_| ())));
+    }
+
+    /// A file, valid or damaged, through Read and Label.
+    fn a_file(&mut self, rng: &mut Rng) {
+        let mut cells = if rng.once_in(10) { make::too_tall(rng) } else { some_table(rng) };
+        let labels = make::labels(rng, &mut cells);
+        if rng.once_in(3) {
+            make::damage_table(rng, &mut cells);
+        }
+        let mut file = make::file(&labels, &cells, rng.next() as u16);
+        match rng.index(12) {
+            0..=3 => {}
+            4 => file = (0..rng.between(0, 80)).map(|_| rng.next() as u8).collect(),
+            5 => {
+                // At the edges of the file's length.
+                let len = rng.pick(&[15, 16, 17, 16_383, 16_384, 16_385]) as usize;
+                let n = 1.max((len.saturating_sub(8) / 8).min(rng.between(1, 20) as usize));
+                let one = Cell { parent: 65_535, kind: 1, width: 2, depth: 1, ..Cell::default() };
+                let many: Vec<Cell> = (0..n).map(|i| if i == 0 { one } else { Cell { parent: 0, ..one } }).collect();
+                let room = len.saturating_sub(8 * n + 8);
+                file = make::file(&vec![b'a'; room], &many, 0);
+            }
+            6 => {
+                // Short labels in a wide box, with a byte that is not allowed now and then.
+                if !labels.is_empty() {
+                    let i = rng.index(labels.len());
+                    file[i] = rng.pick(&[31, 32, 126, 127, 0, 255]);
+                }
+            }
+            _ => {
+                for _ in 0..rng.between(1, 2) {
+                    make::damage_file(rng, &mut file);
+                }
+            }
+        }
+        self.read(rng, &file);
+        self.labels(rng, &file);
+    }
+
+    /// A table, valid or damaged, through Layout, Check and Ends.
+    fn a_table(&mut self, rng: &mut Rng) {
+        let mut cells = if rng.once_in(30) { make::too_tall(rng) } else { some_table(rng) };
+        let mut allowance = make::allowance(rng);
+        let mut valid = reference::layout(&cells, 0, &mut vec![0; 512], &mut vec![0; SCRATCH]).is_ok();
+        if rng.once_in(3) {
+            for _ in 0..rng.between(1, 2) {
+                if !cells.is_empty() {
+                    make::damage_table(rng, &mut cells);
+                }
+            }
+            valid = false;
+        }
+        if rng.once_in(60) {
+            cells.resize(255 + rng.index(4), Cell { parent: 0, kind: 1, width: 1, depth: 1, ..Cell::default() });
+            valid = false;
+        }
+        if rng.once_in(40) {
+            allowance = rng.pick(&[65_536, 65_537, 100_000, u32::MAX]);
+        }
+        let ours = self.layout(rng, &cells, allowance);
+        self.check(rng, &cells, &ours, allowance);
+        let foreign = if valid {
+            let mut p = make::foreign(rng, &cells, allowance.min(65_535));
+            p.extend((0..rng.index(4)).map(|_| 70_000));
+            p
+        } else {
+            (0..2 * cells.len() + rng.index(3)).map(|_| rng.between(-70_000, 70_000) as i32).collect()
+        };
+        let under = if rng.once_in(4) { make::allowance(rng) } else { allowance };
+        self.check(rng, &cells, &foreign, under);
+        for cell in [rng.index(cells.len() + 2), rng.index(cells.len() + 1), rng.next() as usize] {
+            let positions = if rng.once_in(2) { &ours } else { &foreign };
+            self.ends(rng, &cells, positions, cell);
+        }
+    }
+}
+
+/// Where a part of a file begins, and its length.
+fn place_of(part: &[u8], file: &[u8]) -> (usize, usize) {
+    (part.as_ptr() as usize - file.as_ptr() as usize, part.len())
+}
+
+fn named(r: &Result<(), Refusal>) -> String {
+    match r {
+        Ok(()) => "accepted".into(),
+        Err(r) => format!("refused {:2}", r.number),
+    }
+}
+
+/// Mostly small plans; now and then one of up to 256 cells.
+fn some_table(rng: &mut Rng) -> Vec<Cell> {
+    let most = match rng.index(400) {
+        0 => MAX_CELLS,
+        1..=10 => 90,
+        11..=120 => 30,
+        _ => 12,
+    };
+    let n = rng.between(1, most as i64) as usize;
+    make::any_table(rng, n)
+}
+
+/// The answers that each call can give: all must have been seen in a long run.
+fn unseen(seen: &Seen) -> Vec<String> {
+    let refusals: [(&str, &[u32]); 5] = [
+        ("Read", &[1, 2, 3, 4, 5, 6, 7, 8, 9, 10, 11, 12, 13]),
+        ("Label", &[2, 3, 4, 5, 6, 7, 8, 9, 10, 11, 12, 13, 16]),
+        ("Layout", &[1, 4, 6, 7, 8, 11, 12, 13, 14]),
+        ("Check", &[1, 4, 6, 7, 8, 11, 12, 13, 14, 15]),
+        ("Ends", &[1, 4, 6, 7, 8, 11, 12, 13, 15, 16]),
+    ];
+    let mut all: Vec<(&str, String)> = Vec::new();
+    for (call, numbers) in refusals {
+        all.extend(numbers.iter().map(|n| (call, format!("refused {n:2}"))));
+        if call != "Check" {
+            all.push((call, "accepted".into()));
+        }
+    }
+    all.push(("Check", "kept".into()));
+    all.extend((1..=5).map(|s| ("Check", format!("broken S{s}"))));
+    all.into_iter().filter(|(c, a)| !seen.contains_key(&(*c, a.clone()))).map(|(c, a)| format!("{c} {a}")).collect()
+}
+
+fn main() {
+    let args: Vec<u64> = std::env::args().skip(1).map(|a| a.parse().expect("a number")).collect();
+    let inputs = args.first().copied().unwrap_or(INPUTS);
+    let seed = args.get(1).copied().unwrap_or(SEED);
+    let first = args.get(2).copied().unwrap_or(0);
+    let began = Instant::now();
+    let rooms = Rooms {
+        file: Guarded::new(20_000),
+        table: Guarded::new(400 * size_of::<Record>()),
+        positions: Guarded::new(4 * 1_000),
+        scratch: Guarded::new(4 * (SCRATCH + 200)),
+    };
+    let mut run = Run { seed, number: 0, seen: Seen::new(), calls: 0, rooms };
+    for number in first..first + inputs {
+        run.number = number;
+        let mut rng = Rng::new(seed, number);
+        if number % 2 == 0 {
+            run.a_table(&mut rng);
+        } else {
+            run.a_file(&mut rng);
+        }
+    }
+    for ((call, answer), times) in &run.seen {
+        println!("{call:7} {answer:11} {times:8}");
+    }
+    println!("{inputs} inputs, {} calls, seed {seed}, {:.1} s: no difference", run.calls, began.elapsed().as_secs_f64());
+    let missing = unseen(&run.seen);
+    if inputs >= 20_000 && !missing.is_empty() {
+        println!("NOT SEEN: {}", missing.join(", "));
+        exit(1);
+    }
+}

@@ -1,0 +1,395 @@
+//! The engine's own algorithms in straightforward, safe Rust over the records themselves: what its speed
+//! is measured against. Layout keeps one contour a level in rows of 64 numbers; Check takes each rule in
+//! turn over all pairs of cells, with places in preorder to tell who stands below whom.
+
+use bindings::{Ends, Plan, Record, Refusal, Sheet, Verdict};
+
+const CELLS: usize = 256;
+const ROW: usize = 64;
+const SCRATCH: usize = 16_384;
+const FARTHEST: i32 = 65_535;
+
+fn refuse<T>(number: u8, cell: usize) -> Result<T, Refusal> {
+    Err(Refusal { number, cell: cell as u16 })
+}
+
+fn border(kind: u8) -> Option<u16> {
+    match kind {
+        1 | 2 | 5 => Some(2),
+        3 | 4 => Some(4),
+        _ => None,
+    }
+}
+
+fn allows(kind: u8, sons: u16) -> bool {
+    match kind {
+        1 => sons == 0,
+        2 => (1..=16).contains(&sons),
+        3 => sons == 1,
+        4 => (2..=16).contains(&sons),
+        5 => sons <= 1,
+        _ => false,
+    }
+}
+
+fn ask_record(i: usize, c: &Record) -> Result<(), Refusal> {
+    let parent_ok = if i == 0 { c.parent == 65_535 } else { (c.parent as usize) < i };
+    if !parent_ok {
+        return refuse(6, i);
+    }
+    if border(c.kind).is_none() {
+        return refuse(7, i);
+    }
+    if !(1..=255).contains(&c.width) || !(1..=15).contains(&c.depth) {
+        return refuse(8, i);
+    }
+    Ok(())
+}
+
+/// Questions 11 to 13; the first row of each cell.
+fn ask_tree(table: &[Record]) -> Result<[u16; CELLS], Refusal> {
+    let (mut sons, mut level, mut top) = ([0u16; CELLS], [0u16; CELLS], [0u16; CELLS]);
+    for (i, c) in table.iter().enumerate().skip(1) {
+        let p = c.parent as usize;
+        sons[p] += 1;
+        level[i] = level[p] + 1;
+        top[i] = top[p] + table[p].depth as u16 + 1;
+    }
+    for (i, c) in table.iter().enumerate() {
+        if !allows(c.kind, sons[i]) {
+            return refuse(11, i);
+        }
+    }
+    for i in 0..table.len() {
+        if level[i] > 31 {
+            return refuse(12, i);
+        }
+    }
+    for (i, c) in table.iter().enumerate() {
+        if top[i] + c.depth as u16 > 255 {
+            return refuse(13, i);
+        }
+    }
+    Ok(top)
+}
+
+fn ask_table(table: &[Record], positions: usize) -> Result<[u16; CELLS], Refusal> {
+    if table.is_empty() || table.len() > CELLS {
+        return refuse(4, 0);
+    }
+    if positions < 2 * table.len() {
+        return refuse(1, 0);
+    }
+    for (i, c) in table.iter().enumerate() {
+        ask_record(i, c)?;
+    }
+    ask_tree(table)
+}
+
+fn ask_allowance(allowance: u32) -> Result<(), Refusal> {
+    if allowance > 65_535 {
+        return refuse(14, 0);
+    }
+    Ok(())
+}
+
+fn ask_positions(positions: &[i32], n: usize) -> Result<(), Refusal> {
+    for c in 0..n {
+        for v in [positions[2 * c], positions[2 * c + 1]] {
+            if !(-FARTHEST..=FARTHEST).contains(&v) {
+                return refuse(15, c);
+            }
+        }
+    }
+    Ok(())
+}
+
+fn two(file: &[u8], at: usize) -> u16 {
+    u16::from_le_bytes([file[at], file[at + 1]])
+}
+
+pub fn read(file: &[u8], table: &mut [Record]) -> Result<Plan, Refusal> {
+    if table.len() < CELLS {
+        return refuse(1, 0);
+    }
+    let len = file.len();
+    if !(16..=16_384).contains(&len) {
+        return refuse(2, 0);
+    }
+    if file[len - 2..] != [0x53, 0x54] {
+        return refuse(3, 0);
+    }
+    let begin = two(file, len - 8) as usize;
+    let n = two(file, len - 6) as usize;
+    if n < 1 || n > CELLS || begin + 8 * n + 8 != len {
+        return refuse(4, 0);
+    }
+    if file[..begin].iter().any(|b| !(32..=126).contains(b)) {
+        return refuse(5, 0);
+    }
+    let mut cells = [Record::default(); CELLS];
+    for (i, r) in file[begin..len - 8].chunks_exact(8).enumerate() {
+        cells[i] = Record {
+            parent: two(r, 0),
+            kind: r[2],
+            width: r[3] as u16,
+            depth: r[4],
+            label_length: r[5],
+            label_start: two(r, 6),
+        };
+    }
+    for (i, c) in cells[..n].iter().enumerate() {
+        ask_record(i, c)?;
+        if c.label_length > 40 || c.label_start as usize + c.label_length as usize > begin {
+            return refuse(9, i);
+        }
+        if c.width < c.label_length as u16 + border(c.kind).unwrap_or(0) {
+            return refuse(10, i);
+        }
+    }
+    ask_tree(&cells[..n])?;
+    table[..n].copy_from_slice(&cells[..n]);
+    Ok(Plan { count: n, allowance: two(file, len - 4) })
+}
+
+/// First child, next sibling, place among the siblings and appointed place, 0 for none.
+fn links(table: &[Record]) -> [[u16; 4]; CELLS] {
+    let mut links = [[0u16; 4]; CELLS];
+    for c in (1..table.len()).rev() {
+        let p = table[c].parent as usize;
+        links[c][1] = links[p][0];
+        links[p][0] = c as u16;
+    }
+    for c in 1..table.len() {
+        let p = table[c].parent as usize;
+        links[c][2] = links[p][3];
+        links[p][3] += 1;
+    }
+    for link in &mut links[..table.len()] {
+        link[3] = (link[3] + 2) / 2 - 1;
+    }
+    links
+}
+
+fn fill_box(rows: &mut [u32], at: usize, n: usize, w: u32) {
+    for j in 0..n {
+        rows[ROW * j + at] = 0;
+        rows[ROW * j + at + 1] = w;
+    }
+}
+
+fn column_max(rows: &[u32], at: usize, n: usize) -> u32 {
+    (0..n).map(|j| rows[ROW * j + at]).max().unwrap_or(0)
+}
+
+/// A cell whose children are all joined: its marks become how far the appointed child stands from the
+/// first, left extent and right extent. The height comes back.
+fn complete(rows: &mut [u32], marks: &mut [[u32; 4]; CELLS], at: usize, c: usize, d: usize, w: u32) -> usize {
+    let height = d + 1 + marks[c][0] as usize;
+    let middle = marks[c][3] - marks[c][2];
+    fill_box(rows, at, d + 1, w);
+    marks[c] = [middle, column_max(rows, at, height), column_max(rows, at + 1, height), 0];
+    height
+}
+
+fn put_row(rows: &mut [u32], at: usize, j: usize, l: u32, r: u32) {
+    rows[ROW * j + at..ROW * j + at + 4].copy_from_slice(&[l, r, 0, 0]);
+}
+
+/// Joins the contour of a finished child, at `at + 2`, to that of its earlier siblings, at `at`.
+#[allow(clippy::too_many_arguments)]
+fn settle(rows: &mut [u32], marks: &mut [[u32; 4]; CELLS], at: usize, f: usize, c: usize, height: usize, place: u16, apt: u16, allowance: u32) {
+    let right = marks[c][2];
+    if place == 0 {
+        for j in 0..height {
+            put_row(rows, at, j, rows[ROW * j + at + 2], rows[ROW * j + at + 3]);
+        }
+        marks[f] = [height as u32, right, 0, 0];
+        return;
+    }
+    let [joined, r, past, from_first] = marks[f];
+    let l = marks[c][1];
+    let joined = joined as usize;
+    let mut g = (r + 1).max(l + 1).max((r + l + 1).saturating_sub(allowance));
+    for j in 0..joined.min(height) {
+        g = g.max(rows[ROW * j + at + 1].saturating_sub(past) + rows[ROW * j + at + 2] + 1);
+    }
+    let past = if apt < place {
+        for j in 0..height {
+            put_row(rows, at, j, rows[ROW * j + at], past + g + rows[ROW * j + at + 3]);
+        }
+        past + g
+    } else {
+        for j in 0..joined.max(height) {
+            let new = rows[ROW * j + at + 2];
+            let l = if j < joined { new.max(rows[ROW * j + at] + g) } else { new };
+            put_row(rows, at, j, l, rows[ROW * j + at + 3]);
+        }
+        0
+    };
+    marks[c][3] = from_first + g;
+    marks[f] = [joined.max(height) as u32, right, past, from_first + g];
+}
+
+fn walk(table: &[Record], top: &[u16; CELLS], allowance: u32, rows: &mut [u32]) -> [[u32; 4]; CELLS] {
+    let links = links(table);
+    let mut marks = [[0u32; 4]; CELLS];
+    let mut chain = [0u16; 32];
+    let mut open = 1;
+    let mut next = links[0][0];
+    loop {
+        if next != 0 {
+            chain[open] = next;
+            open += 1;
+            next = links[next as usize][0];
+            continue;
+        }
+        let c = chain[open - 1] as usize;
+        let (d, w) = (table[c].depth as usize, table[c].width as u32);
+        if open == 1 {
+            let height = complete(rows, &mut marks, 0, 0, d, w);
+            fill_box(rows, 0, height, 0);
+            return marks;
+        }
+        let level = open - 2;
+        let f = chain[level] as usize;
+        let below = &mut rows[ROW * top[c] as usize..];
+        let height = complete(below, &mut marks, 2 * level + 2, c, d, w);
+        settle(below, &mut marks, 2 * level, f, c, height, links[c][2], links[f][3], allowance);
+        open -= 1;
+        next = links[c][1];
+    }
+}
+
+pub fn layout(table: &[Record], allowance: u32, scratch: &mut [u32], positions: &mut [i32]) -> Result<Sheet, Refusal> {
+    if scratch.len() < SCRATCH {
+        return refuse(1, 0);
+    }
+    let top = ask_table(table, positions.len())?;
+    ask_allowance(allowance)?;
+    let rows = &mut scratch[..SCRATCH];
+    rows.fill(0);
+    let marks = walk(table, &top, allowance, rows);
+    let (mut least, mut most, mut last) = (0, 0, 0);
+    for (c, cell) in table.iter().enumerate() {
+        let x = if c == 0 {
+            0
+        } else {
+            let f = cell.parent as usize;
+            positions[2 * f] + marks[c][3] as i32 - marks[f][0] as i32
+        };
+        positions[2 * c] = x;
+        positions[2 * c + 1] = top[c] as i32;
+        least = least.min(x);
+        most = most.max(x + cell.width as i32);
+        last = last.max(top[c] + cell.depth as u16);
+    }
+    Ok(Sheet { width: (most - least) as u32, rows: last as u32 + 1 })
+}
+
+/// A cell as Check sees it.
+#[derive(Clone, Copy, Default)]
+struct View {
+    parent: u16,
+    nth: u16,
+    middle: u16,
+    x: i32,
+    right: i32,
+    y: i32,
+    due: i32,
+    base: i32,
+    bottom: i32,
+    /// In preorder: its place, the end of its subtree, and the places from the previous sibling to the next one's end.
+    first: u16,
+    end: u16,
+    from: u16,
+    to: u16,
+}
+
+fn look(table: &[Record], positions: &[i32]) -> [View; CELLS] {
+    let n = table.len();
+    let mut v = [View::default(); CELLS];
+    let (mut size, mut rest, mut near, mut head, mut tail) = ([1u16; CELLS], [0u16; CELLS], [0u16; CELLS], [0u16; CELLS], [0u16; CELLS]);
+    for c in 0..n {
+        let (x, y) = (positions[2 * c], positions[2 * c + 1]);
+        let base = y + table[c].depth as i32;
+        v[c] = View { parent: table[c].parent, x, right: x + table[c].width as i32, y, base, bottom: base, ..View::default() };
+    }
+    for c in (1..n).rev() {
+        let f = table[c].parent as usize;
+        rest[c] = size[f] - 1;
+        size[f] += size[c];
+        near[c] = head[f];
+        head[f] = size[c];
+        v[f].bottom = v[f].bottom.max(v[c].bottom);
+    }
+    v[0].end = size[0];
+    v[0].to = size[0];
+    let mut sons = [0u16; CELLS];
+    for c in 1..n {
+        let f = table[c].parent as usize;
+        v[c].due = v[f].base + 1;
+        v[c].end = v[f].end - rest[c];
+        v[c].first = v[c].end - size[c];
+        v[c].from = v[c].first - tail[f];
+        v[c].to = v[c].end + near[c];
+        tail[f] = size[c];
+        sons[f] += 1;
+        v[c].nth = sons[f];
+    }
+    for c in 0..n {
+        v[c].middle = (sons[c] + 2) / 2;
+    }
+    v
+}
+
+fn passes(rule: u8, a: usize, b: usize, v: &View, w: &View, allowance: i32) -> bool {
+    match rule {
+        1 => a != b || (v.y == v.due && (a != 0 || v.x == 0)),
+        2 => w.parent as usize != a || w.nth != v.middle || v.x == w.x,
+        3 => {
+            (v.first < w.from || w.first <= v.first || v.right < w.x) && (w.first < v.end || v.to <= w.first || v.x < w.x)
+        }
+        4 => {
+            w.first < v.end
+                || ((w.bottom < v.y || v.base < w.y || v.right < w.x)
+                    && (v.bottom <= v.base || w.bottom <= v.base || v.bottom < w.y || v.x < w.x))
+        }
+        _ => w.first < v.end || v.right + 1 <= w.x + allowance,
+    }
+}
+
+pub fn check(table: &[Record], positions: &[i32], allowance: u32) -> Result<Verdict, Refusal> {
+    ask_table(table, positions.len())?;
+    ask_allowance(allowance)?;
+    let n = table.len();
+    ask_positions(positions, n)?;
+    let v = look(table, positions);
+    let v = &v[..n];
+    for rule in 1..=5 {
+        for a in 0..n {
+            for b in 0..n {
+                if !passes(rule, a, b, &v[a], &v[b], allowance as i32) {
+                    return Ok(Verdict::Broken { rule, a: a as u16, b: b as u16 });
+                }
+            }
+        }
+    }
+    let least = v.iter().map(|c| c.x).min().unwrap();
+    let most = v.iter().map(|c| c.right).max().unwrap();
+    Ok(Verdict::Kept(Sheet { width: (most - least) as u32, rows: (v[0].bottom - v[0].y + 1) as u32 }))
+}
+
+pub fn ends(table: &[Record], positions: &[i32], cell: usize) -> Result<Ends, Refusal> {
+    ask_table(table, positions.len())?;
+    ask_positions(positions, table.len())?;
+    if cell == 0 || cell >= table.len() {
+        return refuse(16, 0);
+    }
+    let p = table[cell].parent as usize;
+    let half = |c: usize| (table[c].width / 2) as i32;
+    Ok(Ends {
+        from: (positions[2 * p] + half(p), positions[2 * p + 1] + table[p].depth as i32),
+        to: (positions[2 * cell] + half(cell), positions[2 * cell + 1]),
+    })
+}

@@ -1,0 +1,281 @@
+//! Seeded random inputs: valid plans of several shapes, the files that hold them, and damage to both.
+
+use crate::layout::{distances_by_pairs, place};
+use crate::plan::{border, Cell, Plan, ROOT};
+use crate::rng::Rng;
+
+/// The number of sons that a cell may take on while a plan grows.
+const MAX_SONS: usize = 16;
+const MAX_LEVEL: usize = 31;
+const ROWS: usize = 256;
+
+#[derive(Clone, Copy, Debug, PartialEq, Eq)]
+pub enum Shape {
+    /// Each cell under a random earlier one: brothers' numbers are not in preorder.
+    Scattered,
+    /// Under one of the last few cells.
+    Deep,
+    /// Under the previous cell, save now and then.
+    Chain,
+    /// Under one of the first few cells, up to 16 sons each.
+    Wide,
+    /// Under a random open cell until it is full: cells of one level stand together.
+    Bushy,
+}
+
+pub const SHAPES: [Shape; 5] = [Shape::Scattered, Shape::Deep, Shape::Chain, Shape::Wide, Shape::Bushy];
+
+/// How the numbers of a plan are drawn.
+pub struct Sizes {
+    pub max_width: i64,
+    pub max_depth: i64,
+}
+
+/// A valid table of at most n cells (fewer where the rows or the levels run out), without labels.
+pub fn table(rng: &mut Rng, shape: Shape, n: usize, sizes: &Sizes) -> Vec<Cell> {
+    let mut cells = vec![one(rng, ROOT, sizes)];
+    let (mut row, mut level, mut sons) = (vec![0], vec![0], vec![0]);
+    let mut full = 0;
+    while cells.len() < n {
+        let f = father(rng, shape, cells.len(), full);
+        let y = row[f] + cells[f].depth as usize + 1;
+        let mut c = one(rng, f as u16, sizes);
+        c.depth = c.depth.min((ROWS - 1).saturating_sub(y) as u8);
+        if sons[f] == MAX_SONS || level[f] == MAX_LEVEL || c.depth == 0 {
+            // The first cells are full, or the plan is: try elsewhere, and stop after many tries.
+            full += 1;
+            if full > 4 * n {
+                break;
+            }
+            continue;
+        }
+        sons[f] += 1;
+        row.push(y);
+        level.push(level[f] + 1);
+        sons.push(0);
+        cells.push(c);
+    }
+    for c in 0..cells.len() {
+        cells[c].kind = kind_for(rng, sons[c]);
+    }
+    cells
+}
+
+fn one(rng: &mut Rng, parent: u16, sizes: &Sizes) -> Cell {
+    Cell {
+        parent,
+        width: rng.between(1, sizes.max_width) as u16,
+        depth: rng.between(1, sizes.max_depth) as u8,
+        ..Cell::default()
+    }
+}
+
+fn father(rng: &mut Rng, shape: Shape, made: usize, full: usize) -> usize {
+    let last = made - 1;
+    match shape {
+        Shape::Scattered => rng.index(made),
+        Shape::Deep => last - rng.index(made.min(3 + full)),
+        Shape::Chain if rng.once_in(12) => rng.index(made),
+        Shape::Chain => last - (full % made.min(8)),
+        Shape::Wide => rng.index(made.min(2 + full)),
+        Shape::Bushy => (last / 3 + rng.index(2) + full / 4).min(last),
+    }
+}
+
+/// A kind that may have this number of sons.
+fn kind_for(rng: &mut Rng, sons: usize) -> u8 {
+    match sons {
+        0 => rng.pick(&[1, 1, 5]),
+        1 => rng.pick(&[2, 3, 5]),
+        _ => rng.pick(&[2, 4]),
+    }
+}
+
+/// Widths, depths and shape of a random plan with at most n cells.
+pub fn any_table(rng: &mut Rng, n: usize) -> Vec<Cell> {
+    let shape = rng.pick(&SHAPES);
+    let sizes = Sizes { max_width: rng.pick(&[1, 3, 9, 30, 255]), max_depth: rng.pick(&[1, 1, 2, 4, 15]) };
+    table(rng, shape, n, &sizes)
+}
+
+pub fn allowance(rng: &mut Rng) -> u32 {
+    match rng.index(8) {
+        0 | 1 => 0,
+        2 => rng.between(1, 4) as u32,
+        3 | 4 => rng.between(1, 40) as u32,
+        5 => rng.between(1, 65_535) as u32,
+        6 => 65_535,
+        _ => rng.between(100, 400) as u32,
+    }
+}
+
+/// Gives labels to a table's cells where their widths leave room; the label bytes.
+pub fn labels(rng: &mut Rng, cells: &mut [Cell]) -> Vec<u8> {
+    let mut bytes: Vec<u8> = (0..rng.between(0, 60)).map(|_| rng.between(32, 126) as u8).collect();
+    for c in cells.iter_mut() {
+        let least = border(c.kind).unwrap_or(2) as u16;
+        c.width = c.width.max(least);
+        let room = (c.width - least).min(40) as i64;
+        let len = rng.between(0, room).min(bytes.len() as i64);
+        if rng.once_in(2) && bytes.len() < 8_000 {
+            // Bytes of its own.
+            c.label_start = bytes.len() as u16;
+            bytes.extend((0..len).map(|_| rng.between(32, 126) as u8));
+        } else {
+            c.label_start = rng.between(0, bytes.len() as i64 - len) as u16;
+        }
+        c.label_len = len as u8;
+    }
+    bytes
+}
+
+/// The file that holds a table, whatever its fields are.
+pub fn file(labels: &[u8], cells: &[Cell], allowance: u16) -> Vec<u8> {
+    let mut out = labels.to_vec();
+    for c in cells {
+        out.extend(c.parent.to_le_bytes());
+        out.extend([c.kind, c.width as u8, c.depth, c.label_len]);
+        out.extend(c.label_start.to_le_bytes());
+    }
+    out.extend((labels.len() as u16).to_le_bytes());
+    out.extend((cells.len() as u16).to_le_bytes());
+    out.extend(allowance.to_le_bytes());
+    out.extend([0x53, 0x54]);
+    out
+}
+
+/// One random wrong done to a table. Labels in it may be wrong too, which only a file notices.
+pub fn damage_table(rng: &mut Rng, cells: &mut Vec<Cell>) {
+    let i = rng.index(cells.len());
+    let n = cells.len() as i64;
+    match rng.index(12) {
+        0 => cells[i].parent = rng.between(0, 65_535) as u16,
+        1 => cells[i].parent = rng.between(i as i64, n) as u16,
+        2 => cells[i].parent = rng.between(0, i as i64) as u16,
+        3 => cells[i].kind = rng.pick(&[0, 6, 7, 255]),
+        4 => cells[i].kind = rng.between(1, 5) as u8,
+        5 => cells[i].width = rng.pick(&[0, 256, 257, 511, 65_535]),
+        6 => cells[i].depth = rng.pick(&[0, 16, 17, 255]),
+        7 => cells[i].depth = 15,
+        8 => cells[i].label_len = rng.between(0, 255) as u8,
+        9 => cells[i].label_start = rng.between(0, 65_535) as u16,
+        10 => cells.truncate(i),
+        _ => {
+            let c = cells[i];
+            cells.push(Cell { parent: i as u16, ..c });
+        }
+    }
+}
+
+/// One random wrong done to a file.
+pub fn damage_file(rng: &mut Rng, file: &mut Vec<u8>) {
+    if file.is_empty() {
+        return;
+    }
+    let i = rng.index(file.len());
+    let len = file.len();
+    match rng.index(8) {
+        0 => file[i] ^= 1 << rng.index(8),
+        1 => file[i] = rng.next() as u8,
+        2 => file.truncate(i),
+        3 => file.insert(i, rng.between(32, 126) as u8),
+        4 => {
+            file.remove(i);
+        }
+        // Near the end, where a byte matters more.
+        5 | 6 => {
+            let at = len - 1 - rng.index(len.min(24));
+            file[at] = if rng.once_in(2) { file[at] ^ (1 << rng.index(8)) } else { rng.next() as u8 };
+        }
+        _ => file.extend((0..rng.between(1, 20)).map(|_| 0x54)),
+    }
+}
+
+/// A chain with more levels than are allowed, or with more rows, and a branch here and there.
+pub fn too_tall(rng: &mut Rng) -> Vec<Cell> {
+    let n = rng.between(17, 60) as usize;
+    let depth = rng.pick(&[1, 7, 8, 14, 15]);
+    let mut cells: Vec<Cell> = (0..n)
+        .map(|i| Cell { parent: if i == 0 { ROOT } else { i as u16 - 1 }, width: 2, depth, ..Cell::default() })
+        .collect();
+    for i in 1..n {
+        if rng.once_in(6) {
+            cells[i].parent = rng.index(i) as u16;
+        }
+        if rng.once_in(4) {
+            cells[i].depth = rng.between(1, 15) as u8;
+        }
+    }
+    let sons: Vec<usize> = (0..n).map(|f| cells.iter().filter(|c| c.parent as usize == f).count()).collect();
+    for i in 0..n {
+        cells[i].kind = kind_for(rng, sons[i]);
+    }
+    cells
+}
+
+/// Our sheet for a valid table, as numbers: x then y of each cell.
+pub fn sheet(cells: &[Cell], allowance: u32) -> Vec<i32> {
+    let plan = Plan::new(cells);
+    let p = place(&plan, &distances_by_pairs(&plan, allowance as i64));
+    p.iter().flat_map(|&(x, y)| [x as i32, y as i32]).collect()
+}
+
+/// A placement of a valid table by another: near our sheet, or far from it.
+pub fn foreign(rng: &mut Rng, cells: &[Cell], allowance: u32) -> Vec<i32> {
+    let plan = Plan::new(cells);
+    let n = cells.len();
+    // Laid out for a greater allowance it may break S5, and for a smaller one it is kept.
+    let under = match rng.index(6) {
+        0 => allowance.saturating_sub(rng.between(0, 5) as u32),
+        1 => allowance + rng.between(1, 30) as u32,
+        _ => allowance,
+    };
+    let mut distances = distances_by_pairs(&plan, under as i64);
+    let mut pairs: Vec<_> = distances.keys().copied().collect();
+    pairs.sort();
+    if rng.once_in(3) && !pairs.is_empty() {
+        // One distance short by one: S3, S4 or S5, whichever asked for it.
+        let short = rng.pick(&pairs);
+        *distances.get_mut(&short).unwrap() -= 1;
+    } else if rng.once_in(2) {
+        // Wider, or narrower here and there.
+        for pair in pairs {
+            if rng.once_in(4) {
+                *distances.get_mut(&pair).unwrap() += rng.pick(&[1, 1, 2, 7, 100, -1]);
+            }
+        }
+    }
+    let mut p: Vec<i32> = place(&plan, &distances).iter().flat_map(|&(x, y)| [x as i32, y as i32]).collect();
+    match rng.index(11) {
+        0..=4 => {}
+        5 => {
+            // A sub-diagram aside.
+            let (top, by) = (rng.index(n), rng.pick(&[-2, -1, 1, 2, 50]));
+            for c in plan.sub_diagram(top) {
+                p[2 * c] += by;
+            }
+        }
+        6 | 7 => {
+            let k = rng.index(2 * n);
+            p[k] += rng.pick(&[-3, -1, 1, 3]);
+        }
+        8 => {
+            let k = rng.index(2 * n);
+            p[k] = rng.pick(&[-65_536, -65_535, 65_535, 65_536, i32::MIN, i32::MAX, 0]);
+        }
+        9 => {
+            let (from, to) = (rng.index(n), rng.index(n));
+            p.swap(2 * from, 2 * to);
+        }
+        _ => {
+            let bound = rng.pick(&[2, 20, 65_535]);
+            for c in 0..n {
+                p[2 * c] = rng.between(-bound, bound) as i32;
+            }
+            if rng.once_in(2) {
+                p[0] = 0;
+            }
+        }
+    }
+    p
+}

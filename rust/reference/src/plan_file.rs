@@ -1,0 +1,89 @@
+//! The plan file: Read, Label and Label's refusal.
+
+use crate::plan::{ask_record, ask_tree, border, refuse, Cell, Refusal, MAX_CELLS};
+
+struct Parsed {
+    cells: Vec<Cell>,
+    allowance: u32,
+}
+
+fn two(file: &[u8], at: usize) -> u16 {
+    file[at] as u16 + 256 * file[at + 1] as u16
+}
+
+/// Questions 2 to 14 of a file, in their order.
+fn parse(file: &[u8]) -> Result<Parsed, Refusal> {
+    let len = file.len();
+    if !(16..=16_384).contains(&len) {
+        return refuse(2, 0);
+    }
+    let trailer = len - 8;
+    if file[trailer + 6] != 0x53 || file[trailer + 7] != 0x54 {
+        return refuse(3, 0);
+    }
+    let begin = two(file, trailer) as usize;
+    let n = two(file, trailer + 2) as usize;
+    if n < 1 || n > MAX_CELLS || begin + 8 * n + 8 != len {
+        return refuse(4, 0);
+    }
+    if file[..begin].iter().any(|b| !(32..=126).contains(b)) {
+        return refuse(5, 0);
+    }
+    let mut cells = Vec::new();
+    for i in 0..n {
+        let at = begin + 8 * i;
+        let c = Cell {
+            parent: two(file, at),
+            kind: file[at + 2],
+            width: file[at + 3] as u16,
+            depth: file[at + 4],
+            label_len: file[at + 5],
+            label_start: two(file, at + 6),
+        };
+        ask_record(i, &c)?;
+        if c.label_len > 40 || c.label_start as usize + c.label_len as usize > begin {
+            return refuse(9, i);
+        }
+        if (c.width as u32) < c.label_len as u32 + border(c.kind).unwrap_or(0) {
+            return refuse(10, i);
+        }
+        cells.push(c);
+    }
+    ask_tree(&cells)?;
+    // Question 14 cannot be answered "no": the file keeps the allowance in two bytes.
+    Ok(Parsed { cells, allowance: two(file, trailer + 4) as u32 })
+}
+
+/// Read: the records into the table; the number of cells and the allowance.
+pub fn read(file: &[u8], table: &mut [Cell]) -> Result<(u32, u32), Refusal> {
+    if table.len() < MAX_CELLS {
+        return refuse(1, 0);
+    }
+    let parsed = parse(file)?;
+    table[..parsed.cells.len()].copy_from_slice(&parsed.cells);
+    Ok((parsed.cells.len() as u32, parsed.allowance))
+}
+
+fn labelled(file: &[u8], cell: usize) -> Result<(usize, usize), Refusal> {
+    let parsed = parse(file)?;
+    match parsed.cells.get(cell) {
+        Some(c) => Ok((c.label_start as usize, c.label_len as usize)),
+        None => refuse(16, 0),
+    }
+}
+
+/// Label: that part of the file's own bytes; refused, the empty part at byte 0.
+pub fn label(file: &[u8], cell: usize) -> &[u8] {
+    match labelled(file, cell) {
+        Ok((start, len)) => &file[start..start + len],
+        Err(_) => &file[0..0],
+    }
+}
+
+/// Label's refusal, or 0 and 0 where there is none.
+pub fn label_refusal(file: &[u8], cell: usize) -> Refusal {
+    match labelled(file, cell) {
+        Ok(_) => Refusal { number: 0, cell: 0 },
+        Err(r) => r,
+    }
+}

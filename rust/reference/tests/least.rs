@@ -1,0 +1,100 @@
+//! Our sheet against all others: by search on small plans, by two methods on random ones.
+
+use reference::generate::{allowance, any_table};
+use reference::rng::Rng;
+use reference::*;
+
+const SEED: u64 = 0x5345_4154_0001;
+
+/// The reaches of top's sub-diagram, left and right.
+fn reaches(plan: &Plan, p: &[(i64, i64)], top: usize) -> (i64, i64) {
+    let all = plan.sub_diagram(top);
+    let least = all.iter().map(|&c| p[c].0).min().unwrap();
+    let most = all.iter().map(|&c| p[c].0 + plan.cells[c].width as i64).max().unwrap();
+    (p[top].0 - least, most - p[top].0)
+}
+
+/// Tries every x from -window to window for each cell but the root; the number of placements kept.
+fn search(t: &[Cell], allowance: u32, window: i64) -> usize {
+    let plan = Plan::new(t);
+    let n = t.len();
+    let ours = place(&plan, &distances_by_paths(&plan, allowance as i64));
+    let m = measure(&plan, &ours);
+    let least: Vec<(i64, i64)> = (0..n).map(|c| reaches(&plan, &ours, c)).collect();
+    let mut p: Vec<i32> = (0..n).flat_map(|c| [if c == 0 { 0 } else { -window as i32 }, plan.row[c] as i32]).collect();
+    let mut kept = 0;
+    let mut ours_found = false;
+    loop {
+        if let Ok(Verdict::Kept(found)) = check(t, &p, allowance) {
+            kept += 1;
+            let pairs: Vec<(i64, i64)> = (0..n).map(|c| (p[2 * c] as i64, p[2 * c + 1] as i64)).collect();
+            ours_found |= pairs == ours;
+            assert!(found.width >= m.width && found.rows == m.rows, "{t:?} {allowance} {p:?}");
+            for c in 0..n {
+                let r = reaches(&plan, &pairs, c);
+                assert!(r.0 >= least[c].0 && r.1 >= least[c].1, "{t:?} {allowance} {p:?}");
+            }
+        }
+        // The next placement, as a counter.
+        let Some(c) = (1..n).find(|&c| (p[2 * c] as i64) < window) else { break };
+        p[2 * c] += 1;
+        for d in 1..c {
+            p[2 * d] = -window as i32;
+        }
+    }
+    assert!(ours_found, "our sheet is outside the window: {t:?} {allowance}");
+    kept
+}
+
+/// The kind that suits each cell's number of sons.
+fn with_kinds(fathers: &[usize], widths: &[u16], depths: &[u8]) -> Vec<Cell> {
+    (0..widths.len())
+        .map(|i| Cell {
+            parent: if i == 0 { ROOT } else { fathers[i - 1] as u16 },
+            kind: if fathers.contains(&i) { 2 } else { 1 },
+            width: widths[i],
+            depth: depths[i],
+            ..Cell::default()
+        })
+        .collect()
+}
+
+#[test]
+fn nothing_kept_is_narrower() {
+    let mut rng = Rng::new(SEED, 0);
+    let (mut plans, mut kept) = (0, 0);
+    // Every tree of 2 to 5 cells, with random sizes.
+    for n in 2..=5usize {
+        let trees: usize = (1..n).product();
+        for tree in 0..trees {
+            let mut rest = tree;
+            let fathers: Vec<usize> = (1..n).map(|c| { let f = rest % c; rest /= c; f }).collect();
+            for allowance in [0, 1, 2, 200] {
+                for _ in 0..2 {
+                    let widths: Vec<u16> = (0..n).map(|_| rng.between(1, if n < 5 { 3 } else { 2 }) as u16).collect();
+                    let depths: Vec<u8> = (0..n).map(|_| rng.between(1, 3) as u8).collect();
+                    kept += search(&with_kinds(&fathers, &widths, &depths), allowance, if n < 5 { 9 } else { 7 });
+                    plans += 1;
+                }
+            }
+        }
+    }
+    println!("{plans} plans, {kept} placements kept, none narrower");
+}
+
+#[test]
+fn two_methods_agree_and_the_rules_are_kept() {
+    for number in 0..3_000 {
+        let mut rng = Rng::new(SEED, 1 + number);
+        let most = if number % 100 == 0 { 256 } else { 40 };
+        let n = rng.between(1, most) as usize;
+        let t = any_table(&mut rng, n);
+        let a = allowance(&mut rng);
+        let plan = Plan::new(&t);
+        let by_paths = distances_by_paths(&plan, a as i64);
+        assert_eq!(by_paths, distances_by_pairs(&plan, a as i64), "number {number}");
+        let mut p = vec![0; 2 * t.len()];
+        let m = layout(&t, a, &mut p, &mut vec![0; SCRATCH]).unwrap();
+        assert_eq!(check(&t, &p, a), Ok(Verdict::Kept(m)), "number {number}");
+    }
+}
