@@ -14,17 +14,23 @@ fn reaches(plan: &Plan, p: &[(i64, i64)], top: usize) -> (i64, i64) {
     (p[top].0 - least, most - p[top].0)
 }
 
-/// Tries every x from -window to window for each cell but the root; the number of placements kept.
+/// Tries every placement that keeps S1 and S2 with each x from -window to window; the number that is kept.
+/// (A cell that its father appoints has its father's x, by S2; all others are free.)
 fn search(t: &[Cell], allowance: u32, window: i64) -> usize {
     let plan = Plan::new(t);
     let n = t.len();
     let ours = place(&plan, &distances_by_paths(&plan, allowance as i64));
     let m = measure(&plan, &ours);
     let least: Vec<(i64, i64)> = (0..n).map(|c| reaches(&plan, &ours, c)).collect();
+    let appointed = |c: usize| c > 0 && plan.appointed(plan.father[c].unwrap()) == Some(c);
+    let free: Vec<usize> = (1..n).filter(|&c| !appointed(c)).collect();
     let mut p: Vec<i32> = (0..n).flat_map(|c| [if c == 0 { 0 } else { -window as i32 }, plan.row[c] as i32]).collect();
     let mut kept = 0;
     let mut ours_found = false;
     loop {
+        for c in (1..n).filter(|&c| appointed(c)) {
+            p[2 * c] = p[2 * plan.father[c].unwrap()];
+        }
         if let Ok(Verdict::Kept(found)) = check(t, &p, allowance) {
             kept += 1;
             let pairs: Vec<(i64, i64)> = (0..n).map(|c| (p[2 * c] as i64, p[2 * c + 1] as i64)).collect();
@@ -36,9 +42,9 @@ fn search(t: &[Cell], allowance: u32, window: i64) -> usize {
             }
         }
         // The next placement, as a counter.
-        let Some(c) = (1..n).find(|&c| (p[2 * c] as i64) < window) else { break };
-        p[2 * c] += 1;
-        for d in 1..c {
+        let Some(i) = free.iter().position(|&c| (p[2 * c] as i64) < window) else { break };
+        p[2 * free[i]] += 1;
+        for &d in &free[..i] {
             p[2 * d] = -window as i32;
         }
     }
@@ -63,19 +69,18 @@ fn with_kinds(fathers: &[usize], widths: &[u16], depths: &[u8]) -> Vec<Cell> {
 fn nothing_kept_is_narrower() {
     let mut rng = Rng::new(SEED, 0);
     let (mut plans, mut kept) = (0, 0);
-    // Every tree of 2 to 5 cells, with random sizes.
-    for n in 2..=5usize {
+    // Every tree of 2 to 6 cells, with random sizes.
+    for n in 2..=6usize {
         let trees: usize = (1..n).product();
         for tree in 0..trees {
             let mut rest = tree;
             let fathers: Vec<usize> = (1..n).map(|c| { let f = rest % c; rest /= c; f }).collect();
-            for allowance in [0, 1, 2, 200] {
-                for _ in 0..2 {
-                    let widths: Vec<u16> = (0..n).map(|_| rng.between(1, if n < 5 { 3 } else { 2 }) as u16).collect();
-                    let depths: Vec<u8> = (0..n).map(|_| rng.between(1, 3) as u8).collect();
-                    kept += search(&with_kinds(&fathers, &widths, &depths), allowance, if n < 5 { 9 } else { 7 });
-                    plans += 1;
-                }
+            let allowances: &[u32] = if n < 6 { &[0, 1, 2, 3, 200] } else { &[0, 2, 200] };
+            for &allowance in allowances {
+                let widths: Vec<u16> = (0..n).map(|_| rng.between(1, if n < 6 { 3 } else { 2 }) as u16).collect();
+                let depths: Vec<u8> = (0..n).map(|_| rng.between(1, 3) as u8).collect();
+                kept += search(&with_kinds(&fathers, &widths, &depths), allowance, if n < 6 { 10 } else { 9 });
+                plans += 1;
             }
         }
     }
