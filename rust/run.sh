@@ -11,13 +11,13 @@ seed=${2:-20261115}
 export CARGO_BUILD_JOBS="${CARGO_BUILD_JOBS:-1}"
 unset KUZPALEN_LIB_DIR
 (cd .. && rt staticlib capi)
-cargo build --offline --quiet --release -p compare
-cargo test --offline --quiet --release -p reference
-./target/release/compare "$inputs" "$seed"
+cargo build --offline --quiet --profile checked -p compare
+cargo test --offline --quiet --profile checked -p reference
+./target/checked/compare "$inputs" "$seed"
 if command -v cc >/dev/null; then
     cc -Wall -Wextra -o target/smoke smoke.c ../target/staticlib/libcapi.a
     ./target/smoke
 fi
 if [ -x ../target/bin/sheet ]; then
-    ./target/release/listing ../target/bin/sheet 1000 "$seed"
+    ./target/checked/listing ../target/bin/sheet 1000 "$seed"
 fi

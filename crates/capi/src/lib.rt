@@ -3,7 +3,6 @@ use connectors::Ended;
 use drawing::Laid;
 use plan::Columns;
 use plan::Record;
-use plan::Refusal;
 use planfile::Reading;
 use records::columns_of;
 use records::fill;
