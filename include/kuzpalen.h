@@ -7,9 +7,9 @@
  * writes may share no byte with another buffer of the call. Nothing else is asked of a caller, and each
  * call answers on every input; none keeps a pointer, allocates or fails otherwise.
  *
- * Every answer begins with a refusal: `number` is 0, or the number of the first question answered "no"
- * (1 to 16), and `cell` is then the lowest cell at fault, 0 where no cell is concerned. All other fields
- * of a refusal are 0, and every lent buffer is then as it was before the call.
+ * Every answer but a label's part begins with a refusal: `number` is 0, or the number of the first
+ * question answered "no" (1 to 16), and `cell` is then the lowest cell at fault, 0 where no cell is
+ * concerned. All other fields of a refusal are 0, and every lent buffer is then as it was before the call.
  */
 #ifndef KUZPALEN_H
 #define KUZPALEN_H
@@ -48,6 +48,11 @@ typedef struct {
 } kuzpalen_label_answer;
 
 typedef struct {
+    size_t start;
+    size_t end;
+} kuzpalen_label_part;
+
+typedef struct {
     uint8_t number;
     uint16_t cell;
     uint32_t width;
@@ -78,8 +83,11 @@ typedef struct {
 kuzpalen_read_answer kuzpalen_read(const uint8_t *file, size_t file_len,
                                    kuzpalen_record *table, size_t table_len);
 
-/* Label: why a cell has no label, or 0 and 0. Where there is no refusal, the label is the part of the
- * file that the cell's record names after Read: file + label_start, label_length bytes. */
+/* Label: where a cell's label stands in the file, from byte `start` to before byte `end`. Refused, the
+ * empty part at byte 0. */
+kuzpalen_label_part kuzpalen_label(const uint8_t *file, size_t file_len, size_t cell);
+
+/* Why Label refuses, or 0 and 0. */
 kuzpalen_label_answer kuzpalen_label_refusal(const uint8_t *file, size_t file_len, size_t cell);
 
 /* Layout: a table to positions, x then y of each cell. `positions_len` is at least twice `table_len`, and

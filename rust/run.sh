@@ -1,13 +1,16 @@
 #!/bin/sh
 # Builds the static library (proving what it is made of, unless that is done), then the comparison, and
-# runs it: the reference's own tests, every call on seeded inputs, and the program's listings where the
-# program is built. Fails on the first difference. Under two minutes when the crates are proved.
+# runs it: the reference's own tests, every call on seeded inputs, the C header, the program's listings
+# where the program is built, and a fuzz under valgrind where that is installed. Fails on the first
+# difference or fault. About two minutes when the crates are proved.
 #
-#     rust/run.sh [INPUTS [SEED]]      more inputs, or other ones
+#     rust/run.sh [INPUTS [SEED [FUZZ_SECONDS]]]      more inputs, other ones, a longer fuzz
 set -eu
 cd "$(dirname "$0")"
 inputs=${1:-120000}
 seed=${2:-20261115}
+seconds=${3:-15}
+sheet=../target/bin/sheet
 export CARGO_BUILD_JOBS="${CARGO_BUILD_JOBS:-1}"
 unset KUZPALEN_LIB_DIR
 (cd .. && rt staticlib capi)
@@ -18,6 +21,17 @@ if command -v cc >/dev/null; then
     cc -Wall -Wextra -o target/smoke smoke.c ../target/staticlib/libcapi.a
     ./target/smoke
 fi
-if [ -x ../target/bin/sheet ]; then
-    ./target/checked/listing ../target/bin/sheet 1000 "$seed"
+if [ -x "$sheet" ]; then
+    ./target/checked/listing "$sheet" 1000 "$seed"
+fi
+if command -v valgrind >/dev/null; then
+    watch="valgrind -q --error-exitcode=9"
+else
+    watch=""
+    echo "valgrind is not installed: the fuzz runs without it"
+fi
+$watch ./target/checked/fuzz library "$seconds" "$seed"
+if [ -x "$sheet" ]; then
+    ./target/checked/fuzz program 5 "$seed" "$sheet"
+    ./target/checked/fuzz program "$seconds" "$seed" $watch "$sheet"
 fi

@@ -1,6 +1,25 @@
-/* Worked sheet B of document 01, through the C header. */
+/* Worked sheet B of document 01 and its file with labels, through the C header. */
 #include "../include/kuzpalen.h"
 #include <stdio.h>
+
+static const uint8_t file[38] = {
+    'U', 'p', 'A', 'R', 'u', 'n',
+    0xFF, 0xFF, 2, 4, 1, 2, 0, 0,
+    0, 0, 1, 3, 1, 1, 2, 0,
+    0, 0, 1, 5, 1, 3, 3, 0,
+    6, 0, 3, 0, 0, 0, 0x53, 0x54,
+};
+
+static int file_good(void) {
+    static kuzpalen_record table[KUZPALEN_CELLS];
+    kuzpalen_read_answer plan = kuzpalen_read(file, sizeof file, table, KUZPALEN_CELLS);
+    kuzpalen_label_part run = kuzpalen_label(file, sizeof file, 2);
+    kuzpalen_label_part none = kuzpalen_label(file, sizeof file, 3);
+    return plan.number == 0 && plan.count == 3 && plan.allowance == 0 && table[2].width == 5 && table[2].label_start == 3
+        && run.start == 3 && run.end == 6 && none.start == 0 && none.end == 0
+        && kuzpalen_label_refusal(file, sizeof file, 2).number == 0 && kuzpalen_label_refusal(file, sizeof file, 3).number == 16
+        && kuzpalen_read(file, 15, table, KUZPALEN_CELLS).number == 2;
+}
 
 int main(void) {
     static uint32_t scratch[KUZPALEN_SCRATCH];
@@ -20,6 +39,7 @@ int main(void) {
         && ends.number == 0 && ends.from_x == 2 && ends.from_y == 1 && ends.to_x == -3 && ends.to_y == 2
         && broken.number == 0 && broken.rule == 3 && broken.a == 1 && broken.b == 2
         && kuzpalen_ends(table, 3, p, 6, 0).number == 16 && kuzpalen_check(table, 3, p, 5, 0).number == 1;
+    good = good && file_good();
     puts(good ? "sheet B from C: good" : "sheet B from C: DIFFERENCE");
     return good ? 0 : 1;
 }

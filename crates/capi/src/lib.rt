@@ -10,7 +10,7 @@ use verdict::Checked;
 ghost use mathlib.Core.Path.{_≡_};
 ghost use lib.ListN.{length};
 ghost use Rattle.plan.specs.Columns.{table-of};
-ghost use Rattle.planfile.specs.Reading.{«label-refusal», «reading-of»};
+ghost use Rattle.planfile.specs.Reading.{«label-refusal», «label-part», «reading-of»};
 ghost use Rattle.plan.specs.Records.{«cells-of»};
 ghost use Rattle.records.specs.Together.{filled};
 ghost use Rattle.verdict.specs.Checked.{«checked-of»};
@@ -63,6 +63,13 @@ pub struct EndsAnswer {
 pub struct LabelAnswer {
     pub number: u8,
     pub cell: u16,
+}
+
+// The bytes of a file from start to end.
+#[repr(C)]
+pub struct LabelPart {
+    pub start: usize,
+    pub end: usize,
 }
 
 // A file that was read: the records to write, and the answer.
@@ -179,6 +186,18 @@ pub extern "C" fn kuzpalen_read(file: &[u8], table: &mut [Record]) -> ReadAnswer
     let reading = parsed.reading;
     fill(reading, reading.columns.count, table);
     parsed.answer
+}
+
+// Label. An exported function cannot return a reference: the part is told by its two ends.
+#[no_mangle]
+pub extern "C" fn kuzpalen_label(file: &[u8], cell: usize) -> LabelPart
+    ensures { λ r. ⌜ (r .start ≡ label-part (now (file .entry)) cell .start) × (r .end ≡ label-part (now (file .entry)) cell .end) ⌝ }
+{
+    let part = planfile::label_part(file, cell);
+    LabelPart {
+        start: part.start,
+        end: part.end,
+    }
 }
 
 #[no_mangle]

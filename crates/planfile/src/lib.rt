@@ -64,7 +64,8 @@ pub fn label_refusal(file: &[u8], cell: usize) -> Refusal
     asked(16, cell < columns.count, 0)
 }
 
-fn label_part(file: &[u8], cell: usize) -> Part
+// Where a cell's label stands in the file; refused, the empty part at byte 0.
+pub fn label_part(file: &[u8], cell: usize) -> Part
     ensures { λ r. ⌜ r ≡ label-part (now (file .entry)) cell ⌝ }
 {
     let refusal = label_refusal(file, cell);

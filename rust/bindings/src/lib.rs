@@ -62,6 +62,12 @@ mod raw {
     }
 
     #[repr(C)]
+    pub struct LabelPart {
+        pub start: usize,
+        pub end: usize,
+    }
+
+    #[repr(C)]
     pub struct LayoutAnswer {
         pub number: u8,
         pub cell: u16,
@@ -92,6 +98,7 @@ mod raw {
 
     extern "C" {
         pub fn kuzpalen_read(file: *const u8, file_len: usize, table: *mut Record, table_len: usize) -> ReadAnswer;
+        pub fn kuzpalen_label(file: *const u8, file_len: usize, cell: usize) -> LabelPart;
         pub fn kuzpalen_label_refusal(file: *const u8, file_len: usize, cell: usize) -> LabelAnswer;
         pub fn kuzpalen_layout(
             table: *const Record,
@@ -143,15 +150,9 @@ pub fn label_refusal(file: &[u8], cell: usize) -> Refusal {
 
 /// Label: a cell's label, as that part of the file's own bytes; refused, the empty part at byte 0.
 pub fn label(file: &[u8], cell: usize) -> &[u8] {
-    if label_refusal(file, cell).number != 0 {
-        return &file[..0];
-    }
-    let mut table = [Record::default(); 256];
-    if read(file, &mut table).is_err() {
-        return &file[..0];
-    }
-    let start = table[cell].label_start as usize;
-    &file[start..start + table[cell].label_length as usize]
+    // SAFETY: the pointer is good for its length.
+    let part = unsafe { raw::kuzpalen_label(file.as_ptr(), file.len(), cell) };
+    &file[part.start..part.end]
 }
 
 /// Layout: x then y of each cell into the positions; 16,384 numbers of scratch, which are left zero.

@@ -1,0 +1,179 @@
+//! Throws seeded random bytes at the library, or at the program `sheet`, until a time is over. Whatever
+//! the bytes, a call gives a whole answer or a refusal, and a refusal leaves every lent buffer as it was.
+//! Each buffer is an allocation of its own, of just its length: under valgrind (../run.sh) a read or a
+//! write outside of one is seen.
+//!
+//!     fuzz library SECONDS SEED
+//!     fuzz program SECONDS SEED COMMAND...
+
+use bindings::{Record, Verdict};
+use reference::generate as make;
+use reference::rng::Rng;
+use std::io::Write;
+use std::process::{exit, Command, Stdio};
+use std::time::{Duration, Instant};
+
+const SCRATCH: usize = 16_384;
+
+fn fault(what: &str, seed: u64, number: u64) -> ! {
+    println!("FAULT: seed {seed} input {number}: {what}");
+    exit(1);
+}
+
+/// A copy in an allocation of just this length.
+fn lent<T: Copy>(values: &[T]) -> Box<[T]> {
+    values.into()
+}
+
+/// Random bytes; or a plan's file, a few bytes of it changed or none.
+fn some_file(rng: &mut Rng) -> Vec<u8> {
+    if rng.once_in(4) {
+        return (0..rng.between(0, 300)).map(|_| rng.next() as u8).collect();
+    }
+    let n = if rng.once_in(30) { 256 } else { rng.between(1, 40) as usize };
+    let mut cells = make::any_table(rng, n);
+    let labels = make::labels(rng, &mut cells);
+    let mut file = make::file(&labels, &cells, rng.next() as u16);
+    for _ in 0..rng.index(4) {
+        let at = rng.index(file.len());
+        file[at] = rng.next() as u8;
+    }
+    if rng.once_in(10) {
+        file.truncate(rng.index(file.len()));
+    }
+    file
+}
+
+/// Records of random bytes; or a plan's, a few fields of it changed or none.
+fn some_table(rng: &mut Rng) -> Vec<Record> {
+    if rng.once_in(4) {
+        return (0..rng.index(300))
+            .map(|_| Record {
+                parent: rng.next() as u16,
+                kind: rng.next() as u8,
+                width: rng.next() as u16,
+                depth: rng.next() as u8,
+                label_length: rng.next() as u8,
+                label_start: rng.next() as u16,
+            })
+            .collect();
+    }
+    let n = if rng.once_in(30) { 256 } else { rng.between(1, 40) as usize };
+    let mut cells = make::any_table(rng, n);
+    if rng.once_in(3) {
+        make::damage_table(rng, &mut cells);
+    }
+    let record = |c: &reference::Cell| Record {
+        parent: c.parent,
+        kind: c.kind,
+        width: c.width,
+        depth: c.depth,
+        label_length: rng.next() as u8,
+        label_start: rng.next() as u16,
+    };
+    cells.iter().map(record).collect()
+}
+
+/// Read and Label.
+fn file_calls(rng: &mut Rng) -> Result<(), &'static str> {
+    let file = lent(&some_file(rng));
+    let pattern = Record { parent: rng.next() as u16, width: rng.next() as u16, ..Record::default() };
+    let mut table = lent(&vec![pattern; if rng.once_in(10) { rng.index(256) } else { 256 + rng.index(3) }]);
+    let read = bindings::read(&file, &mut table);
+    let written = read.map_or(0, |plan| plan.count);
+    if table[written..].iter().any(|r| *r != pattern) {
+        return Err("Read wrote past the plan's records");
+    }
+    for cell in [0, rng.index(300), rng.next() as usize] {
+        let refused = bindings::label_refusal(&file, cell).number != 0;
+        let label = bindings::label(&file, cell);
+        if refused && !(label.is_empty() && label.as_ptr() == file.as_ptr()) {
+            return Err("Label refuses, and gives a part");
+        }
+        if written > 0 && refused != (cell >= written) {
+            return Err("Label disagrees with Read");
+        }
+    }
+    Ok(())
+}
+
+/// Layout, Check and Ends.
+fn table_calls(rng: &mut Rng) -> Result<(), &'static str> {
+    let table = lent(&some_table(rng));
+    let room = if rng.once_in(10) { rng.index(600) } else { 2 * table.len() + rng.index(3) };
+    let before: Vec<i32> = (0..room).map(|_| rng.next() as i32).collect();
+    let length = if rng.once_in(10) { rng.index(SCRATCH) } else { SCRATCH + rng.index(3) };
+    let fill = rng.next() as u32 | 1;
+    let (mut positions, mut scratch) = (lent(&before), lent(&vec![fill; length]));
+    let allowance = if rng.once_in(10) { rng.next() as u32 } else { make::allowance(rng) };
+    let laid = bindings::layout(&table, allowance, &mut scratch, &mut positions);
+    let used = if laid.is_ok() { 2 * table.len() } else { 0 };
+    let zeros = if laid.is_ok() { SCRATCH } else { 0 };
+    if positions[used..] != before[used..] || scratch[..zeros].iter().any(|n| *n != 0) || scratch[zeros..].iter().any(|n| *n != fill) {
+        return Err("Layout left a buffer otherwise than it should");
+    }
+    let checked = bindings::check(&table, &positions, allowance);
+    if laid.is_ok() && checked != laid.map(Verdict::Kept) {
+        return Err("Check does not keep Layout's sheet");
+    }
+    let _ = bindings::check(&table, &lent(&before), allowance);
+    for cell in [1, rng.index(300), rng.next() as usize] {
+        let ends = bindings::ends(&table, &positions, cell);
+        if laid.is_ok() && ends.is_ok() != (cell > 0 && cell < table.len()) {
+            return Err("Ends disagrees with Layout");
+        }
+    }
+    Ok(())
+}
+
+fn library(end: Instant, seed: u64) -> u64 {
+    let mut number = 0;
+    while Instant::now() < end {
+        let mut rng = Rng::new(seed, number);
+        let done = if number % 2 == 0 { table_calls(&mut rng) } else { file_calls(&mut rng) };
+        done.unwrap_or_else(|what| fault(what, seed, number));
+        number += 1;
+    }
+    number
+}
+
+fn program(end: Instant, seed: u64, command: &[String]) -> u64 {
+    let mut number = 0;
+    while Instant::now() < end {
+        let file = some_file(&mut Rng::new(seed, number));
+        let mut child = Command::new(&command[0])
+            .args(&command[1..])
+            .stdin(Stdio::piped())
+            .stdout(Stdio::piped())
+            .spawn()
+            .expect("the command runs");
+        let mut input = child.stdin.take().unwrap();
+        // A program that stops reading early closes its input: what it printed is looked at all the same.
+        let _ = input.write_all(&file);
+        drop(input);
+        let output = child.wait_with_output().expect("the command ends");
+        if !output.status.success() {
+            fault(&format!("{}: {file:?}", output.status), seed, number);
+        }
+        if output.stdout != reference::listing(&file) {
+            fault(&format!("another listing: {file:?}"), seed, number);
+        }
+        number += 1;
+    }
+    number
+}
+
+fn main() {
+    let args: Vec<String> = std::env::args().skip(1).collect();
+    let usage = "fuzz library SECONDS SEED, or fuzz program SECONDS SEED COMMAND...";
+    let number = |k: usize| -> u64 { args.get(k).and_then(|a| a.parse().ok()).expect(usage) };
+    let (seconds, seed) = (number(1), number(2));
+    let end = Instant::now() + Duration::from_secs(seconds);
+    let what = args[0].as_str();
+    let inputs = match what {
+        "library" => library(end, seed),
+        "program" => program(end, seed, args.get(3..).filter(|c| !c.is_empty()).expect(usage)),
+        _ => panic!("{usage}"),
+    };
+    println!("{what}: {inputs} inputs in {seconds} s, seed {seed}: no fault");
+}
