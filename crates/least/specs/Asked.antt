@@ -34,7 +34,7 @@ says-between low high n = both (says-le low n) (says-le n high)
 
 pub says-near : (z : ℤ) → Says (near z) (Inside z)
 unfolding near
-says-near z = that-is (says-within farthest z) (λ h. record { low = h .low; high = h .high }) (λ h. record { low = h .low; high = h .high })
+says-near z = says-within farthest z
 
 -- a kind that allows some number of children is known
 allows-known : (k n : ℕ) → T (allows k n) → T (known k)
