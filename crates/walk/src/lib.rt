@@ -215,10 +215,10 @@ fn turn(
 }
 
 // The walk of the tree below cell 0.
-pub fn walk(
+pub fn walk<'a>(
     links: &[u16],
-    widths: &[u16],
-    depths: &[u8],
+    widths: &'a [u16],
+    depths: &'a [u8],
     tops: &[u16],
     allowance: u32,
     rows: &mut [u32],
