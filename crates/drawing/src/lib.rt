@@ -46,11 +46,7 @@ fn layout_refusal(t: Columns, allowance: u32, scratch: usize, positions: usize) 
     if long.number != 0 {
         return long;
     }
-    let parents = t.parent;
-    let kinds = t.kind;
-    let widths = t.width;
-    let depths = t.depth;
-    let lent = lent_refusal(&parents, &kinds, &widths, &depths, t.count, positions);
+    let lent = lent_refusal(&t.parent, &t.kind, &t.width, &t.depth, t.count, positions);
     if lent.number != 0 {
         return lent;
     }

@@ -94,7 +94,7 @@ fn appoint(kinds: &[u8], n: usize, links: &mut [u16])
 }
 
 // The links of n cells, from links of zeros.
-pub fn link_all(parents: &[u16], kinds: &[u8], n: usize, links: &mut [u16])
+pub fn link_all<'a>(parents: &'a [u16], kinds: &'a [u8], n: usize, links: &mut [u16])
     requires { ⌜ Linking (now parents) (now kinds) n (now links) ⌝ }
     ensures { λ _. ⌜ Built (now (parents .entry)) (now (kinds .entry)) n (now (links .exit)) ⌝ }
 {

@@ -19,11 +19,7 @@ pub fn marks_of(
     requires { ⌜ Markable t (now tops) (now rows) (now marks) ⌝ }
     ensures { λ _. ⌜ (now (rows .exit) ≡ now (rows .entry)) × Marked (table-of t) allowance (now (marks .exit)) ⌝ }
 {
-    let parents = t.parent;
-    let kinds = t.kind;
-    let widths = t.width;
-    let depths = t.depth;
     let mut links = [0u16; 1024];
-    link_all(&parents, &kinds, t.count, &mut links);
-    walk(&links, &widths, &depths, tops, allowance, rows, marks);
+    link_all(&t.parent, &t.kind, t.count, &mut links);
+    walk(&links, &t.width, &t.depth, tops, allowance, rows, marks);
 }

@@ -1,5 +1,5 @@
 -- The chain of open cells as the code has it, and a turn as the code takes it. Assumes nothing.
-use mathlib.Core.Path.{_≡_, refl, _∙_, ap, sym, subst}
+use mathlib.Core.Path.{_≡_, refl, _∙_, ap}
 use mathlib.Core.Logic.{_≢_}
 use mathlib.Core.List.{List, [], _∷_, _++_}
 use Prim.Native.Nat.{ℕ, zero, suc, _+_, _-_, _*_, _≤_, _<_}
@@ -11,7 +11,7 @@ use Rattle.rows.specs.Rows.{row-size, box-to}
 use Rattle.joining.specs.Joining.{Memory, mem, height, completed, settled, Settling}
 use Rattle.joining.specs.Settle.{finished}
 use Rattle.links.specs.Links.{link}
-use Rattle.walk.specs.Machine.{Chart, wide, deep, top, apt, State, closed, root-closed, step, step-open, step-close, step-end, Finishing, Closing, Ending, Shutting, Turning}
+use Rattle.walk.specs.Machine.{Chart, wide, deep, top, apt, State, closed, root-closed, step, step-open, step-close, step-end, Finishing, Closing, Ending, Turning}
 
 -- ---- the chain: an array of 32 cells and a count. The stack has its last cell on top
 unfoldable pub stack-of : List ℕ → ℕ → List ℕ
@@ -30,9 +30,13 @@ stack-of-set cs i v (suc k) le =
     let ne : k ≢ i = omega arith in
     rw (getD-set-other cs i k v 0 ne, stack-of-set cs i v k (omega arith))
 
-pub stack-of-push : (cs : List ℕ) (k v : ℕ) → k < length cs → stack-of (set cs k v) (k + 1) ≡ v ∷ stack-of cs k
+stack-of-push : (cs : List ℕ) (k v : ℕ) → k < length cs → stack-of (set cs k v) (k + 1) ≡ v ∷ stack-of cs k
 unfolding stack-of
 stack-of-push cs k v lt = rw (add-one, getD-set-same cs k v 0 lt, stack-of-set cs k v k (omega arith))
+
+stack-of-more : (cs : List ℕ) (k : ℕ) → stack-of cs (k + 1) ≡ getD cs k 0 ∷ stack-of cs k
+unfolding stack-of
+stack-of-more cs k = rw add-one
 
 stack-of-top : (cs : List ℕ) (k : ℕ) → 0 < k → stack-of cs k ≡ getD cs (k - 1) 0 ∷ stack-of cs (k - 1)
 unfolding stack-of
@@ -43,52 +47,36 @@ stack-of-top cs k lt =
 abbrev pub state-of : List ℕ → ℕ → ℕ → List ℕ → List ℕ → State
 state-of cs k next xs ms = record { stack = stack-of cs k; next = next; memory = mem xs ms }
 
--- ---- a turn, as the code takes it
-module _ (cs : List ℕ) (k : ℕ) where
-  two : 1 < k → stack-of cs k ≡ getD cs (k - 1) 0 ∷ getD cs (k - 1 - 1) 0 ∷ stack-of cs (k - 1 - 1)
-  two lt = stack-of-top cs k (omega arith) ∙ ap (λ (l : List ℕ). getD cs (k - 1) 0 ∷ l) (stack-of-top cs (k - 1) (omega arith))
+-- ---- a turn, as the code takes it; the latest open cell is at level k
+pub turn-open : (b : Chart) (cs : List ℕ) (k next : ℕ) (xs ms : List ℕ) {n : ℕ} → 0 < next → k < length cs → n ≡ link (b .links) next 0 → state-of (set cs k next) (k + 1) n xs ms ≡ step b (state-of cs k next xs ms)
+turn-open b cs k next xs ms lt room en = cc (stack-of-push cs k next room, step-open b (stack-of cs k) next (mem xs ms) lt)
 
-  one : k ≡ 1 → stack-of cs k ≡ getD cs 0 0 ∷ []
+module _ (b : Chart) (cs : List ℕ) (k : ℕ) (xs ms : List ℕ) where
+  two : 0 < k → stack-of cs (k + 1) ≡ getD cs k 0 ∷ getD cs (k - 1) 0 ∷ stack-of cs (k - 1)
+  two lt = rw (stack-of-more cs k, stack-of-top cs k lt)
+
+  one : k ≡ 0 → stack-of cs (k + 1) ≡ getD cs k 0 ∷ []
   unfolding stack-of
-  one e = rw e
+  one e = rw (stack-of-more cs k, e)
 
-pub turn-open : (b : Chart) (cs : List ℕ) (k next : ℕ) (xs ms cs′ : List ℕ) (k′ : ℕ) {n : ℕ} → 0 < next → n ≡ link (b .links) next 0 → stack-of cs′ k′ ≡ next ∷ stack-of cs k
-    → state-of cs′ k′ n xs ms ≡ step b (state-of cs k next xs ms)
-turn-open b cs k next xs ms cs′ k′ lt en es =
-    (λ i. record { stack = es i; next = en i; memory = mem xs ms }) ∙ sym (step-open b (stack-of cs k) next (mem xs ms) lt)
+  pub turn-close : {n c f : ℕ} {xs′ ms′ : List ℕ} → 0 < k → c ≡ getD cs k 0 → f ≡ getD cs (k - 1) 0 → n ≡ link (b .links) c 1 → mem xs′ ms′ ≡ closed b (k - 1) f c (mem xs ms) → state-of cs k n xs′ ms′ ≡ step b (state-of cs (k + 1) 0 xs ms)
+  turn-close lt ec ef en em =
+      cc (two lt, stack-of-top cs k lt, stack-of-length cs (k - 1), step-close b (getD cs k 0) (getD cs (k - 1) 0) (stack-of cs (k - 1)) (mem xs ms))
 
-pub turn-close : (b : Chart) (cs : List ℕ) (k : ℕ) (xs ms cs′ : List ℕ) (k′ : ℕ) {n c f level : ℕ} {xs′ ms′ : List ℕ} → 1 < k → c ≡ getD cs (k - 1) 0 → f ≡ getD cs (k - 1 - 1) 0
-    → level ≡ k - 1 - 1 → n ≡ link (b .links) c 1 → stack-of cs′ k′ ≡ stack-of cs (k - 1) → mem xs′ ms′ ≡ closed b level f c (mem xs ms) → state-of cs′ k′ n xs′ ms′ ≡ step b (state-of cs k 0 xs ms)
-turn-close b cs k xs ms cs′ k′ {n} {c} {f} {level} {xs′} {ms′} lt ec ef el en es em =
-    let under : stack-of cs (k - 1) ≡ getD cs (k - 1 - 1) 0 ∷ stack-of cs (k - 1 - 1) = stack-of-top cs (k - 1) (omega arith) in
-    let len : length (stack-of cs (k - 1 - 1)) ≡ level = stack-of-length cs (k - 1 - 1) ∙ sym el in
-    let go : step b (state-of cs k 0 xs ms) ≡ record { stack = f ∷ stack-of cs (k - 1 - 1); next = link (b .links) c 1; memory = closed b level f c (mem xs ms) } =
-    ap (λ (l : List ℕ). step b (record { stack = l; next = 0; memory = mem xs ms })) (two cs k lt ∙ rw (← ec, ← ef)) ∙ step-close b c f (stack-of cs (k - 1 - 1)) (mem xs ms) ∙ rw len in
-    (λ i. record { stack = (es ∙ under ∙ ap (λ (x : ℕ). x ∷ stack-of cs (k - 1 - 1)) (sym ef)) i; next = en i; memory = em i }) ∙ sym go
+  pub turn-end : {d w : ℕ} {xs′ ms′ : List ℕ} → k ≡ 0 → d ≡ deep b 0 → w ≡ wide b 0 → mem xs′ ms′ ≡ root-closed (mem xs ms) d w → state-of cs k 0 xs′ ms′ ≡ step b (state-of cs (k + 1) 0 xs ms)
+  turn-end ek ed ew em =
+      let bottom : stack-of cs k ≡ [] = rw ek (unfold stack-of in refl) in
+      cc (one ek, step-end b (getD cs k 0) (mem xs ms))
 
-pub turn-end : (b : Chart) (cs : List ℕ) (k : ℕ) (xs ms cs′ : List ℕ) (k′ : ℕ) {d w : ℕ} {xs′ ms′ : List ℕ} → k ≡ 1 → d ≡ deep b 0 → w ≡ wide b 0 → stack-of cs′ k′ ≡ stack-of cs (k - 1)
-    → mem xs′ ms′ ≡ root-closed (mem xs ms) d w → state-of cs′ k′ 0 xs′ ms′ ≡ step b (state-of cs k 0 xs ms)
-turn-end b cs k xs ms cs′ k′ ek ed ew es em =
-    let bottom : stack-of cs (k - 1) ≡ [] = rw ek (unfold stack-of in refl) in
-    let go : step b (state-of cs k 0 xs ms) ≡ record { stack = []; next = 0; memory = root-closed (mem xs ms) (deep b 0) (wide b 0) } =
-    ap (λ (l : List ℕ). step b (record { stack = l; next = 0; memory = mem xs ms })) (one cs k ek) ∙ step-end b (getD cs 0 0) (mem xs ms) in
-    let em′ = rw (ed, ew) at em in
-    (λ i. record { stack = (es ∙ bottom) i; next = 0; memory = em′ i }) ∙ sym go
+  -- what a turn needs, told of the chain
+  pub shut-two : {c f : ℕ} → Turning b (state-of cs (k + 1) 0 xs ms) → 0 < k → c ≡ getD cs k 0 → f ≡ getD cs (k - 1) 0 → Closing b (k - 1) f c xs ms
+  shut-two h lt ec ef = rw (ec, ef) (rw (two lt, stack-of-length cs (k - 1)) at (h .shut refl))
 
--- ---- what a turn needs, told of the chain
-pub shut-two : (b : Chart) (cs : List ℕ) (k : ℕ) (xs ms : List ℕ) {c f level : ℕ} → Turning b (state-of cs k 0 xs ms) → 1 < k → c ≡ getD cs (k - 1) 0 → f ≡ getD cs (k - 1 - 1) 0 → level ≡ k - 1 - 1
-    → Closing b level f c xs ms
-shut-two b cs k xs ms {c} {f} {level} h lt ec ef el =
-    let s : Shutting b (getD cs (k - 1) 0 ∷ getD cs (k - 1 - 1) 0 ∷ stack-of cs (k - 1 - 1)) (mem xs ms) = subst (λ (l : List ℕ). Shutting b l (mem xs ms)) (two cs k lt) (h .shut refl) in
-    let s₁ = subst (λ (x : ℕ). Closing b (length (stack-of cs (k - 1 - 1))) (getD cs (k - 1 - 1) 0) x xs ms) (sym ec) s in
-    let s₂ = subst (λ (x : ℕ). Closing b (length (stack-of cs (k - 1 - 1))) x c xs ms) (sym ef) s₁ in
-    subst (λ (l : ℕ). Closing b l f c xs ms) (stack-of-length cs (k - 1 - 1) ∙ sym el) s₂
+  pub shut-one : Turning b (state-of cs (k + 1) 0 xs ms) → k ≡ 0 → Ending b (mem xs ms)
+  shut-one h e = rw (one e) at (h .shut refl)
 
-pub shut-one : (b : Chart) (cs : List ℕ) (k : ℕ) (xs ms : List ℕ) → Turning b (state-of cs k 0 xs ms) → k ≡ 1 → Ending b (mem xs ms)
-shut-one b cs k xs ms h e = subst (λ (l : List ℕ). Shutting b l (mem xs ms)) (one cs k e) (h .shut refl)
-
-pub turn-some : (b : Chart) (cs : List ℕ) (k : ℕ) (xs ms : List ℕ) → Turning b (state-of cs k 0 xs ms) → (0 < k) × (k ≤ 32)
-turn-some b cs k xs ms h = let e = stack-of-length cs k in (omega (arith, h .some), omega (arith, h .many))
+  pub turn-some : {n : ℕ} → Turning b (state-of cs k n xs ms) → (0 < k) × (k ≤ 32)
+  turn-some h = let e = stack-of-length cs k in (omega (arith, h .some), omega (arith, h .many))
 
 -- ---- the numbers that the code finds on its way
 pub settle-ready : (m : Memory) (at f c d w : ℕ) {hs : ℕ} {xs ms : List ℕ} → Finishing m at f c d w → mem xs ms ≡ completed m (at + 2) c d w → hs ≡ height (m .marks) c d → Settling (mem xs ms) at f c hs

@@ -6,14 +6,13 @@ use links::link_of;
 use rows::ROW;
 use rows::box_rows;
 ghost use mathlib.Core.Path.{_≡_};
-ghost use mathlib.Core.List.{_∷_};
-ghost use Prim.Native.Nat.{_-_, _<_};
+ghost use Prim.Native.Nat.{_+_, _<_};
 ghost use lib.ListN.{length, getD};
 ghost use Rattle.joining.specs.Joining.{mem};
 ghost use Rattle.joining.specs.Settle.{finished};
 ghost use Rattle.walk.specs.Walked.{Walking, Walked};
 ghost use Rattle.walk.specs.Machine.{Finishing, Rooting, root-closed, chart, step, Closing, closed, Turning};
-ghost use Rattle.walk.specs.Turns.{stack-of, state-of};
+ghost use Rattle.walk.specs.Turns.{state-of};
 
 fn wide8(x: u8) -> usize
     ensures { λ r. ⌜ r ≡ x ⌝ }
@@ -124,62 +123,40 @@ pub struct Chain {
     pub count: usize,
 }
 
-impl Chain {
-    fn pushed(mut self, c: u16) -> Chain
-        requires { ⌜ self .count < 32 ⌝ }
-        ensures { λ r. ⌜ stack-of (r .cells) (r .count) ≡ c ∷ stack-of (self .cells) (self .count) ⌝ }
-    {
-        let at = self.count;
-        self.cells[at] = c;
-        self.count = at + 1;
-        self
-    }
-
-    fn popped(mut self) -> Chain
-        requires { ⌜ 0 < self .count ⌝ }
-        ensures { λ r. ⌜ stack-of (r .cells) (r .count) ≡ stack-of (self .cells) (self .count - 1) ⌝ }
-    {
-        self.count = self.count - 1;
-        self
-    }
-
-    fn cell(self, at: usize) -> usize
-        requires { ⌜ at < 32 ⌝ }
-        ensures { λ r. ⌜ r ≡ getD (self .cells) at 0 ⌝ }
-    {
-        self.cells[at] as usize
-    }
-}
-
-// The chain after a turn, and the child to open next, 0 where there is none.
+// The number of open cells after a turn, and the child to open next, 0 where there is none.
 pub struct Turned {
-    pub chain: Chain,
+    pub count: usize,
     pub next: usize,
 }
 
-// The latest open cell is closed.
+// The open cell at a level.
+fn open_at(cells: &[u16; 32], level: usize) -> usize
+    requires { ⌜ level < 32 ⌝ }
+    ensures { λ r. ⌜ r ≡ getD (now (cells .entry)) level 0 ⌝ }
+{
+    wide16(cells[level])
+}
+
+// The latest open cell, at the given level, is closed. Its next sibling, 0 where there is none.
 fn shut(
     links: &[u16],
     widths: &[u16],
     depths: &[u8],
     tops: &[u16],
     allowance: u32,
-    chain: Chain,
+    cells: &[u16; 32],
+    level: usize,
     rows: &mut [u32],
     marks: &mut [u32],
-) -> Turned
-    requires { ⌜ Turning (chart (now links) (now widths) (now depths) (now tops) allowance) (state-of (chain .cells) (chain .count) 0 (now rows) (now marks)) ⌝ }
-    ensures { λ r. ⌜ state-of (r .chain .cells) (r .chain .count) (r .next) (now (rows .exit)) (now (marks .exit)) ≡ step (chart (now (links .entry)) (now (widths .entry)) (now (depths .entry)) (now (tops .entry)) allowance) (state-of (chain .cells) (chain .count) 0 (now (rows .entry)) (now (marks .entry))) ⌝ }
+) -> usize
+    requires { ⌜ Turning (chart (now links) (now widths) (now depths) (now tops) allowance) (state-of (now cells) (level + 1) 0 (now rows) (now marks)) ⌝ }
+    ensures { λ r. ⌜ state-of (now (cells .entry)) level r (now (rows .exit)) (now (marks .exit)) ≡ step (chart (now (links .entry)) (now (widths .entry)) (now (depths .entry)) (now (tops .entry)) allowance) (state-of (now (cells .entry)) (level + 1) 0 (now (rows .entry)) (now (marks .entry))) ⌝ }
 {
-    let level = chain.count - 1;
     if level == 0 {
         finish_root(rows, marks, number(depths, 0), width_of(widths, 0));
-        return Turned {
-            chain: chain.popped(),
-            next: 0,
-        };
+        return 0;
     }
-    let c = chain.cell(level);
+    let c = open_at(cells, level);
     close(
         links,
         widths,
@@ -187,15 +164,12 @@ fn shut(
         tops,
         allowance,
         level - 1,
-        chain.cell(level - 1),
+        open_at(cells, level - 1),
         c,
         rows,
         marks,
     );
-    Turned {
-        chain: chain.popped(),
-        next: link_of(links, c, 1),
-    }
+    link_of(links, c, 1)
 }
 
 // One turn: the next child of the latest open cell is opened, or that cell is closed.
@@ -205,28 +179,46 @@ fn turn(
     depths: &[u8],
     tops: &[u16],
     allowance: u32,
-    chain: Chain,
+    cells: &mut [u16; 32],
+    count: usize,
     next: usize,
     rows: &mut [u32],
     marks: &mut [u32],
 ) -> Turned
-    requires { ⌜ Turning (chart (now links) (now widths) (now depths) (now tops) allowance) (state-of (chain .cells) (chain .count) next (now rows) (now marks)) ⌝ }
-    ensures { λ r. ⌜ state-of (r .chain .cells) (r .chain .count) (r .next) (now (rows .exit)) (now (marks .exit)) ≡ step (chart (now (links .entry)) (now (widths .entry)) (now (depths .entry)) (now (tops .entry)) allowance) (state-of (chain .cells) (chain .count) next (now (rows .entry)) (now (marks .entry))) ⌝ }
+    requires { ⌜ length (now cells) ≡ 32 ⌝ }
+    requires { ⌜ Turning (chart (now links) (now widths) (now depths) (now tops) allowance) (state-of (now cells) count next (now rows) (now marks)) ⌝ }
+    ensures { λ _. ⌜ length (now (cells .exit)) ≡ 32 ⌝ }
+    ensures { λ r. ⌜ state-of (now (cells .exit)) (r .count) (r .next) (now (rows .exit)) (now (marks .exit)) ≡ step (chart (now (links .entry)) (now (widths .entry)) (now (depths .entry)) (now (tops .entry)) allowance) (state-of (now (cells .entry)) count next (now (rows .entry)) (now (marks .entry))) ⌝ }
 {
     if 0 < next {
+        cells[count] = next as u16;
         return Turned {
-            chain: chain.pushed(next as u16),
+            count: count + 1,
             next: link_of(links, next, 0),
         };
     }
-    shut(links, widths, depths, tops, allowance, chain, rows, marks)
+    let level = count - 1;
+    Turned {
+        count: level,
+        next: shut(
+            links,
+            widths,
+            depths,
+            tops,
+            allowance,
+            cells,
+            level,
+            rows,
+            marks,
+        ),
+    }
 }
 
 // The walk of the tree below cell 0.
-pub fn walk(
+pub fn walk<'a>(
     links: &[u16],
-    widths: &[u16],
-    depths: &[u8],
+    widths: &'a [u16],
+    depths: &'a [u8],
     tops: &[u16],
     allowance: u32,
     rows: &mut [u32],
@@ -241,18 +233,20 @@ pub fn walk(
     };
     let mut next = link_of(links, 0, 0);
     while 0 < chain.count {
+        let count = chain.count;
         let t = turn(
             links,
             widths,
             depths,
             tops,
             allowance,
-            chain,
+            &mut chain.cells,
+            count,
             next,
             rows,
             marks,
         );
-        chain = t.chain;
+        chain.count = t.count;
         next = t.next;
     }
 }

@@ -11,9 +11,9 @@ use Rattle.drawing.proofs.layout_refusal.Statement.{statement}
 use Rattle.drawing.proofs.layout_refusal.Tie as tie
 
 -- the questions in the order in which they are put
-put : (c : tie.Start) → or-else (asked 1 (leb scratch-size (c .args .scratch)) 0) (or-else (lent-refusal (table-of (c .args .t)) (c .args .positions)) (asked 14 (leb (c .args .allowance) most-allowance) 0))
-    ≡ refusal layout (layout-given (table-of (c .args .t)) (c .args .allowance) (c .args .scratch) (c .args .positions))
-put c = sym (layout-refusal (table-of (c .args .t)) (c .args .allowance) (c .args .scratch) (c .args .positions))
+put : (c : tie.Start) → or-else (asked 1 (leb scratch-size (c .args .scratch)) 0) (or-else (lent-refusal (table-of (c .args .t1)) (c .args .positions)) (asked 14 (leb (c .args .allowance) most-allowance) 0))
+    ≡ refusal layout (layout-given (table-of (c .args .t1)) (c .args .allowance) (c .args .scratch) (c .args .positions))
+put c = sym (layout-refusal (table-of (c .args .t1)) (c .args .allowance) (c .args .scratch) (c .args .positions))
 
 asked-requires : tie.Need-asked-requires
 asked-requires c κs = search needs
@@ -25,13 +25,13 @@ lent-refusal-requires : tie.Need-lent-refusal-requires
 lent-refusal-requires c κs = search needs
 
 returns-2 : tie.Need-returns-2
-returns-2 c = goes-on _ _ _ _ (c .before .before .before .before .before .before .before .before .before .before .before .before .before .asked .ensures) (c .before .before .before .before .before .before .before .before .before .before .before .if1 .left) (stops _ _ _ (c .before .before .lent-refusal .ensures) (c .if2 .taken)) ∙ put (c .before .before .before .before .before .before .before .before .before .before .before .before .before .before)
+returns-2 c = goes-on _ _ _ _ (c .before .before .before .before .before .before .before .before .before .before .asked .ensures) (c .before .before .before .before .before .before .before .before .if1 .left) (stops _ _ _ (c .before .before .lent-refusal .ensures) (c .if2 .taken)) ∙ put (c .before .before .before .before .before .before .before .before .before .before .before)
 
 allowance-refusal-requires : tie.Need-allowance-refusal-requires
 allowance-refusal-requires c κs = search needs
 
 returns-3 : tie.Need-returns-3
-returns-3 c = goes-on _ _ _ _ (c .before .before .before .before .before .before .before .before .before .before .before .before .before .before .asked .ensures) (c .before .before .before .before .before .before .before .before .before .before .before .before .if1 .left) (goes-on _ _ _ _ (c .before .before .before .lent-refusal .ensures) (c .before .if2 .left) (c .allowance-refusal .ensures)) ∙ put (c .before .before .before .before .before .before .before .before .before .before .before .before .before .before .before)
+returns-3 c = goes-on _ _ _ _ (c .before .before .before .before .before .before .before .before .before .before .before .asked .ensures) (c .before .before .before .before .before .before .before .before .before .if1 .left) (goes-on _ _ _ _ (c .before .before .before .lent-refusal .ensures) (c .before .if2 .left) (c .allowance-refusal .ensures)) ∙ put (c .before .before .before .before .before .before .before .before .before .before .before .before)
 
 pub layout-refusal-spec : {M : Type 1} → statement M
 layout-refusal-spec =

@@ -1,5 +1,5 @@
 use borrow.Author.Needs.{needs}
-use Prim.Native.Nat.{_-_, _*_}
+use Prim.Native.Nat.{_*_}
 use mathlib.Core.Path.{refl, _∙_}
 use Rattle.walk.specs.Machine.{chart}
 use Rattle.walk.specs.Turns.{child-ready, close-found}
@@ -44,7 +44,7 @@ finish-child-requires : tie.Need-finish-child-requires
 finish-child-requires c κs =
     let st = c .before .before .before .before .before .before .before .before .before .before .before .before .before in
     let a = st .args in
-    child-ready (chart (a .links .now) (a .widths .now) (a .depths .now) (a .tops .now) (a .allowance)) (a .level) (a .f) (a .c) (a .rows .now) (a .marks .now) (st .pre) (c .before .before .before .before .before .before .number .ensures) (c .before .before .before .before .before .width-of .ensures) refl (tail-seen (a .rows .now) (64 * c .before .before .row-of .result) ∙ rw (c .before .before .row-of .ensures))
+    child-ready (chart (a .links .now) (a .widths .now) (a .depths .now) (a .tops .now) (a .allowance)) (a .level) (a .f) (a .c) (a .rows .now) (a .marks .now) (st .pre) (c .before .before .before .before .before .before .number .ensures) (c .before .before .before .before .before .width-of .ensures) refl (tail-seen (a .rows .now) _ ∙ rw (c .before .before .row-of .ensures))
 
 same-length : tie.Need-same-length
 same-length c = search needs
@@ -55,7 +55,7 @@ same-length-2 c = search needs
 returns : tie.Need-returns
 returns c =
     let a = c .before .before .before .before .before .before .before .before .before .before .before .before .before .before .before .before .before .before .args in
-    close-found (chart (a .links .now) (a .widths .now) (a .depths .now) (a .tops .now) (a .allowance)) (a .level) (a .f) (a .c) (a .rows .now) (a .marks .now) (c .before .before .before .before .before .before .before .before .before .before .before .number .ensures) (c .before .before .before .before .before .before .before .before .before .before .width-of .ensures) (c .before .before .before .before .before .before .before .row-of .ensures) (c .before .before .before .before .before .before .before .before .before .link-of .ensures) (c .before .before .before .before .before .before .before .before .link-of2 .ensures) (tail-seen (a .rows .now) (64 * c .before .before .before .before .before .before .before .row-of .result)) (c .before .before .before .before .finish-child .ensures) (tail-put (a .rows .now) (64 * c .before .before .before .before .before .before .before .row-of .result) _)
+    close-found (chart (a .links .now) (a .widths .now) (a .depths .now) (a .tops .now) (a .allowance)) (a .level) (a .f) (a .c) (a .rows .now) (a .marks .now) (c .before .before .before .before .before .before .before .before .before .before .before .number .ensures) (c .before .before .before .before .before .before .before .before .before .before .width-of .ensures) (c .before .before .before .before .before .before .before .row-of .ensures) (c .before .before .before .before .before .before .before .before .before .link-of .ensures) (c .before .before .before .before .before .before .before .before .link-of2 .ensures) (tail-seen (a .rows .now) _) (c .before .before .before .before .finish-child .ensures) (tail-put (a .rows .now) (64 * c .before .before .before .before .before .before .before .row-of .result) _)
 
 pub close-spec : {M : Type 1} → statement M
 close-spec =
