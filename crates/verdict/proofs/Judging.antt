@@ -16,15 +16,14 @@ use Rattle.plan.specs.Questions.{refusal, check, check-given}
 use Rattle.plan.specs.Columns.{table-of}
 use Rattle.rules.specs.Search.{Verdict, kept, broken}
 use Rattle.rules.specs.Verdict.{verdict, answer}
-use Rattle.spans.specs.Columns.{at}
 use Rattle.plan.specs.TableLaws.{length-is, count-few, count-some}
 use Rattle.verdict.specs.declared.Checked.{Checked}
 use Rattle.verdict.specs.declared.Checked.the-variants as checked
-use Rattle.verdict.specs.declared.search.Sights.{Sights}
+use Rattle.verdict.specs.declared.search.View.{View}
 use Rattle.verdict.specs.declared.search.Found.{Found}
 use Rattle.verdict.specs.declared.search.Found.the-variants.{Kept, Broken}
-use Rattle.verdict.specs.Passes.{Sighted, found-of, all-found}
-use Rattle.verdict.specs.Sees.{Sees}
+use Rattle.verdict.specs.Passes.{Sights, Sighted, found-of, all-found}
+use Rattle.verdict.specs.Sees.{Looked}
 use Rattle.verdict.specs.Spread.{Bounds, Spread}
 use Rattle.rules.specs.Placement.{placed}
 use Rattle.verdict.specs.Checked.{answered, unless}
@@ -32,7 +31,7 @@ use Rattle.verdict.specs.Meaning.{found-verdict}
 use Rattle.verdict.specs.CheckedLaws as laws
 use Rattle.verdict.proofs.Searching.{found-broken, found-kept}
 
-module _ (t : Columns) (fit : Fit (table-of t)) (ps : List ℤ) (al : ℕ) (s : Sights) (g : Sees (table-of t) (placed ps) s) where
+module _ (t : Columns) (fit : Fit (table-of t)) (ps : List ℤ) (al : ℕ) (s : Sights) (g : Looked (table-of t) (placed ps) s) where
   found-is : (f : Found) → f ≡ found-of (all-found s al (t .count)) → f ≡ found-of (verdict (table-of t) (placed ps) al)
   found-is f e =
       e ∙ ap (λ (n : ℕ). found-of (all-found s al n)) (sym (length-is t)) ∙ ap found-of (found-verdict (table-of t) (placed ps) s (fit .sound) g al)
@@ -41,19 +40,20 @@ module _ (t : Columns) (fit : Fit (table-of t)) (ps : List ℤ) (al : ℕ) (s : 
       → checked.Broken r a b ≡ answered (answer (table-of t) (placed ps) al)
   broken-answer f e q = laws.answered-broken (table-of t) (placed ps) al (found-broken _ f (found-is f e) q)
 
-  pub kept-answer : (f : Found) (w : ℕ) → f ≡ found-of (all-found s al (t .count)) → f ≡ Kept → Spread (s .right) (s .x) (t .count) w
-      → checked.Kept w (at (s .bottom) 0 - at (s .y) 0 + 1) ≡ answered (answer (table-of t) (placed ps) al)
-  kept-answer f w e q h =
-      laws.answered-kept (table-of t) (placed ps) s (fit .sound) (fit .some-cell) g al w (found-kept _ f (found-is f e) q)
-      (subst (λ (n : ℕ). Spread (s .right) (s .x) n w) (sym (length-is t)) h)
+  pub kept-answer : (f : Found) (w : ℕ) (v : View) → f ≡ found-of (all-found s al (t .count)) → f ≡ Kept → Spread s (t .count) w → v ≡ s 0
+      → checked.Kept w (v .bottom - v .y + 1) ≡ answered (answer (table-of t) (placed ps) al)
+  kept-answer f w v e q h r =
+      rw r
+      (laws.answered-kept (table-of t) (placed ps) s (fit .sound) (fit .some-cell) g al w (found-kept _ f (found-is f e) q)
+      (subst (λ (n : ℕ). Spread s n w) (sym (length-is t)) h))
 
-  pub bounds : Bounds (s .right) (s .x) (t .count)
+  pub bounds : Bounds s (t .count)
   bounds =
-      subst (λ (n : ℕ). Bounds (s .right) (s .x) n) (length-is t)
+      subst (λ (n : ℕ). Bounds s n) (length-is t)
       (laws.bounds (table-of t) (placed ps) s (fit .sound) (fit .some-cell) g (fit .not-too-many))
 
-  pub rows-fit : Sighted s (t .count) → (at (s .y) 0 ≤ at (s .bottom) 0) × (at (s .bottom) 0 < 2 ^ 31)
-  rows-fit h = (laws.y-bottom (table-of t) (placed ps) s (fit .sound) (fit .some-cell) g, h .bottom-small 0 (count-some t fit))
+  pub rows-fit : Sighted s (t .count) → (v : View) → v ≡ s 0 → (v .y ≤ v .bottom) × (v .bottom < 2 ^ 31)
+  rows-fit h v r = rw r (laws.y-bottom (table-of t) (placed ps) s (fit .sound) (fit .some-cell) g, h .bottom-small 0 (count-some t fit))
 
 -- ---- the refusal, or the answer
 pub unless-refused : (r q : Refusal) (a : Checked) → q ≡ r → ¬ (q .number ≡ 0) → checked.Refused (q .number) (q .cell) ≡ unless r a

@@ -1,5 +1,5 @@
 -- What the loops that make the columns keep: those of the cells passed are made. Assumes nothing.
-use mathlib.Core.Path.{_≡_, refl, sym, _∙_, ap}
+use mathlib.Core.Path.{_≡_, refl, sym, _∙_, ap, subst}
 use mathlib.Core.List.{List}
 use Prim.Native.Nat.{ℕ, zero, suc, _+_, _-_, _*_, _^_, _≤_, _<_}
 use native.Mathlib.Nat.{add-zero}
@@ -24,10 +24,9 @@ use Rattle.spans.specs.Order.{children-few}
 use Rattle.spans.specs.Counted.{Counted}
 use Rattle.spans.specs.Deepest.{Deepest}
 use Rattle.spans.specs.Spans.{Spans}
-use Rattle.verdict.specs.declared.search.Sights.{Sights}
 use Rattle.rules.specs.Placement.{placed}
-use Rattle.verdict.specs.Passes.{Sighted}
-use Rattle.verdict.specs.Sees.{Lifts, Short, Due, Sees}
+use Rattle.verdict.specs.Passes.{Sights, Agree, Sighted, view-at}
+use Rattle.verdict.specs.Sees.{Lifts, Short, Due, Sees, Looked}
 
 -- ---- a column, cell by cell
 pub made-none : (f : ℕ → ℕ) → Column (all 0) 0 f
@@ -123,7 +122,7 @@ module _ (t : Columns) (fit : Fit (table-of t)) (base : List ℕ) where
           rw (q, ← same) (p .here)
       go i g o k (no q) = p .off i q ∙ h .each i g o (omega arith)
 
-  pub duing-ends : {c : ℕ} {due : List ℕ} → Duing t base c due → t .count ≤ c → Due (table-of t) base due
+  pub duing-ends : {c : ℕ} {due : List ℕ} → Duing t base c due → t .count ≤ c → Due (table-of t) (at base) (at due)
   duing-ends {c} h l = record { root = h .root; each = λ i f o. h .each i f o (omega (arith, o .is, length-is t)) }
 
   pub base-low : {c f : ℕ} → Short base (t .count) → 1 ≤ c → c < t .count → f ≡ getD (t .parent) c 0 → at base f < 2 ^ 30
@@ -172,22 +171,27 @@ module _ (t : Columns) (fit : Fit (table-of t)) (ps : List ℤ) (near : Near ps 
   pub many-short : (nth many : List ℕ) → Counted (table-of t) (at nth) (at many) → Short many (t .count)
   many-short nth many h = record { short = λ c l. omega (arith, h .all c (is c l), children-few (table-of t) c, fit .not-too-many) }
 
-  module _ (s : Sights) (hx : Raised (s .x) 0) (hy : Raised (s .y) 1)
-      (hr : Column (s .right) (t .count) (λ c. at (s .x) c + W (table-of t) c)) (hb : Column (s .base) (t .count) (λ c. at (s .y) c + D (table-of t) c)) where
-    pub sighted : Deepest (table-of t) (at (s .base)) (at (s .bottom)) → Sighted s (t .count)
-    sighted hs = record {
+  module _ (parents nth middle x right y due base bottom first end from to many : List ℕ) (hx : Raised x 0) (hy : Raised y 1)
+      (hr : Column right (t .count) (λ c. at x c + W (table-of t) c)) (hb : Column base (t .count) (λ c. at y c + D (table-of t) c))
+      (hs : Deepest (table-of t) (at base) (at bottom)) where
+    abbrev pub columns : Sights
+    columns = view-at parents nth middle x right y due base bottom first end from to
+
+    sighted : (s : Sights) → Agree s columns (t .count) → Sighted s (t .count)
+    sighted s a = record {
       few = count-few t fit;
-      x-small = λ c l. omega (arith, low (s .x) 0 (omega arith) hx c l);
-      right-small = λ c l. omega (arith, hr .each c l, low (s .x) 0 (omega arith) hx c l, fit .wide c (is c l) .1);
-      bottom-small = λ c l. let r = hs .one c (is c l) in omega (arith, r .so, bases-short (s .y) (s .base) hy hb .short (r .cell) (in-count (r .cell) (r .is)));
+      x-small = λ c l. rw (a .same c l) (omega (arith, low x 0 (omega arith) hx c l));
+      right-small = λ c l. rw (a .same c l) (omega (arith, hr .each c l, low x 0 (omega arith) hx c l, fit .wide c (is c l) .1));
+      bottom-small = λ c l.
+          let r = hs .one c (is c l) in
+          rw (a .same c l) (omega (arith, r .so, bases-short y base hy hb .short (r .cell) (in-count (r .cell) (r .is))));
     }
 
-    pub sees : (many : List ℕ) → Due (table-of t) (s .base) (s .due) → Deepest (table-of t) (at (s .base)) (at (s .bottom))
-        → Spans (table-of t) (at (s .first)) (at (s .end)) (at (s .from)) (at (s .to)) → Counted (table-of t) (at (s .nth)) (at many)
-        → Column (s .parent) (t .count) (parent (table-of t)) → Column (s .middle) (t .count) (λ c. appointed (kind (table-of t) c) (at many c))
-        → Sees (table-of t) (placed ps) s
+    sees : Due (table-of t) (at base) (at due) → Spans (table-of t) (at first) (at end) (at from) (at to) → Counted (table-of t) (at nth) (at many)
+        → Column parents (t .count) (parent (table-of t)) → Column middle (t .count) (λ c. appointed (kind (table-of t) c) (at many c))
+        → Sees (table-of t) (placed ps) columns
     unfolding placed
-    sees many hd hs sp hn hp hm = record {
+    sees hd sp hn hp hm = record {
       many = at many;
       counted = hn;
       parents = λ c i. hp .each c (in-count c i);
@@ -200,3 +204,10 @@ module _ (t : Columns) (fit : Fit (table-of t)) (ps : List ℤ) (near : Near ps 
       bottoms = hs;
       spans = sp;
     }
+
+    pub looked : (s : Sights) → Agree s columns (t .count) → Due (table-of t) (at base) (at due)
+        → Spans (table-of t) (at first) (at end) (at from) (at to) → Counted (table-of t) (at nth) (at many)
+        → Column parents (t .count) (parent (table-of t)) → Column middle (t .count) (λ c. appointed (kind (table-of t) c) (at many c))
+        → Looked (table-of t) (placed ps) s × Sighted s (t .count)
+    looked s a hd sp hn hp hm =
+        (record { seen = columns; sees = sees hd sp hn hp hm; agree = subst (λ (n : ℕ). Agree s columns n) (sym (length-is t)) a }, sighted s a)

@@ -26,12 +26,11 @@ use Rattle.rules.specs.Search.{Verdict, kept, broken}
 use Rattle.rules.specs.Verdict.{verdict, answer, faulty}
 use Rattle.rules.specs.VerdictLaws.{kept-keeps, fine-answer}
 use Rattle.rules.specs.Extents.{width-le, width-ge, rows-plan}
-use Rattle.spans.specs.Columns.{at}
 use Rattle.verdict.specs.declared.Checked.the-variants.{Kept, Broken}
-use Rattle.verdict.specs.declared.search.Sights.{Sights}
+use Rattle.verdict.specs.Passes.{Sights}
 use Rattle.rules.specs.Placement.{placed}
 use Rattle.verdict.specs.Checked.{answered}
-use Rattle.verdict.specs.Sees.{Sees}
+use Rattle.verdict.specs.Sees.{Lifts, Looked}
 use Rattle.verdict.specs.Spread.{Bounds, Spread}
 use Rattle.verdict.specs.Meaning.{right-lift, bottom-lift}
 
@@ -48,26 +47,38 @@ accepted t al ps e =
     let h = lent-fit t (length ps) lent in
     record { fit = h .fit; near = near-accepted ps (length t) (h .room) near; small = leb→le al most-allowance (asked-yes 13 _ 0 few) }
 
-module _ (t : Table) (p : Placement) (s : Sights) (sound : Sound t) (some : 1 ≤ length t) (g : Sees t p s) where
-  pub width-is : (w : ℕ) → Spread (s .right) (s .x) (length t) w → width t p ≡ pos w
+module _ (t : Table) (p : Placement) (s : Sights) (sound : Sound t) (some : 1 ≤ length t) (l : Looked t p s) where
+  x-seen : (c : ℕ) → Is t c → Lifts (p .x c) (s c .x)
+  x-seen c i = rw (l .agree .same c i) (l .sees .xs c i)
+
+  right-seen : (c : ℕ) → Is t c → Lifts (right t p c) (s c .right)
+  right-seen c i = rw (l .agree .same c i) (right-lift t p (l .seen) sound (l .sees) c i)
+
+  pub width-is : (w : ℕ) → Spread s (length t) w → width t p ≡ pos w
   width-is w h =
-      let up = width-le t p w some (λ a b i j. omega (whole, right-lift t p s sound g a i, g .xs b j, sum (p .x b) (pos w), h .all a b i j)) in
+      let up = width-le t p w some (λ a b i j. omega (whole, right-seen a i, x-seen b j, sum (p .x b) (pos w), h .all a b i j)) in
       let down = width-ge t p w (h .a) (h .b) (h .a-is) (h .b-is)
-      (omega (whole, right-lift t p s sound g (h .a) (h .a-is), g .xs (h .b) (h .b-is), sum (p .x (h .b)) (pos w), h .so)) in
+      (omega (whole, right-seen (h .a) (h .a-is), x-seen (h .b) (h .b-is), sum (p .x (h .b)) (pos w), h .so)) in
       omega whole
 
-  pub y-bottom : at (s .y) 0 ≤ at (s .bottom) 0
-  y-bottom = omega (arith, g .bases 0 some, g .bottoms .all 0 0 some (within-self t sound 0))
+  pub y-bottom : s 0 .y ≤ s 0 .bottom
+  y-bottom = rw (l .agree .same 0 some) (omega (arith, l .sees .bases 0 some, l .sees .bottoms .all 0 0 some (within-self t sound 0)))
 
-  pub rows-is : p .y 0 ≡ pos 0 → rows t p ≡ pos (at (s .bottom) 0 - at (s .y) 0 + 1)
+  y-seen : Lifts (p .y 0) (s 0 .y)
+  y-seen = rw (l .agree .same 0 some) (l .sees .ys 0 some)
+
+  bottom-seen : Lifts (bottom t p 0) (s 0 .bottom)
+  bottom-seen = rw (l .agree .same 0 some) (bottom-lift t p (l .seen) sound (l .sees) 0 some)
+
+  pub rows-is : p .y 0 ≡ pos 0 → rows t p ≡ pos (s 0 .bottom - s 0 .y + 1)
   unfolding rows
-  rows-is e = omega (whole, e, g .ys 0 some, bottom-lift t p s sound g 0 some, sum (bottom t p 0) (pos 1), y-bottom)
+  rows-is e = omega (whole, e, y-seen, bottom-seen, sum (bottom t p 0) (pos 1), y-bottom)
 
-  pub bounds : length t ≤ 256 → Bounds (s .right) (s .x) (length t)
-  bounds few = record { some = some; few = few; each = λ c i. omega (arith, g .rights c i) }
+  pub bounds : length t ≤ 256 → Bounds s (length t)
+  bounds few = record { some = some; few = few; each = λ c i. rw (l .agree .same c i) (omega (arith, l .sees .rights c i)) }
 
   module _ (al : ℕ) where
-    pub answered-kept : (w : ℕ) → verdict t p al ≡ kept → Spread (s .right) (s .x) (length t) w → Kept w (at (s .bottom) 0 - at (s .y) 0 + 1) ≡ answered (answer t p al)
+    pub answered-kept : (w : ℕ) → verdict t p al ≡ kept → Spread s (length t) w → Kept w (s 0 .bottom - s 0 .y + 1) ≡ answered (answer t p al)
     unfolding answered
     answered-kept w e h =
         rw (fine-answer t p al e)
@@ -95,12 +106,16 @@ module _ (t : Table) (al : ℕ) (ps : List ℤ) (h : Accepted t al ps) where
   width-small =
       width-le t (placed ps) (farthest + farthest + most-width) (h .fit .some-cell)
       (λ a b i j.
-          let lo = x-near b j .low in
-          let hi = x-near a i .high in
-          omega (
-            whole, h .fit .wide a i .1, sum (placed ps .x a) (pos (W t a)), sum (placed ps .x b) (pos (farthest + farthest + most-width)),
-            neg-plus (pos farthest), neg-minus (pos farthest),
-          ))
+      let lo = x-near b j .low in
+      let hi = x-near a i .high in
+      omega (
+        whole,
+        h .fit .wide a i .1,
+        sum (placed ps .x a) (pos (W t a)),
+        sum (placed ps .x b) (pos (farthest + farthest + most-width)),
+        neg-plus (pos farthest),
+        neg-minus (pos farthest),
+      ))
 
   pub rows-natural : verdict t (placed ps) al ≡ kept → rows t (placed ps) ≡ pos (plan.bottom t 0 + 1)
   rows-natural e = rows-plan t (placed ps) (h .fit .sound) (kept-keeps t (placed ps) al (h .fit .some-cell) e .s1) (h .fit .some-cell)

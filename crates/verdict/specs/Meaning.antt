@@ -22,12 +22,10 @@ use Rattle.rules.specs.Search.{lowest}
 use Rattle.rules.specs.SearchLaws.{lowest-same}
 use Rattle.rules.specs.Tests.{share, flush, kept1, meets, box4, stem4, test}
 use Rattle.rules.specs.Verdict.{verdict}
-use Rattle.spans.specs.Columns.{at}
 use Rattle.spans.specs.Counted.{flush-is}
 use Rattle.spans.specs.Spans.{earlier-is, after-one-is, before-one-is}
-use Rattle.verdict.specs.declared.search.Sights.{Sights}
-use Rattle.verdict.specs.Sees.{Lifts, Sees}
-use Rattle.verdict.specs.Passes.{pass1, pass2, pass3, pass3-ends, pass3-starts, pass4, pass4-box, pass4-stem, pass5, passes, view-of, pair, row-found, rule-found, all-found}
+use Rattle.verdict.specs.Sees.{Lifts, Sees, Looked}
+use Rattle.verdict.specs.Passes.{Sights, pass1, pass2, pass3, pass3-ends, pass3-starts, pass4, pass4-box, pass4-stem, pass5, passes, pair, row-found, rule-found, all-found}
 
 -- ---- tests put together
 only-same : {p q p′ q′ : Bool} → p ≡ p′ → q ≡ q′ → only p q ≡ only p′ q′
@@ -47,11 +45,11 @@ module _ (z w : ℤ) (m n : ℕ) (h : Lifts z m) (k : Lifts w n) where
   lt-lift = same-test (that-is (says-lt m n) (λ e. omega whole) (λ e. omega whole)) (says-ltZ z w)
 
 module _ (t : Table) (p : Placement) (s : Sights) (sound : Sound t) (g : Sees t p s) where
-  pub right-lift : (c : ℕ) → Is t c → Lifts (right t p c) (at (s .right) c)
+  pub right-lift : (c : ℕ) → Is t c → Lifts (right t p c) (s c .right)
   unfolding right
   right-lift c i = omega (whole, sum (p .x c) (pos (W t c)), g .xs c i, g .rights c i)
 
-  base-lift : (c : ℕ) → Is t c → Lifts (base t p c) (at (s .base) c)
+  base-lift : (c : ℕ) → Is t c → Lifts (base t p c) (s c .base)
   unfolding base
   base-lift c i = omega (whole, sum (p .y c) (pos (D t c)), g .ys c i, g .bases c i)
 
@@ -66,7 +64,7 @@ module _ (t : Table) (p : Placement) (s : Sights) (sound : Sound t) (g : Sees t 
       most-one (base t p) (base t p c) (subtree t c) (λ y. y ≤ℤ z) (h c i (within-self t sound c))
       (λ a m. h a (subtree-read t c a m .0) (subtree-read t c a m .1))
 
-  pub bottom-lift : (c : ℕ) → Is t c → Lifts (bottom t p c) (at (s .bottom) c)
+  pub bottom-lift : (c : ℕ) → Is t c → Lifts (bottom t p c) (s c .bottom)
   bottom-lift c i =
       let r = g .bottoms .one c i in
       let low : bottom t p c ≤ℤ base t p (r .cell) =
@@ -117,43 +115,43 @@ module _ (t : Table) (p : Placement) (s : Sights) (sound : Sound t) (g : Sees t 
 
   module _ (al a b : ℕ) (i : Is t a) (j : Is t b) where
     -- ---- S1
-    due-lift : (m : ℕ) → Is t (suc m) → at (s .due) (suc m) ≡ at (s .base) (parent t (suc m)) + 1
+    due-lift : (m : ℕ) → Is t (suc m) → s (suc m) .due ≡ s (parent t (suc m)) .base + 1
     due-lift m i = g .dues .each (suc m) (parent t (suc m)) (record { low = omega arith; is = i; of = refl })
 
-    one : (c : ℕ) → Is t c → (eqb (at (s .y) c) (at (s .due) c) && only (eqb c 0) (eqb (at (s .x) c) farthest)) ≡ kept1 t p c
+    one : (c : ℕ) → Is t c → (eqb (s c .y) (s c .due) && only (eqb c 0) (eqb (s c .x) farthest)) ≡ kept1 t p c
     unfolding kept1
     one zero i =
         same-test
-        (that-is (both (says-eq (at (s .y) 0) (at (s .due) 0)) (whenever (says-eq 0 0) (says-eq (at (s .x) 0) farthest)))
+        (that-is (both (says-eq (s 0 .y) (s 0 .due)) (whenever (says-eq 0 0) (says-eq (s 0 .x) farthest)))
         (λ h. (let e = h .1 refl in omega (whole, g .xs 0 i), omega (whole, g .ys 0 i, g .dues .root, h .0)))
         (λ h. (omega (whole, g .ys 0 i, g .dues .root, h .1), λ e. omega (whole, g .xs 0 i, h .0))))
         (both (says-eqZ (p .x 0) (pos 0)) (says-eqZ (p .y 0) (pos 0)))
     one (suc m) i =
         let f : Is t (parent t (suc m)) = omega (arith, sound (suc m) (omega arith) i) in
         same-test
-        (that-is (both (says-eq (at (s .y) (suc m)) (at (s .due) (suc m))) (whenever (says-eq (suc m) 0) (says-eq (at (s .x) (suc m)) farthest)))
+        (that-is (both (says-eq (s (suc m) .y) (s (suc m) .due)) (whenever (says-eq (suc m) 0) (says-eq (s (suc m) .x) farthest)))
         (λ h. omega (whole, g .ys (suc m) i, due-lift m i, h .0, base-lift (parent t (suc m)) f, sum (base t p (parent t (suc m))) (pos 1)))
         (λ h. (omega (whole, g .ys (suc m) i, due-lift m i, h, base-lift (parent t (suc m)) f, sum (base t p (parent t (suc m))) (pos 1)), λ e. absurd (omega arith))))
         (says-eqZ _ _)
 
     -- ---- S2
-    two : (eqb (at (s .parent) b) a && eqb (at (s .nth) b) (at (s .middle) a)) ≡ flush t a b
+    two : (eqb (s b .parent) a && eqb (s b .nth) (s a .middle)) ≡ flush t a b
     two = rw (g .parents b j, g .middles a i) (flush-is t (g .counted) a b i j)
 
     -- ---- S4
-    box : (leb (at (s .y) a) (at (s .bottom) b) && leb (at (s .y) b) (at (s .base) a)) ≡ meets t p (p .y a) (base t p a) b
+    box : (leb (s a .y) (s b .bottom) && leb (s b .y) (s a .base)) ≡ meets t p (p .y a) (base t p a) b
     box =
         same-test
-        (that-is (both (says-le (at (s .y) a) (at (s .bottom) b)) (says-le (at (s .y) b) (at (s .base) a)))
+        (that-is (both (says-le (s a .y) (s b .bottom)) (says-le (s b .y) (s a .base)))
         (λ h. (base-down a, omega (whole, g .ys a i, bottom-lift b j, h .0), omega (whole, g .ys b j, base-lift a i, h .1)))
         (λ h. (omega (whole, g .ys a i, bottom-lift b j, h .1), omega (whole, g .ys b j, base-lift a i, h .2))))
         (says-rows (p .y a) (base t p a) b j)
 
-    stem : (ltb (at (s .base) a) (at (s .bottom) a) && (ltb (at (s .base) a) (at (s .bottom) b) && leb (at (s .y) b) (at (s .bottom) a)))
+    stem : (ltb (s a .base) (s a .bottom) && (ltb (s a .base) (s b .bottom) && leb (s b .y) (s a .bottom)))
         ≡ (leb 1 (length (children t a)) && meets t p (base t p a +ℤ pos 1) (bottom t p a) b)
     stem =
         same-test
-        (that-is (both (says-lt (at (s .base) a) (at (s .bottom) a)) (both (says-lt (at (s .base) a) (at (s .bottom) b)) (says-le (at (s .y) b) (at (s .bottom) a))))
+        (that-is (both (says-lt (s a .base) (s a .bottom)) (both (says-lt (s a .base) (s b .bottom)) (says-le (s b .y) (s a .bottom))))
         (λ h.
         let k : base t p a <ℤ bottom t p a = omega (whole, base-lift a i, bottom-lift a i, h .0) in
         (bears a i k, (omega (whole, k, sum (base t p a) (pos 1)), omega (whole, base-lift a i, bottom-lift b j, h .1 .0, sum (base t p a) (pos 1)), omega (whole, g .ys b j, bottom-lift a i, h .1 .1))))
@@ -164,21 +162,21 @@ module _ (t : Table) (p : Placement) (s : Sights) (sound : Sound t) (g : Sees t 
         (both (says-le 1 (length (children t a))) (says-rows (base t p a +ℤ pos 1) (bottom t p a) b j))
 
     -- ---- S5
-    five : leb (at (s .right) a + 1) (at (s .x) b + al) ≡ leZ (right t p a -ℤ p .x b +ℤ pos 1) (pos al)
+    five : leb (s a .right + 1) (s b .x + al) ≡ leZ (right t p a -ℤ p .x b +ℤ pos 1) (pos al)
     five =
         same-test
-        (that-is (says-le (at (s .right) a + 1) (at (s .x) b + al))
+        (that-is (says-le (s a .right + 1) (s b .x + al))
         (λ h. omega (whole, right-lift a i, g .xs b j, diff (right t p a) (p .x b), sum (right t p a -ℤ p .x b) (pos 1)))
         (λ h. omega (whole, right-lift a i, g .xs b j, diff (right t p a) (p .x b), sum (right t p a -ℤ p .x b) (pos 1))))
         (says-leZ (right t p a -ℤ p .x b +ℤ pos 1) (pos al))
 
-    left-of : ltb (at (s .x) a) (at (s .x) b) ≡ ltZ (p .x a) (p .x b)
+    left-of : ltb (s a .x) (s b .x) ≡ ltZ (p .x a) (p .x b)
     left-of = lt-lift (p .x a) (p .x b) _ _ (g .xs a i) (g .xs b j)
 
-    ends-before : ltb (at (s .right) a) (at (s .x) b) ≡ ltZ (right t p a) (p .x b)
+    ends-before : ltb (s a .right) (s b .x) ≡ ltZ (right t p a) (p .x b)
     ends-before = lt-lift (right t p a) (p .x b) _ _ (right-lift a i) (g .xs b j)
 
-    pub passes-test : (r : ℕ) → passes al r a b (view-of s a) (view-of s b) ≡ test t p al r a b
+    pub passes-test : (r : ℕ) → passes al r a b (s a) (s b) ≡ test t p al r a b
     unfolding passes test pass1 pass2 pass3 pass3-ends pass3-starts pass4 pass4-box pass4-stem pass5 box4 stem4
     passes-test zero = refl
     passes-test (suc zero) = only-same {p = eqb a b} refl (one a i)
@@ -191,7 +189,8 @@ module _ (t : Table) (p : Placement) (s : Sights) (sound : Sound t) (g : Sees t 
     passes-test (suc (suc (suc (suc (suc (suc r)))))) = refl
 
 -- what the search finds is the verdict
-pub found-verdict : (t : Table) (p : Placement) (s : Sights) → Sound t → Sees t p s → (al : ℕ) → all-found s al (length t) ≡ verdict t p al
+pub found-verdict : (t : Table) (p : Placement) (s : Sights) → Sound t → Looked t p s → (al : ℕ) → all-found s al (length t) ≡ verdict t p al
 unfolding all-found rule-found row-found pair verdict lowest
-found-verdict t p s sound g al =
-    lowest-same (λ r a b. passes al r a b (view-of s a) (view-of s b)) (test t p al) (length t) (λ r a b i j. passes-test t p s sound g al a b i j r)
+found-verdict t p s sound l al =
+    lowest-same (λ r a b. passes al r a b (s a) (s b)) (test t p al) (length t)
+    (λ r a b i j. rw (l .agree .same a i, l .agree .same b j) (passes-test t p (l .seen) sound (l .sees) al a b i j r))

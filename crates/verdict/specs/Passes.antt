@@ -1,19 +1,23 @@
 -- The rules as the code tests them, on natural numbers. Assumes nothing.
-use mathlib.Core.List.{List}
+use mathlib.Core.List.{List, [], _∷_}
 use mathlib.Core.Bool.{Bool, true, false, _&&_}
-use Prim.Native.Nat.{ℕ, zero, suc, _+_, _^_, _≤_, _<_}
-use lib.ListN.{getD}
+use mathlib.Core.Path.{_≡_}
+use Prim.Native.Nat.{ℕ, zero, suc, _+_, _*_, _^_, _≤_, _<_}
+use lib.ListN.{getD, set}
 use lib.Dec.{eqb, leb, ltb}
 use Rattle.whole.specs.Says.{only}
 use Rattle.plan.specs.Limits.{farthest}
 use Rattle.rules.specs.Search.{Verdict, kept, broken, scan, judge}
-use Rattle.verdict.specs.declared.search.Sights.{Sights}
 use Rattle.verdict.specs.declared.search.View.{View}
 use Rattle.verdict.specs.declared.search.Found.{Found}
 use Rattle.verdict.specs.declared.search.Found.the-variants.{Kept, Broken}
 
+-- the numbers that the rules read, of each cell
+abbrev pub Sights : Type 0
+Sights = ℕ → View
+
 -- the numbers of the cell c, out of the columns
-abbrev pub view-at : (parent nth middle x right y due base bottom first end from to : List ℕ) → ℕ → View
+abbrev pub view-at : (parent nth middle x right y due base bottom first end from to : List ℕ) → Sights
 view-at parent nth middle x right y due base bottom first end from to c = record {
   parent = getD parent c 0;
   nth = getD nth c 0;
@@ -30,15 +34,51 @@ view-at parent nth middle x right y due base bottom first end from to c = record
   to = getD to c 0;
 }
 
-abbrev pub view-of : Sights → ℕ → View
-view-of s = view-at (s .parent) (s .nth) (s .middle) (s .x) (s .right) (s .y) (s .due) (s .base) (s .bottom) (s .first) (s .end) (s .from) (s .to)
+-- how many they are
+abbrev pub sight : ℕ
+sight = 13
 
--- columns of n numbers that can be added to
+-- the numbers of the cell c, out of one list
+abbrev pub view-in : List ℕ → Sights
+view-in xs c = record {
+  parent = getD xs (sight * c) 0;
+  nth = getD xs (sight * c + 1) 0;
+  middle = getD xs (sight * c + 2) 0;
+  x = getD xs (sight * c + 3) 0;
+  right = getD xs (sight * c + 4) 0;
+  y = getD xs (sight * c + 5) 0;
+  due = getD xs (sight * c + 6) 0;
+  base = getD xs (sight * c + 7) 0;
+  bottom = getD xs (sight * c + 8) 0;
+  first = getD xs (sight * c + 9) 0;
+  end = getD xs (sight * c + 10) 0;
+  from = getD xs (sight * c + 11) 0;
+  to = getD xs (sight * c + 12) 0;
+}
+
+-- numbers in a row from b + k on, one after the other
+abbrev pub puts : List ℕ → ℕ → ℕ → List ℕ → List ℕ
+puts xs b k [] = xs
+puts xs b k (a ∷ l) = puts (set xs (b + k) a) b (suc k) l
+
+-- those of a view, after the parent
+abbrev pub numbers-after : View → List ℕ
+numbers-after v = v .nth ∷ v .middle ∷ v .x ∷ v .right ∷ v .y ∷ v .due ∷ v .base ∷ v .bottom ∷ v .first ∷ v .end ∷ v .from ∷ v .to ∷ []
+
+-- v in the place of the cell c
+abbrev pub put-view : List ℕ → ℕ → View → List ℕ
+put-view xs c v = puts (set xs (sight * c) (v .parent)) (sight * c) 1 (numbers-after v)
+
+-- the same numbers of the first n cells
+pub record Agree (s s′ : Sights) (n : ℕ) : Type 0 where
+  pub same : (c : ℕ) → c < n → s c ≡ s′ c
+
+-- numbers of n cells that can be added to
 pub record Sighted (s : Sights) (n : ℕ) : Type 0 where
   pub few : n ≤ 256
-  pub x-small : (c : ℕ) → c < n → getD (s .x) c 0 < 2 ^ 31
-  pub right-small : (c : ℕ) → c < n → getD (s .right) c 0 < 2 ^ 31
-  pub bottom-small : (c : ℕ) → c < n → getD (s .bottom) c 0 < 2 ^ 31
+  pub x-small : (c : ℕ) → c < n → s c .x < 2 ^ 31
+  pub right-small : (c : ℕ) → c < n → s c .right < 2 ^ 31
+  pub bottom-small : (c : ℕ) → c < n → s c .bottom < 2 ^ 31
 
 -- S1, at a cell: it is as far down as is due, and the root in column 0
 unfoldable pub pass1 : ℕ → ℕ → View → Bool
@@ -85,7 +125,7 @@ found-of (broken r a b) = Broken r a b
 
 module _ (s : Sights) (al n : ℕ) where
   unfoldable pub pair : ℕ → ℕ → ℕ → Verdict
-  pair r a b = judge (passes al r a b (view-of s a) (view-of s b)) r a b
+  pair r a b = judge (passes al r a b (s a) (s b)) r a b
 
   unfoldable pub row-found : ℕ → ℕ → Verdict
   row-found r a = scan (pair r a) 0 n

@@ -4,6 +4,7 @@ pub mod sights;
 
 use crate::search::Found;
 use crate::search::search;
+use crate::search::see;
 use crate::sights::look;
 use plan::Columns;
 use plan::Refusal;
@@ -21,6 +22,7 @@ ghost use Rattle.plan.specs.Questions.{refusal, check, «check-given»};
 ghost use Rattle.rules.specs.Verdict.{answer};
 ghost use Rattle.rules.specs.Placement.{placed};
 ghost use Rattle.verdict.specs.Checked.{«answered», «checked-of»};
+ghost use Rattle.verdict.specs.Passes.{«view-in»};
 ghost use Rattle.verdict.specs.Spread.{Bounds, Spread};
 
 // Kept: width and rows. Broken: rule, a and b. Refused: number and cell.
@@ -57,16 +59,18 @@ fn lesser(a: u32, b: u32) -> u32
 }
 
 // The greatest right edge less the least x.
-fn width_of(right: [u32; 256], x: [u32; 256], n: usize) -> u32
-    requires { ⌜ Bounds right x n ⌝ }
-    ensures { λ r. ⌜ Spread right x n r ⌝ }
+fn width_of(sights: &[u32; 3328], n: usize) -> u32
+    requires { ⌜ Bounds (view-in (now sights)) n ⌝ }
+    ensures { λ r. ⌜ Spread (view-in (now (sights .entry))) n r ⌝ }
 {
-    let mut high = right[0];
-    let mut low = x[0];
+    let root = see(sights, 0);
+    let mut high = root.right;
+    let mut low = root.x;
     let mut c: usize = 1;
     while c < n {
-        high = greater(high, right[c]);
-        low = lesser(low, x[c]);
+        let v = see(sights, c);
+        high = greater(high, v.right);
+        low = lesser(low, v.x);
         c += 1;
     }
     high - low
@@ -77,15 +81,15 @@ fn judge(t: Columns, positions: &[i32], allowance: u32) -> Checked
     requires { ⌜ Fit (table-of t) × Near (now positions) (t .count) × (allowance ≤ most-allowance) ⌝ }
     ensures { λ r. ⌜ r ≡ answered (answer (table-of t) (placed (now (positions .entry))) allowance) ⌝ }
 {
-    let s = look(t, positions);
-    let found = search(s, t.count, allowance);
+    let mut sights = [0u32; 3328];
+    look(t, positions, &mut sights);
+    let found = search(&sights, t.count, allowance);
     if let Found::Broken(rule, a, b) = found {
         return Checked::Broken(rule, a, b);
     }
-    let right = s.right;
-    let x = s.x;
-    let width = width_of(right, x, t.count);
-    Checked::Kept(width, s.bottom[0] - s.y[0] + 1)
+    let width = width_of(&sights, t.count);
+    let root = see(&sights, 0);
+    Checked::Kept(width, root.bottom - root.y + 1)
 }
 
 pub fn check(t: Columns, positions: &[i32], allowance: u32) -> Checked

@@ -2,27 +2,12 @@
 use plan::limits::FARTHEST;
 ghost use mathlib.Core.Path.{_≡_};
 ghost use Prim.Native.Nat.{_+_, _^_, _≤_, _<_};
-ghost use lib.ListN.{getD};
-ghost use Rattle.verdict.specs.Passes.{Sighted, pass1, pass2, pass3, «pass3-ends», «pass3-starts», pass4, «pass4-box», «pass4-stem», pass5, passes, «view-at», «found-of», «row-found», «rule-found», «all-found»};
+ghost use Rattle.verdict.specs.Passes.{Sighted, pass1, pass2, pass3, «pass3-ends», «pass3-starts», pass4, «pass4-box», «pass4-stem», pass5, passes, «view-in», «found-of», «row-found», «rule-found», «all-found»};
 
-// The columns that the rules read: one number for each cell, coordinates moved up so that none is negative.
-pub struct Sights {
-    pub parent: [u32; 256],
-    pub nth: [u32; 256],
-    pub middle: [u32; 256],
-    pub x: [u32; 256],
-    pub right: [u32; 256],
-    pub y: [u32; 256],
-    pub due: [u32; 256],
-    pub base: [u32; 256],
-    pub bottom: [u32; 256],
-    pub first: [u32; 256],
-    pub end: [u32; 256],
-    pub from: [u32; 256],
-    pub to: [u32; 256],
-}
+// How many numbers the rules read of a cell. Those of all cells lie in one array, cell after cell.
+pub const SIGHT: usize = 13;
 
-// The same numbers of one cell.
+// They, of one cell, coordinates moved up so that none is negative.
 pub struct View {
     pub parent: u32,
     pub nth: u32,
@@ -175,82 +160,38 @@ fn passes(rule: u8, a: usize, b: usize, v: View, w: View, allowance: u32) -> boo
     }
 }
 
-// The numbers of the cell c, out of the columns.
-fn see<'a>(
-    parent: &'a [u32; 256],
-    nth: &'a [u32; 256],
-    middle: &'a [u32; 256],
-    x: &'a [u32; 256],
-    right: &'a [u32; 256],
-    y: &'a [u32; 256],
-    due: &'a [u32; 256],
-    base: &'a [u32; 256],
-    bottom: &'a [u32; 256],
-    first: &'a [u32; 256],
-    end: &'a [u32; 256],
-    from: &'a [u32; 256],
-    to: &'a [u32; 256],
-    c: usize,
-) -> View
+// The numbers of the cell c.
+pub fn see(sights: &[u32; 3328], c: usize) -> View
     requires { ⌜ c < 256 ⌝ }
-    ensures { λ r. ⌜ r ≡ view-at (now (parent .entry)) (now (nth .entry)) (now (middle .entry)) (now (x .entry)) (now (right .entry)) (now (y .entry)) (now (due .entry)) (now (base .entry)) (now (bottom .entry)) (now (first .entry)) (now (end .entry)) (now (from .entry)) (now (to .entry)) c ⌝ }
+    ensures { λ r. ⌜ r ≡ view-in (now (sights .entry)) c ⌝ }
 {
+    let b = SIGHT * c;
     View {
-        parent: parent[c],
-        nth: nth[c],
-        middle: middle[c],
-        x: x[c],
-        right: right[c],
-        y: y[c],
-        due: due[c],
-        base: base[c],
-        bottom: bottom[c],
-        first: first[c],
-        end: end[c],
-        from: from[c],
-        to: to[c],
+        parent: sights[b],
+        nth: sights[b + 1],
+        middle: sights[b + 2],
+        x: sights[b + 3],
+        right: sights[b + 4],
+        y: sights[b + 5],
+        due: sights[b + 6],
+        base: sights[b + 7],
+        bottom: sights[b + 8],
+        first: sights[b + 9],
+        end: sights[b + 10],
+        from: sights[b + 11],
+        to: sights[b + 12],
     }
 }
 
 // A rule at a and each b in turn.
-fn search_row(s: Sights, n: usize, rule: u8, a: usize, allowance: u32) -> Found
-    requires { ⌜ Sighted s n × (a < n) × (allowance < 2 ^ 31) ⌝ }
-    ensures { λ r. ⌜ r ≡ found-of (row-found s allowance n rule a) ⌝ }
+fn search_row(sights: &[u32; 3328], n: usize, rule: u8, a: usize, allowance: u32) -> Found
+    requires { ⌜ Sighted (view-in (now sights)) n × (a < n) × (allowance < 2 ^ 31) ⌝ }
+    ensures { λ r. ⌜ r ≡ found-of (row-found (view-in (now (sights .entry))) allowance n rule a) ⌝ }
 {
-    let v = see(
-        &s.parent,
-        &s.nth,
-        &s.middle,
-        &s.x,
-        &s.right,
-        &s.y,
-        &s.due,
-        &s.base,
-        &s.bottom,
-        &s.first,
-        &s.end,
-        &s.from,
-        &s.to,
-        a,
-    );
+    let v = see(sights, a);
     let mut b: usize = 0;
     while b < n {
-        let w = see(
-            &s.parent,
-            &s.nth,
-            &s.middle,
-            &s.x,
-            &s.right,
-            &s.y,
-            &s.due,
-            &s.base,
-            &s.bottom,
-            &s.first,
-            &s.end,
-            &s.from,
-            &s.to,
-            b,
-        );
+        let w = see(sights, b);
         if !passes(rule, a, b, v, w, allowance) {
             return Found::Broken(rule, a as u16, b as u16);
         }
@@ -260,13 +201,13 @@ fn search_row(s: Sights, n: usize, rule: u8, a: usize, allowance: u32) -> Found
 }
 
 // A rule at each a in turn.
-fn search_rule(s: Sights, n: usize, rule: u8, allowance: u32) -> Found
-    requires { ⌜ Sighted s n × (allowance < 2 ^ 31) ⌝ }
-    ensures { λ r. ⌜ r ≡ found-of (rule-found s allowance n rule) ⌝ }
+fn search_rule(sights: &[u32; 3328], n: usize, rule: u8, allowance: u32) -> Found
+    requires { ⌜ Sighted (view-in (now sights)) n × (allowance < 2 ^ 31) ⌝ }
+    ensures { λ r. ⌜ r ≡ found-of (rule-found (view-in (now (sights .entry))) allowance n rule) ⌝ }
 {
     let mut a: usize = 0;
     while a < n {
-        let r = search_row(s, n, rule, a, allowance);
+        let r = search_row(sights, n, rule, a, allowance);
         if let Found::Broken(k, i, j) = r {
             return Found::Broken(k, i, j);
         }
@@ -275,18 +216,30 @@ fn search_rule(s: Sights, n: usize, rule: u8, allowance: u32) -> Found
     Found::Kept
 }
 
-// Each rule in turn.
-pub fn search(s: Sights, n: usize, allowance: u32) -> Found
-    requires { ⌜ Sighted s n × (allowance < 2 ^ 31) ⌝ }
-    ensures { λ r. ⌜ r ≡ found-of (all-found s allowance n) ⌝ }
+// Each rule in turn: a call for each, so that the compiler makes a loop for each, with no test of the rule at a pair.
+pub fn search(sights: &[u32; 3328], n: usize, allowance: u32) -> Found
+    requires { ⌜ Sighted (view-in (now sights)) n × (allowance < 2 ^ 31) ⌝ }
+    ensures { λ r. ⌜ r ≡ found-of (all-found (view-in (now (sights .entry))) allowance n) ⌝ }
 {
-    let mut rule: u8 = 1;
-    while rule < 6 {
-        let r = search_rule(s, n, rule, allowance);
-        if let Found::Broken(k, i, j) = r {
-            return Found::Broken(k, i, j);
-        }
-        rule += 1;
+    let s1 = search_rule(sights, n, 1, allowance);
+    if let Found::Broken(k, i, j) = s1 {
+        return Found::Broken(k, i, j);
+    }
+    let s2 = search_rule(sights, n, 2, allowance);
+    if let Found::Broken(k, i, j) = s2 {
+        return Found::Broken(k, i, j);
+    }
+    let s3 = search_rule(sights, n, 3, allowance);
+    if let Found::Broken(k, i, j) = s3 {
+        return Found::Broken(k, i, j);
+    }
+    let s4 = search_rule(sights, n, 4, allowance);
+    if let Found::Broken(k, i, j) = s4 {
+        return Found::Broken(k, i, j);
+    }
+    let s5 = search_rule(sights, n, 5, allowance);
+    if let Found::Broken(k, i, j) = s5 {
+        return Found::Broken(k, i, j);
     }
     Found::Kept
 }

@@ -1,5 +1,6 @@
 // The columns that the rules read, made of a table and a placement.
-use crate::search::Sights;
+use crate::search::SIGHT;
+use crate::search::View;
 use plan::Columns;
 use plan::limits::FARTHEST;
 use spans::lay;
@@ -20,9 +21,10 @@ ghost use Rattle.plan.specs.Columns.{«table-of»};
 ghost use Rattle.plan.specs.Fit.{Fit};
 ghost use Rattle.plan.specs.Near.{Near};
 ghost use Rattle.plan.specs.Trees.{Column};
-ghost use Rattle.verdict.specs.Passes.{Sighted};
+ghost use Rattle.spans.specs.Columns.{at};
+ghost use Rattle.verdict.specs.Passes.{Agree, Sighted, sight, «put-view», «view-at», «view-in»};
 ghost use Rattle.rules.specs.Placement.{placed};
-ghost use Rattle.verdict.specs.Sees.{Sees, Short, Due};
+ghost use Rattle.verdict.specs.Sees.{Looked, Short, Due};
 
 // The right edge and the last row of each box.
 pub struct Edges {
@@ -88,7 +90,7 @@ fn edges_of(t: Columns, x: [u32; 256], y: [u32; 256]) -> Edges
 // The row that S1 asks of each cell.
 fn dues(t: Columns, base: [u32; 256]) -> [u32; 256]
     requires { ⌜ Fit (table-of t) × Short base (t .count) ⌝ }
-    ensures { λ r. ⌜ Due (table-of t) base r ⌝ }
+    ensures { λ r. ⌜ Due (table-of t) (at base) (at r) ⌝ }
 {
     let mut due = [0u32; 256];
     due[0] = FARTHEST;
@@ -116,41 +118,134 @@ fn heads_of(t: Columns, many: [u32; 256]) -> Heads
     Heads { parent, middle }
 }
 
-pub fn look(t: Columns, positions: &[i32]) -> Sights
-    requires { ⌜ Fit (table-of t) × Near (now positions) (t .count) ⌝ }
-    ensures { λ r. ⌜ Sees (table-of t) (placed (now (positions .entry))) r × Sighted r (t .count) ⌝ }
+// The numbers of the cell c, out of the columns.
+fn view_at<'a>(
+    parent: &'a [u32; 256],
+    nth: &'a [u32; 256],
+    middle: &'a [u32; 256],
+    x: &'a [u32; 256],
+    right: &'a [u32; 256],
+    y: &'a [u32; 256],
+    due: &'a [u32; 256],
+    base: &'a [u32; 256],
+    bottom: &'a [u32; 256],
+    first: &'a [u32; 256],
+    end: &'a [u32; 256],
+    from: &'a [u32; 256],
+    to: &'a [u32; 256],
+    c: usize,
+) -> View
+    requires { ⌜ c < 256 ⌝ }
+    ensures { λ r. ⌜ r ≡ view-at (now (parent .entry)) (now (nth .entry)) (now (middle .entry)) (now (x .entry)) (now (right .entry)) (now (y .entry)) (now (due .entry)) (now (base .entry)) (now (bottom .entry)) (now (first .entry)) (now (end .entry)) (now (from .entry)) (now (to .entry)) c ⌝ }
+{
+    View {
+        parent: parent[c],
+        nth: nth[c],
+        middle: middle[c],
+        x: x[c],
+        right: right[c],
+        y: y[c],
+        due: due[c],
+        base: base[c],
+        bottom: bottom[c],
+        first: first[c],
+        end: end[c],
+        from: from[c],
+        to: to[c],
+    }
+}
+
+fn put(out: &mut [u32; 3328], c: usize, v: View)
+    requires { ⌜ c < 256 ⌝ }
+    ensures { λ _. ⌜ now (out .exit) ≡ put-view (now (out .entry)) c v ⌝ }
+{
+    let b = SIGHT * c;
+    out[b] = v.parent;
+    out[b + 1] = v.nth;
+    out[b + 2] = v.middle;
+    out[b + 3] = v.x;
+    out[b + 4] = v.right;
+    out[b + 5] = v.y;
+    out[b + 6] = v.due;
+    out[b + 7] = v.base;
+    out[b + 8] = v.bottom;
+    out[b + 9] = v.first;
+    out[b + 10] = v.end;
+    out[b + 11] = v.from;
+    out[b + 12] = v.to;
+}
+
+// The columns' numbers, cell after cell.
+fn gather<'a>(
+    parent: &'a [u32; 256],
+    nth: &'a [u32; 256],
+    middle: &'a [u32; 256],
+    x: &'a [u32; 256],
+    right: &'a [u32; 256],
+    y: &'a [u32; 256],
+    due: &'a [u32; 256],
+    base: &'a [u32; 256],
+    bottom: &'a [u32; 256],
+    first: &'a [u32; 256],
+    end: &'a [u32; 256],
+    from: &'a [u32; 256],
+    to: &'a [u32; 256],
+    n: usize,
+    out: &mut [u32; 3328],
+)
+    requires { ⌜ (n ≤ 256) × (length (now out) ≡ 256 * sight) ⌝ }
+    ensures { λ _. ⌜ Agree (view-in (now (out .exit))) (view-at (now (parent .entry)) (now (nth .entry)) (now (middle .entry)) (now (x .entry)) (now (right .entry)) (now (y .entry)) (now (due .entry)) (now (base .entry)) (now (bottom .entry)) (now (first .entry)) (now (end .entry)) (now (from .entry)) (now (to .entry))) n ⌝ }
+{
+    let mut c: usize = 0;
+    while c < n {
+        let v = view_at(
+            parent,
+            nth,
+            middle,
+            x,
+            right,
+            y,
+            due,
+            base,
+            bottom,
+            first,
+            end,
+            from,
+            to,
+            c,
+        );
+        put(out, c, v);
+        c += 1;
+    }
+}
+
+pub fn look(t: Columns, positions: &[i32], out: &mut [u32; 3328])
+    requires { ⌜ Fit (table-of t) × Near (now positions) (t .count) × (length (now out) ≡ 256 * sight) ⌝ }
+    ensures { λ _. ⌜ Looked (table-of t) (placed (now (positions .entry))) (view-in (now (out .exit))) × Sighted (view-in (now (out .exit))) (t .count) ⌝ }
 {
     let x = raised(positions, t.count, 0);
     let y = raised(positions, t.count, 1);
     let edge = edges_of(t, x, y);
-    let right = edge.right;
-    let base = edge.base;
-    let due = dues(t, base);
-    let bottom = sink(t, base);
+    let due = dues(t, edge.base);
+    let bottom = sink(t, edge.base);
     let span = lay(t, measure(t));
-    let first = span.first;
-    let end = span.end;
-    let from = span.from;
-    let to = span.to;
     let numbers = number(t);
-    let nth = numbers.nth;
-    let many = numbers.many;
-    let head = heads_of(t, many);
-    let parent = head.parent;
-    let middle = head.middle;
-    Sights {
-        parent,
-        nth,
-        middle,
-        x,
-        right,
-        y,
-        due,
-        base,
-        bottom,
-        first,
-        end,
-        from,
-        to,
-    }
+    let head = heads_of(t, numbers.many);
+    gather(
+        &head.parent,
+        &numbers.nth,
+        &head.middle,
+        &x,
+        &edge.right,
+        &y,
+        &due,
+        &edge.base,
+        &bottom,
+        &span.first,
+        &span.end,
+        &span.from,
+        &span.to,
+        t.count,
+        out,
+    );
 }

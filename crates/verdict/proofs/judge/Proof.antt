@@ -1,5 +1,4 @@
 use Rattle.verdict.proofs.Judging.{broken-answer, kept-answer, bounds, rows-fit}
-use mathlib.Core.Path.{_∙_, sym, ap, refl}
 use native.Mathlib.Omega.{arith}
 use borrow.Author.Needs.{needs}
 use Rattle.verdict.proofs.judge.Statement.{statement}
@@ -7,51 +6,48 @@ use Rattle.verdict.proofs.judge.Tie as tie
 use Rattle.verdict.proofs.judge.Reads as reads
 use Rattle.verdict.proofs.judge.Lts as lts
 use Rattle.verdict.proofs.search.search.Reads as search-reads
+use Rattle.verdict.proofs.search.see.Reads as see-reads
 use Rattle.verdict.proofs.sights.look.Reads as look-reads
 use Rattle.verdict.proofs.width_of.Reads as width-of-reads
 
--- src/lib.rt:79:13
+-- src/lib.rt:85:5
 look-requires : tie.Need-look-requires
-look-requires c κs = (c .pre .0, c .pre .1)
+look-requires c κs = search needs
 
--- src/lib.rt:80:9
+-- src/lib.rt:86:9
 search-requires : tie.Need-search-requires
-search-requires c κs = (c .look .ensures .1, omega (arith, c .before .pre .2))
+search-requires c κs = search needs
 
--- src/lib.rt:81:26
+-- src/lib.rt:87:26
 enum-known-found : tie.Need-enum-known-found
 enum-known-found c = search needs
 
--- src/lib.rt:82:9
+-- src/lib.rt:88:9
 returns : tie.Need-returns
-returns c = broken-answer (c .before .before .before .before .before .args .t) (c .before .before .before .before .before .pre .0) (c .before .before .before .before .before .args .positions .now) (c .before .before .before .before .before .args .allowance) _ (c .before .before .before .before .look .ensures .0) _ (c .before .before .before .search .ensures) (c .before .found .given .1)
+returns c = broken-answer (c .before .before .before .before .before .before .before .args .t) (c .before .before .before .before .before .before .before .pre .0) (c .before .before .before .before .before .before .before .args .positions .now) (c .before .before .before .before .before .before .before .args .allowance) _ (c .before .before .before .before .before .look .ensures .0) _ (c .before .before .before .search .ensures) (c .before .found .given .1)
 
 enum-told : tie.Need-enum-told
 enum-told c = search needs
 
--- src/lib.rt:86:9
+-- src/lib.rt:90:9
 width-of-requires : tie.Need-width-of-requires
-width-of-requires c κs = bounds (c .before .before .before .before .before .before .args .t) (c .before .before .before .before .before .before .pre .0) (c .before .before .before .before .before .before .args .positions .now) (c .before .before .before .before .before .before .args .allowance) _ (c .before .before .before .before .before .look .ensures .0)
+width-of-requires c κs = bounds (c .before .before .before .before .before .before .before .args .t) (c .before .before .before .before .before .before .before .pre .0) (c .before .before .before .before .before .before .before .args .positions .now) (c .before .before .before .before .before .before .before .args .allowance) _ (c .before .before .before .before .before .look .ensures .0)
 
--- src/lib.rt:87:26
-element-copy-out-t15 : tie.Need-element-copy-out-t15
-element-copy-out-t15 c = search needs
+-- src/lib.rt:91:9
+see-requires : tie.Need-see-requires
+see-requires c κs = search needs
 
--- src/lib.rt:87:40
-element-copy-out-t18 : tie.Need-element-copy-out-t18
-element-copy-out-t18 c = search needs
+-- src/lib.rt:92:26
+sub-t16 : tie.Need-sub-t16
+sub-t16 c = let (l, h) = rows-fit (c .before .before .before .before .before .before .before .before .before .before .before .args .t) (c .before .before .before .before .before .before .before .before .before .before .before .pre .0) (c .before .before .before .before .before .before .before .before .before .before .before .args .positions .now) (c .before .before .before .before .before .before .before .before .before .before .before .args .allowance) _ (c .before .before .before .before .before .before .before .before .before .look .ensures .0) (c .before .before .before .before .before .before .before .before .before .look .ensures .1) _ (c .before .see .ensures) in omega arith
 
--- src/lib.rt:87:26
-sub-t19 : tie.Need-sub-t19
-sub-t19 c = let (l, h) = rows-fit (c .before .before .before .before .before .before .before .before .before .args .t) (c .before .before .before .before .before .before .before .before .before .pre .0) (c .before .before .before .before .before .before .before .before .before .args .positions .now) (c .before .before .before .before .before .before .before .before .before .args .allowance) _ (c .before .before .before .before .before .before .before .before .look .ensures .0) (c .before .before .before .before .before .before .before .before .look .ensures .1) in omega arith
+-- src/lib.rt:92:26
+add-t17 : tie.Need-add-t17
+add-t17 c = let (l, h) = rows-fit (c .before .before .before .before .before .before .before .before .before .before .before .args .t) (c .before .before .before .before .before .before .before .before .before .before .before .pre .0) (c .before .before .before .before .before .before .before .before .before .before .before .args .positions .now) (c .before .before .before .before .before .before .before .before .before .before .before .args .allowance) _ (c .before .before .before .before .before .before .before .before .before .look .ensures .0) (c .before .before .before .before .before .before .before .before .before .look .ensures .1) _ (c .before .see .ensures) in omega arith
 
--- src/lib.rt:87:26
-add-t20 : tie.Need-add-t20
-add-t20 c = let (l, h) = rows-fit (c .before .before .before .before .before .before .before .before .before .args .t) (c .before .before .before .before .before .before .before .before .before .pre .0) (c .before .before .before .before .before .before .before .before .before .args .positions .now) (c .before .before .before .before .before .before .before .before .before .args .allowance) _ (c .before .before .before .before .before .before .before .before .look .ensures .0) (c .before .before .before .before .before .before .before .before .look .ensures .1) in omega arith
-
--- src/lib.rt:75:1
+-- src/lib.rt:80:1
 returns-2 : tie.Need-returns-2
-returns-2 c = kept-answer (c .before .before .before .before .before .before .before .before .before .args .t) (c .before .before .before .before .before .before .before .before .before .pre .0) (c .before .before .before .before .before .before .before .before .before .args .positions .now) (c .before .before .before .before .before .before .before .before .before .args .allowance) _ (c .before .before .before .before .before .before .before .before .look .ensures .0) _ _ (c .before .before .before .before .before .before .before .search .ensures) (c .before .before .before .before .before .enum-told .given .1) (c .before .before .width-of .ensures)
+returns-2 c = kept-answer (c .before .before .before .before .before .before .before .before .before .before .before .args .t) (c .before .before .before .before .before .before .before .before .before .before .before .pre .0) (c .before .before .before .before .before .before .before .before .before .before .before .args .positions .now) (c .before .before .before .before .before .before .before .before .before .before .before .args .allowance) _ (c .before .before .before .before .before .before .before .before .before .look .ensures .0) _ _ _ (c .before .before .before .before .before .before .before .search .ensures) (c .before .before .before .before .before .enum-told .given .1) (c .before .before .before .width-of .ensures) (c .before .see .ensures)
 
 pub judge-spec : {M : Type 1} → statement M
 judge-spec =
@@ -63,8 +59,7 @@ judge-spec =
     returns
     enum-told
     width-of-requires
-    element-copy-out-t15
-    element-copy-out-t18
-    sub-t19
-    add-t20
+    see-requires
+    sub-t16
+    add-t17
     returns-2)

@@ -1,7 +1,5 @@
-use Rattle.verdict.proofs.Searching.{Searching, searching-starts, searching-turns, searching-stops, searching-ends}
-use Prim.Native.Nat.{_-_}
+use Rattle.verdict.proofs.Searching.{none, rule-kept, rule-broken, all-kept}
 use native.Mathlib.Omega.{arith}
-use mathlib.Core.Path.{_∙_, sym}
 use borrow.Author.Needs.{needs}
 use Rattle.verdict.proofs.search.search.Statement.{statement}
 use Rattle.verdict.proofs.search.search.Tie as tie
@@ -9,59 +7,107 @@ use Rattle.verdict.proofs.search.search.Reads as reads
 use Rattle.verdict.proofs.search.search.Lts as lts
 use Rattle.verdict.proofs.search.search_rule.Reads as search-rule-reads
 
-abbrev Inv-loop : tie.InvT-loop
-Inv-loop s n allowance rule₀ rule = Searching s n allowance rule
+-- src/search.rt:224:9
+search-rule-requires : tie.Need-search-rule-requires
+search-rule-requires c κs = search needs
 
-abbrev μ-loop : tie.MeasureT-loop
-μ-loop s n allowance rule₀ rule = 6 - rule
+-- src/search.rt:225:26
+enum-known-s1 : tie.Need-enum-known-s1
+enum-known-s1 c = search needs
 
--- src/search.rt:284:5
-loop-holds : tie.Need-loop-holds Inv-loop μ-loop
-loop-holds c = searching-starts _ _ _ (c .pre .0) (c .pre .1)
+-- src/search.rt:226:9
+returns : tie.Need-returns
+returns c = rule-broken none (c .before .before .before .search-rule .ensures) (c .before .s1 .given .1) (omega arith)
 
--- src/search.rt:285:13
-search-rule-requires : tie.Need-search-rule-requires Inv-loop μ-loop
-search-rule-requires c κs = let h = c .before .loop .inv in (h .sighted, h .small)
-
--- src/search.rt:286:30
-enum-known-r : tie.Need-enum-known-r Inv-loop μ-loop
-enum-known-r c = search needs
-
--- src/search.rt:287:13
-returns : tie.Need-returns Inv-loop μ-loop
-returns c = searching-stops (c .before .before .before .before .before .loop .inv) _ (c .before .before .before .search-rule .ensures) (c .before .before .before .before .loop-test .taken) (c .before .r .given .1)
-
-enum-told : tie.Need-enum-told Inv-loop μ-loop
+enum-told : tie.Need-enum-told
 enum-told c = search needs
 
--- src/search.rt:289:9
-add-rule : tie.Need-add-rule Inv-loop μ-loop
-add-rule c = search needs
+-- src/search.rt:228:9
+search-rule-requires-2 : tie.Need-search-rule-requires-2
+search-rule-requires-2 c κs = search needs
 
--- src/search.rt:284:5
-loop-less : tie.Need-loop-less Inv-loop μ-loop
-loop-less c = search needs
+-- src/search.rt:229:26
+enum-known-s2 : tie.Need-enum-known-s2
+enum-known-s2 c = search needs
 
--- src/search.rt:284:5
-loop-again : tie.Need-loop-again Inv-loop μ-loop
-loop-again c = searching-turns (c .before .before .before .before .loop .inv) _ (c .before .before .search-rule .ensures) (c .before .before .before .loop-test .taken) (c .enum-told .given .1)
+-- src/search.rt:230:9
+returns-2 : tie.Need-returns-2
+returns-2 c = rule-broken (rule-kept none (c .before .before .before .before .before .before .search-rule .ensures) (c .before .before .before .before .enum-told .given .1)) (c .before .before .before .search-rule2 .ensures) (c .before .s2 .given .1) (omega arith)
 
--- src/search.rt:279:1
-returns-2 : tie.Need-returns-2 Inv-loop μ-loop
-returns-2 c = searching-ends (c .before .loop .inv) (c .loop-test .left)
+enum-told-2 : tie.Need-enum-told-2
+enum-told-2 c = search needs
+
+-- src/search.rt:232:9
+search-rule-requires-3 : tie.Need-search-rule-requires-3
+search-rule-requires-3 c κs = search needs
+
+-- src/search.rt:233:26
+enum-known-s3 : tie.Need-enum-known-s3
+enum-known-s3 c = search needs
+
+-- src/search.rt:234:9
+returns-3 : tie.Need-returns-3
+returns-3 c = rule-broken (rule-kept (rule-kept none (c .before .before .before .before .before .before .before .before .before .search-rule .ensures) (c .before .before .before .before .before .before .before .enum-told .given .1)) (c .before .before .before .before .before .before .search-rule2 .ensures) (c .before .before .before .before .enum-told2 .given .1)) (c .before .before .before .search-rule3 .ensures) (c .before .s3 .given .1) (omega arith)
+
+enum-told-3 : tie.Need-enum-told-3
+enum-told-3 c = search needs
+
+-- src/search.rt:236:9
+search-rule-requires-4 : tie.Need-search-rule-requires-4
+search-rule-requires-4 c κs = search needs
+
+-- src/search.rt:237:26
+enum-known-s4 : tie.Need-enum-known-s4
+enum-known-s4 c = search needs
+
+-- src/search.rt:238:9
+returns-4 : tie.Need-returns-4
+returns-4 c = rule-broken (rule-kept (rule-kept (rule-kept none (c .before .before .before .before .before .before .before .before .before .before .before .before .search-rule .ensures) (c .before .before .before .before .before .before .before .before .before .before .enum-told .given .1)) (c .before .before .before .before .before .before .before .before .before .search-rule2 .ensures) (c .before .before .before .before .before .before .before .enum-told2 .given .1)) (c .before .before .before .before .before .before .search-rule3 .ensures) (c .before .before .before .before .enum-told3 .given .1)) (c .before .before .before .search-rule4 .ensures) (c .before .s4 .given .1) (omega arith)
+
+enum-told-4 : tie.Need-enum-told-4
+enum-told-4 c = search needs
+
+-- src/search.rt:240:9
+search-rule-requires-5 : tie.Need-search-rule-requires-5
+search-rule-requires-5 c κs = search needs
+
+-- src/search.rt:241:26
+enum-known-s5 : tie.Need-enum-known-s5
+enum-known-s5 c = search needs
+
+-- src/search.rt:242:9
+returns-5 : tie.Need-returns-5
+returns-5 c = rule-broken (rule-kept (rule-kept (rule-kept (rule-kept none (c .before .before .before .before .before .before .before .before .before .before .before .before .before .before .before .search-rule .ensures) (c .before .before .before .before .before .before .before .before .before .before .before .before .before .enum-told .given .1)) (c .before .before .before .before .before .before .before .before .before .before .before .before .search-rule2 .ensures) (c .before .before .before .before .before .before .before .before .before .before .enum-told2 .given .1)) (c .before .before .before .before .before .before .before .before .before .search-rule3 .ensures) (c .before .before .before .before .before .before .before .enum-told3 .given .1)) (c .before .before .before .before .before .before .search-rule4 .ensures) (c .before .before .before .before .enum-told4 .given .1)) (c .before .before .before .search-rule5 .ensures) (c .before .s5 .given .1) (omega arith)
+
+enum-told-5 : tie.Need-enum-told-5
+enum-told-5 c = search needs
+
+-- src/search.rt:220:1
+returns-6 : tie.Need-returns-6
+returns-6 c = all-kept (rule-kept (rule-kept (rule-kept (rule-kept (rule-kept none (c .before .before .before .before .before .before .before .before .before .before .before .before .before .before .search-rule .ensures) (c .before .before .before .before .before .before .before .before .before .before .before .before .enum-told .given .1)) (c .before .before .before .before .before .before .before .before .before .before .before .search-rule2 .ensures) (c .before .before .before .before .before .before .before .before .before .enum-told2 .given .1)) (c .before .before .before .before .before .before .before .before .search-rule3 .ensures) (c .before .before .before .before .before .before .enum-told3 .given .1)) (c .before .before .before .before .before .search-rule4 .ensures) (c .before .before .before .enum-told4 .given .1)) (c .before .before .search-rule5 .ensures) (c .enum-told5 .given .1))
 
 pub search-spec : {M : Type 1} → statement M
 search-spec =
     tie.close
     (tie.spec
-    Inv-loop
-    μ-loop
-    loop-holds
     search-rule-requires
-    enum-known-r
+    enum-known-s1
     returns
     enum-told
-    add-rule
-    loop-less
-    loop-again
-    returns-2)
+    search-rule-requires-2
+    enum-known-s2
+    returns-2
+    enum-told-2
+    search-rule-requires-3
+    enum-known-s3
+    returns-3
+    enum-told-3
+    search-rule-requires-4
+    enum-known-s4
+    returns-4
+    enum-told-4
+    search-rule-requires-5
+    enum-known-s5
+    returns-5
+    enum-told-5
+    returns-6)

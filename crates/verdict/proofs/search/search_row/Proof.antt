@@ -1,4 +1,5 @@
 use Rattle.verdict.proofs.Searching.{Rowing, rowing-starts, right-small, x-small, rowing-turns, rowing-stops, rowing-ends}
+use Rattle.verdict.specs.Passes.{view-in}
 use Prim.Native.Nat.{_-_}
 use native.Mathlib.Omega.{arith}
 use borrow.Author.Tests.{not-true, not-false}
@@ -12,52 +13,52 @@ use Rattle.verdict.proofs.search.passes.Reads as passes-reads
 use Rattle.verdict.proofs.search.see.Reads as see-reads
 
 abbrev Inv-loop : tie.InvT-loop
-Inv-loop n rule a allowance s v b₀ b = Rowing s n allowance rule a v b
+Inv-loop sights n rule a allowance v b₀ b = Rowing (view-in sights) n allowance rule a v b
 
 abbrev μ-loop : tie.MeasureT-loop
-μ-loop n rule a allowance s v b₀ b = n - b
+μ-loop sights n rule a allowance v b₀ b = n - b
 
--- src/search.rt:220:9
+-- src/search.rt:191:9
 see-requires : tie.Need-see-requires Inv-loop μ-loop
-see-requires c κs = omega (arith, c .before .before .before .before .before .before .before .before .before .before .before .before .before .before .pre .1, c .before .before .before .before .before .before .before .before .before .before .before .before .before .before .pre .0 .few)
+see-requires c κs = search needs
 
--- src/search.rt:237:5
+-- src/search.rt:193:5
 loop-holds : tie.Need-loop-holds Inv-loop μ-loop
-loop-holds c = rowing-starts _ _ _ _ _ _ (c .before .before .before .before .before .before .before .before .before .before .before .before .before .before .before .pre .0) (c .before .before .before .before .before .before .before .before .before .before .before .before .before .before .before .pre .1) (c .before .before .before .before .before .before .before .before .before .before .before .before .before .before .before .pre .2) (c .see .ensures)
+loop-holds c = rowing-starts _ _ _ _ _ _ (c .before .pre .0) (c .before .pre .1) (c .before .pre .2) (c .see .ensures)
 
--- src/search.rt:238:13
+-- src/search.rt:194:13
 see-requires-2 : tie.Need-see-requires-2 Inv-loop μ-loop
 see-requires-2 c κs = search needs
 
--- src/search.rt:254:13
+-- src/search.rt:195:13
 passes-requires : tie.Need-passes-requires Inv-loop μ-loop
-passes-requires c κs = let h = c .before .before .before .before .before .before .before .before .before .before .before .before .before .before .before .before .loop .inv in (omega arith, right-small (c .before .before .before .before .before .before .before .before .before .before .before .before .before .before .before .before .loop .inv) (c .before .before .before .before .before .before .before .before .before .before .before .before .before .before .before .loop-test .taken) (c .see2 .ensures), x-small (c .before .before .before .before .before .before .before .before .before .before .before .before .before .before .before .before .loop .inv) (c .before .before .before .before .before .before .before .before .before .before .before .before .before .before .before .loop-test .taken) (c .see2 .ensures), h .small)
+passes-requires c κs = let h = (c .before .before .loop .inv) in (omega arith, right-small h (c .before .loop-test .taken) (c .see2 .ensures), x-small h (c .before .loop-test .taken) (c .see2 .ensures), h .small)
 
--- src/search.rt:255:40
-cast-t38 : tie.Need-cast-t38 Inv-loop μ-loop
-cast-t38 c = let h = c .before .before .before .before .before .before .before .before .before .before .before .before .before .before .before .before .before .before .loop .inv in omega arith
+-- src/search.rt:196:40
+cast-t11 : tie.Need-cast-t11 Inv-loop μ-loop
+cast-t11 c = search needs
 
--- src/search.rt:255:50
-cast-t39 : tie.Need-cast-t39 Inv-loop μ-loop
-cast-t39 c = let h = c .before .before .before .before .before .before .before .before .before .before .before .before .before .before .before .before .before .before .loop .inv in omega (arith, c .before .before .before .before .before .before .before .before .before .before .before .before .before .before .before .before .before .loop-test .taken)
+-- src/search.rt:196:50
+cast-t12 : tie.Need-cast-t12 Inv-loop μ-loop
+cast-t12 c = search needs
 
--- src/search.rt:255:13
+-- src/search.rt:196:13
 returns : tie.Need-returns Inv-loop μ-loop
-returns c = rowing-stops (c .before .before .before .before .before .before .before .before .before .before .before .before .before .before .before .before .before .before .loop .inv) (c .before .before .before .before .before .before .before .before .before .before .before .before .before .before .before .before .before .loop-test .taken) (c .before .before .see2 .ensures) (sym (c .before .passes .ensures) ∙ not-true _ (c .if1 .taken))
+returns c = rowing-stops (c .before .before .before .before .loop .inv) (c .before .before .before .loop-test .taken) (c .before .before .see2 .ensures) (sym (c .before .passes .ensures) ∙ not-true _ (c .if1 .taken))
 
--- src/search.rt:257:9
+-- src/search.rt:198:9
 add-b : tie.Need-add-b Inv-loop μ-loop
-add-b c = let h = c .before .before .before .before .before .before .before .before .before .before .before .before .before .before .before .before .before .before .loop .inv in omega (arith, c .before .before .before .before .before .before .before .before .before .before .before .before .before .before .before .before .before .loop-test .taken)
+add-b c = search needs
 
--- src/search.rt:237:5
+-- src/search.rt:193:5
 loop-less : tie.Need-loop-less Inv-loop μ-loop
-loop-less c = omega (arith, c .before .before .before .before .before .before .before .before .before .before .before .before .before .before .before .before .before .loop-test .taken)
+loop-less c = search needs
 
--- src/search.rt:237:5
+-- src/search.rt:193:5
 loop-again : tie.Need-loop-again Inv-loop μ-loop
-loop-again c = rowing-turns (c .before .before .before .before .before .before .before .before .before .before .before .before .before .before .before .before .before .before .loop .inv) (c .before .before .before .before .before .before .before .before .before .before .before .before .before .before .before .before .before .loop-test .taken) (c .before .before .see2 .ensures) (sym (c .before .passes .ensures) ∙ not-false _ (c .if1 .left))
+loop-again c = rowing-turns (c .before .before .before .before .loop .inv) (c .before .before .before .loop-test .taken) (c .before .before .see2 .ensures) (sym (c .before .passes .ensures) ∙ not-false _ (c .if1 .left))
 
--- src/search.rt:216:1
+-- src/search.rt:187:1
 returns-2 : tie.Need-returns-2 Inv-loop μ-loop
 returns-2 c = rowing-ends (c .before .loop .inv) (c .loop-test .left)
 
@@ -71,8 +72,8 @@ search-row-spec =
     loop-holds
     see-requires-2
     passes-requires
-    cast-t38
-    cast-t39
+    cast-t11
+    cast-t12
     returns
     add-b
     loop-less

@@ -1,7 +1,7 @@
 use Rattle.verdict.proofs.Searching.{Ruling, ruling-starts, ruling-turns, ruling-stops, ruling-ends}
+use Rattle.verdict.specs.Passes.{view-in}
 use Prim.Native.Nat.{_-_}
 use native.Mathlib.Omega.{arith}
-use mathlib.Core.Path.{_∙_, sym}
 use borrow.Author.Needs.{needs}
 use Rattle.verdict.proofs.search.search_rule.Statement.{statement}
 use Rattle.verdict.proofs.search.search_rule.Tie as tie
@@ -10,43 +10,43 @@ use Rattle.verdict.proofs.search.search_rule.Lts as lts
 use Rattle.verdict.proofs.search.search_row.Reads as search-row-reads
 
 abbrev Inv-loop : tie.InvT-loop
-Inv-loop s n rule allowance a₀ a = Ruling s n allowance rule a
+Inv-loop sights n rule allowance a₀ a = Ruling (view-in sights) n allowance rule a
 
 abbrev μ-loop : tie.MeasureT-loop
-μ-loop s n rule allowance a₀ a = n - a
+μ-loop sights n rule allowance a₀ a = n - a
 
--- src/search.rt:268:5
+-- src/search.rt:209:5
 loop-holds : tie.Need-loop-holds Inv-loop μ-loop
 loop-holds c = ruling-starts _ _ _ _ (c .pre .0) (c .pre .1)
 
--- src/search.rt:269:13
+-- src/search.rt:210:13
 search-row-requires : tie.Need-search-row-requires Inv-loop μ-loop
-search-row-requires c κs = let h = c .before .loop .inv in (h .sighted, c .loop-test .taken, h .small)
+search-row-requires c κs = let h = (c .before .loop .inv) in (h .sighted, (c .loop-test .taken), h .small)
 
--- src/search.rt:270:30
+-- src/search.rt:211:30
 enum-known-r : tie.Need-enum-known-r Inv-loop μ-loop
 enum-known-r c = search needs
 
--- src/search.rt:271:13
+-- src/search.rt:212:13
 returns : tie.Need-returns Inv-loop μ-loop
 returns c = ruling-stops (c .before .before .before .before .before .loop .inv) _ (c .before .before .before .search-row .ensures) (c .before .before .before .before .loop-test .taken) (c .before .r .given .1)
 
 enum-told : tie.Need-enum-told Inv-loop μ-loop
 enum-told c = search needs
 
--- src/search.rt:273:9
+-- src/search.rt:214:9
 add-a : tie.Need-add-a Inv-loop μ-loop
 add-a c = search needs
 
--- src/search.rt:268:5
+-- src/search.rt:209:5
 loop-less : tie.Need-loop-less Inv-loop μ-loop
 loop-less c = search needs
 
--- src/search.rt:268:5
+-- src/search.rt:209:5
 loop-again : tie.Need-loop-again Inv-loop μ-loop
 loop-again c = ruling-turns (c .before .before .before .before .loop .inv) _ (c .before .before .search-row .ensures) (c .before .before .before .loop-test .taken) (c .enum-told .given .1)
 
--- src/search.rt:263:1
+-- src/search.rt:204:1
 returns-2 : tie.Need-returns-2 Inv-loop μ-loop
 returns-2 c = ruling-ends (c .before .loop .inv) (c .loop-test .left)
 
