@@ -4,7 +4,7 @@ use mathlib.Core.List.{List}
 use Prim.Native.Nat.{ℕ}
 use lib.IntN.{ℤ, pos}
 use Rattle.plan.specs.Plan.{Table}
-use Rattle.planfile.specs.declared.Reading.{Reading}
+use Rattle.plan.specs.declared.Record.{Record}
 use Rattle.drawing.specs.Laid.{Lays}
 use Rattle.drawing.specs.declared.Laid.{Laid}
 use Rattle.drawing.specs.declared.Laid.the-variants.{Sheet, Refused as Unlaid}
@@ -12,17 +12,17 @@ use Rattle.verdict.specs.declared.Checked.{Checked}
 use Rattle.verdict.specs.declared.Checked.the-variants.{Kept, Broken, Refused as Unchecked}
 use Rattle.connectors.specs.declared.Ended.{Ended}
 use Rattle.connectors.specs.declared.Ended.the-variants.{Joined, Refused as Unended}
+use Rattle.engine.specs.Read.{Reads}
+use Rattle.engine.specs.declared.ReadAnswer.{ReadAnswer as Read}
+use Rattle.engine.specs.declared.ReadAnswer.the-variants.{Plan, Refused as Unread}
 use Rattle.capi.specs.declared.ReadAnswer.{ReadAnswer}
-use Rattle.capi.specs.declared.Parsed.{Parsed}
 use Rattle.capi.specs.declared.LayoutAnswer.{LayoutAnswer}
 use Rattle.capi.specs.declared.CheckAnswer.{CheckAnswer}
 use Rattle.capi.specs.declared.EndsAnswer.{EndsAnswer}
 
-unfoldable pub read-answer : Reading → ReadAnswer
-read-answer r = record { number = r .refusal .number; cell = r .refusal .cell; allowance = r .allowance; count = r .columns .count }
-
-unfoldable pub parsed : Reading → Parsed
-parsed r = record { reading = r; answer = read-answer r }
+unfoldable pub read-answer : Read → ReadAnswer
+read-answer (Plan n al) = record { number = 0; cell = 0; allowance = al; count = n }
+read-answer (Unread k c) = record { number = k; cell = c; allowance = 0; count = 0 }
 
 unfoldable pub laid-answer : Laid → LayoutAnswer
 laid-answer (Sheet w h) = record { number = 0; cell = 0; width = w; rows = h }
@@ -36,6 +36,12 @@ check-answer (Unchecked k c) = record { number = k; cell = c; rule = 0; a = 0; b
 unfoldable pub ends-answer : Ended → EndsAnswer
 ends-answer (Joined x y x′ y′) = record { number = 0; cell = 0; «from_x» = x; «from_y» = y; «to_x» = x′; «to_y» = y′ }
 ends-answer (Unended k c) = record { number = k; cell = c; «from_x» = pos 0; «from_y» = pos 0; «to_x» = pos 0; «to_y» = pos 0 }
+
+-- a call of Read, as `Reads` has it, with the struct for its answer
+pub record Filling (f : List ℕ) (t t′ : List Record) (r : ReadAnswer) : Type 0 where
+  pub read : Read
+  pub reads : Reads f t t′ read
+  pub answers : r ≡ read-answer read
 
 -- a call of Layout, as `Lays` has it, with the struct for its answer
 pub record Laying (t : Table) (al : ℕ) (s s′ : List ℕ) (ps ps′ : List ℤ) (r : LayoutAnswer) : Type 0 where

@@ -1,21 +1,14 @@
 // The calls for programs in C and Rust: include/kuzpalen.h documents each. A lent buffer is a pointer and a length; an answer is a struct of numbers.
 use connectors::Ended;
 use drawing::Laid;
-use plan::Columns;
 use plan::Record;
-use planfile::Reading;
-use records::columns_of;
-use records::fill;
 use verdict::Checked;
 ghost use mathlib.Core.Path.{_≡_};
-ghost use lib.ListN.{length};
-ghost use Rattle.plan.specs.Columns.{table-of};
-ghost use Rattle.planfile.specs.Reading.{«label-refusal», «label-part», «reading-of»};
 ghost use Rattle.plan.specs.Records.{«cells-of»};
-ghost use Rattle.records.specs.Together.{filled};
+ghost use Rattle.planfile.specs.Reading.{«label-refusal», «label-part»};
 ghost use Rattle.verdict.specs.Checked.{«checked-of»};
 ghost use Rattle.connectors.specs.Ended.{«ended-of»};
-ghost use Rattle.capi.specs.Answers.{«read-answer», parsed, «check-answer», «ends-answer», Laying};
+ghost use Rattle.capi.specs.Answers.{«read-answer», «laid-answer», «check-answer», «ends-answer», Filling, Laying};
 
 // Number and cell of the refusal, or 0 and 0; the number of cells and the allowance.
 #[repr(C)]
@@ -72,34 +65,50 @@ pub struct LabelPart {
     pub end: usize,
 }
 
-// A file that was read: the records to write, and the answer.
-struct Parsed {
-    reading: Reading,
-    answer: ReadAnswer,
-}
-
-fn parse(file: &[u8], room: usize) -> Parsed
-    ensures { λ r. ⌜ r ≡ parsed (reading-of (now (file .entry)) room) ⌝ }
+// The answer of Read as a struct.
+fn told_read(answer: engine::ReadAnswer) -> ReadAnswer
+    ensures { λ r. ⌜ r ≡ read-answer answer ⌝ }
 {
-    let reading = planfile::read(file, room);
-    let refusal = reading.refusal;
-    let columns = reading.columns;
-    Parsed {
-        reading,
-        answer: ReadAnswer {
-            number: refusal.number,
-            cell: refusal.cell,
-            allowance: reading.allowance,
-            count: columns.count,
+    match answer {
+        engine::ReadAnswer::Plan(count, allowance) => ReadAnswer {
+            number: 0,
+            cell: 0,
+            allowance,
+            count: count as usize,
+        },
+        engine::ReadAnswer::Refused(number, cell) => ReadAnswer {
+            number,
+            cell,
+            allowance: 0,
+            count: 0,
         },
     }
 }
 
-// Check over the columns of a table.
-fn checked(t: Columns, positions: &[i32], allowance: u32) -> CheckAnswer
-    ensures { λ r. ⌜ r ≡ check-answer (checked-of (table-of t) (now (positions .entry)) allowance) ⌝ }
+// The answer of Layout as a struct.
+fn told_layout(answer: Laid) -> LayoutAnswer
+    ensures { λ r. ⌜ r ≡ laid-answer answer ⌝ }
 {
-    let answer = verdict::check(t, positions, allowance);
+    match answer {
+        Laid::Sheet(width, rows) => LayoutAnswer {
+            number: 0,
+            cell: 0,
+            width,
+            rows,
+        },
+        Laid::Refused(number, cell) => LayoutAnswer {
+            number,
+            cell,
+            width: 0,
+            rows: 0,
+        },
+    }
+}
+
+// The answer of Check as a struct.
+fn told_check(answer: Checked) -> CheckAnswer
+    ensures { λ r. ⌜ r ≡ check-answer answer ⌝ }
+{
     match answer {
         Checked::Kept(width, rows) => CheckAnswer {
             number: 0,
@@ -131,11 +140,10 @@ fn checked(t: Columns, positions: &[i32], allowance: u32) -> CheckAnswer
     }
 }
 
-// Ends over the columns of a table.
-fn ended(t: Columns, positions: &[i32], cell: usize) -> EndsAnswer
-    ensures { λ r. ⌜ r ≡ ends-answer (ended-of (table-of t) (now (positions .entry)) cell) ⌝ }
+// The answer of Ends as a struct.
+fn told_ends(answer: Ended) -> EndsAnswer
+    ensures { λ r. ⌜ r ≡ ends-answer answer ⌝ }
 {
-    let answer = connectors::ends(t, positions, cell);
     match answer {
         Ended::Joined(from_x, from_y, to_x, to_y) => EndsAnswer {
             number: 0,
@@ -156,36 +164,12 @@ fn ended(t: Columns, positions: &[i32], cell: usize) -> EndsAnswer
     }
 }
 
-// Layout over the columns of a table.
-fn laid(t: Columns, allowance: u32, scratch: &mut [u32], positions: &mut [i32]) -> LayoutAnswer
-    ensures { λ r. ⌜ Laying (table-of t) allowance (now (scratch .entry)) (now (scratch .exit)) (now (positions .entry)) (now (positions .exit)) r ⌝ }
-{
-    let answer = drawing::layout(t, allowance, scratch, positions);
-    match answer {
-        Laid::Sheet(width, rows) => LayoutAnswer {
-            number: 0,
-            cell: 0,
-            width,
-            rows,
-        },
-        Laid::Refused(number, cell) => LayoutAnswer {
-            number,
-            cell,
-            width: 0,
-            rows: 0,
-        },
-    }
-}
-
 #[no_mangle]
 pub extern "C" fn kuzpalen_read(file: &[u8], table: &mut [Record]) -> ReadAnswer
-    ensures { λ r. ⌜ (r ≡ read-answer (reading-of (now (file .entry)) (length (now (table .entry)))))
-        × (now (table .exit) ≡ filled (reading-of (now (file .entry)) (length (now (table .entry)))) (r .count) (now (table .entry))) ⌝ }
+    ensures { λ r. ⌜ Filling (now (file .entry)) (now (table .entry)) (now (table .exit)) r ⌝ }
 {
-    let parsed = parse(file, table.len());
-    let reading = parsed.reading;
-    fill(reading, reading.columns.count, table);
-    parsed.answer
+    let answer = engine::read(file, table);
+    told_read(answer)
 }
 
 // Label. An exported function cannot return a reference: the part is told by its two ends.
@@ -204,7 +188,7 @@ pub extern "C" fn kuzpalen_label(file: &[u8], cell: usize) -> LabelPart
 pub extern "C" fn kuzpalen_label_refusal(file: &[u8], cell: usize) -> LabelAnswer
     ensures { λ r. ⌜ (r .number ≡ label-refusal (now (file .entry)) cell .number) × (r .cell ≡ label-refusal (now (file .entry)) cell .cell) ⌝ }
 {
-    let refusal = planfile::label_refusal(file, cell);
+    let refusal = engine::label_refusal(file, cell);
     LabelAnswer {
         number: refusal.number,
         cell: refusal.cell,
@@ -220,22 +204,22 @@ pub extern "C" fn kuzpalen_layout(
 ) -> LayoutAnswer
     ensures { λ r. ⌜ Laying (cells-of (now (table .entry))) allowance (now (scratch .entry)) (now (scratch .exit)) (now (positions .entry)) (now (positions .exit)) r ⌝ }
 {
-    let t = columns_of(table);
-    laid(t, allowance, scratch, positions)
+    let answer = engine::layout(table, allowance, scratch, positions);
+    told_layout(answer)
 }
 
 #[no_mangle]
 pub extern "C" fn kuzpalen_check(table: &[Record], positions: &[i32], allowance: u32) -> CheckAnswer
     ensures { λ r. ⌜ r ≡ check-answer (checked-of (cells-of (now (table .entry))) (now (positions .entry)) allowance) ⌝ }
 {
-    let t = columns_of(table);
-    checked(t, positions, allowance)
+    let answer = engine::check(table, positions, allowance);
+    told_check(answer)
 }
 
 #[no_mangle]
 pub extern "C" fn kuzpalen_ends(table: &[Record], positions: &[i32], cell: usize) -> EndsAnswer
     ensures { λ r. ⌜ r ≡ ends-answer (ended-of (cells-of (now (table .entry))) (now (positions .entry)) cell) ⌝ }
 {
-    let t = columns_of(table);
-    ended(t, positions, cell)
+    let answer = engine::ends(table, positions, cell);
+    told_ends(answer)
 }

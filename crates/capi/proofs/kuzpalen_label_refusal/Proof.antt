@@ -5,7 +5,7 @@ use Rattle.capi.proofs.kuzpalen_label_refusal.Statement.{statement}
 use Rattle.capi.proofs.kuzpalen_label_refusal.Tie as tie
 use Rattle.capi.proofs.kuzpalen_label_refusal.Reads as reads
 use Rattle.capi.proofs.kuzpalen_label_refusal.Lts as lts
-use Rattle.planfile.proofs.label_refusal.Reads as label-refusal-reads
+use Rattle.engine.proofs.label_refusal.Reads as label-refusal-reads
 
 -- src/lib.rt:167:9
 label-refusal-requires : tie.Need-label-refusal-requires
