@@ -70,13 +70,14 @@ fn draw(t: Columns, allowance: u32, scratch: &mut [u32], positions: &mut [i32]) 
     ensures { λ r. ⌜ Drawn (table-of t) allowance (now (scratch .exit)) (now (positions .entry)) (now (positions .exit)) r ⌝ }
 {
     let n = t.count;
-    let parents = t.parent;
-    let widths = t.width;
-    let depths = t.depth;
-    let tops = rows(&parents, &depths, n);
+    let mut tops = [0u16; 256];
+    rows(&t.parent, &t.depth, n, &mut tops);
     let xs = place(t, &tops, allowance, scratch);
     write_positions(&xs, &tops, n, positions);
-    Laid::Sheet(sheet_width(&xs, &widths, n), sheet_rows(&tops, &depths, n))
+    Laid::Sheet(
+        sheet_width(&xs, &t.width, n),
+        sheet_rows(&tops, &t.depth, n),
+    )
 }
 
 // Layout: the questions, then our sheet.

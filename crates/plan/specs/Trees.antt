@@ -24,6 +24,9 @@ pub record Lower (ps : List ℕ) (n : ℕ) : Type 0 where
   pub few : n ≤ 256
   pub lower : (c : ℕ) → 1 ≤ c → c < n → getD ps c 0 < c
 
+pub parent-few : {ps : List ℕ} {n c p : ℕ} → Lower ps n → 1 ≤ c → c < n → p ≡ getD ps c 0 → p < 256
+parent-few {ps} {n} {c} h b l e = omega (arith, h .lower c b l, h .few)
+
 -- n depths that question 8 passes
 pub record Flat (ds : List ℕ) (n : ℕ) : Type 0 where
   pub flat : (c : ℕ) → c < n → getD ds c 0 ≤ most-depth

@@ -170,36 +170,39 @@ fn rows_refusal(rows: &[u16; 256], depths: &[u8; 256], n: usize) -> Refusal
 }
 
 // Questions 11 to 13, put to cells that 6 to 8 have passed.
-pub fn tree_refusal(
-    parents: &[u16; 256],
-    kinds: &[u8; 256],
-    depths: &[u8; 256],
+pub fn tree_refusal<'a>(
+    parents: &'a [u16; 256],
+    kinds: &'a [u8; 256],
+    depths: &'a [u8; 256],
     n: usize,
 ) -> Refusal
     requires { ⌜ Lower (now parents) n ⌝ }
     requires { ⌜ Flat (now depths) n ⌝ }
     ensures { λ r. ⌜ ((ws : List ℕ) → r ≡ tree-refusal (table (now (parents .entry)) (now (kinds .entry)) ws (now (depths .entry)) n)) ⌝ }
 {
-    let counts = child_counts(parents, n);
+    let mut counts = [0u16; 256];
+    child_counts(parents, n, &mut counts);
     let at_children = children_refusal(kinds, &counts, n);
     if at_children.number != 0 {
         return at_children;
     }
-    let deep = levels(parents, n);
+    let mut deep = [0u16; 256];
+    levels(parents, n, &mut deep);
     let at_levels = levels_refusal(&deep, n);
     if at_levels.number != 0 {
         return at_levels;
     }
-    let low = rows(parents, depths, n);
+    let mut low = [0u16; 256];
+    rows(parents, depths, n, &mut low);
     rows_refusal(&low, depths, n)
 }
 
 // Questions 6 to 8 and 11 to 13.
-fn table_refusal(
-    parents: &[u16; 256],
-    kinds: &[u8; 256],
-    widths: &[u16; 256],
-    depths: &[u8; 256],
+fn table_refusal<'a>(
+    parents: &'a [u16; 256],
+    kinds: &'a [u8; 256],
+    widths: &'a [u16; 256],
+    depths: &'a [u8; 256],
     n: usize,
 ) -> Refusal
     requires { ⌜ (1 ≤ n) × (n ≤ 256) ⌝ }

@@ -2,7 +2,7 @@
 ghost use mathlib.Core.Path.{_≡_};
 ghost use mathlib.Core.List.{List};
 ghost use Prim.Native.Nat.{ℕ, _+_, _≤_, _<_};
-ghost use lib.ListN.{length, getD};
+ghost use lib.ListN.{length, getD, replicate};
 ghost use Rattle.plan.specs.Plan.{children, level, row};
 ghost use Rattle.plan.specs.Columns.{table};
 ghost use Rattle.plan.specs.Trees.{Lower, Flat, Column};
@@ -19,48 +19,47 @@ fn wide8(x: u8) -> u16
     x as u16
 }
 
+// Each question fills a column of zeros that the caller lends.
+
 // The number of children of each cell.
-pub fn child_counts(parents: &[u16; 256], n: usize) -> [u16; 256]
+pub fn child_counts(parents: &[u16; 256], n: usize, out: &mut [u16; 256])
     requires { ⌜ Lower (now parents) n ⌝ }
-    ensures { λ r. ⌜ ((ks ws ds : List ℕ) → Column r n (λ c. length (children (table (now (parents .entry)) ks ws ds n) c))) ⌝ }
+    requires { ⌜ now out ≡ replicate 256 0 ⌝ }
+    ensures { λ _. ⌜ ((ks ws ds : List ℕ) → Column (now (out .exit)) n (λ c. length (children (table (now (parents .entry)) ks ws ds n) c))) ⌝ }
 {
-    let mut counts = [0u16; 256];
     let mut c: usize = 1;
     while c < n {
         let p = wide(parents[c]);
-        counts[p] = counts[p] + 1;
+        out[p] = out[p] + 1;
         c += 1;
     }
-    counts
 }
 
 // The level of each cell.
-pub fn levels(parents: &[u16; 256], n: usize) -> [u16; 256]
+pub fn levels(parents: &[u16; 256], n: usize, out: &mut [u16; 256])
     requires { ⌜ Lower (now parents) n ⌝ }
-    ensures { λ r. ⌜ ((ks ws ds : List ℕ) → Column r n (level (table (now (parents .entry)) ks ws ds n))) ⌝ }
+    requires { ⌜ now out ≡ replicate 256 0 ⌝ }
+    ensures { λ _. ⌜ ((ks ws ds : List ℕ) → Column (now (out .exit)) n (level (table (now (parents .entry)) ks ws ds n))) ⌝ }
 {
-    let mut levels = [0u16; 256];
     let mut c: usize = 1;
     while c < n {
         let p = wide(parents[c]);
-        levels[c] = levels[p] + 1;
+        out[c] = out[p] + 1;
         c += 1;
     }
-    levels
 }
 
 // The row of each cell, as S1 dictates it.
-pub fn rows(parents: &[u16; 256], depths: &[u8; 256], n: usize) -> [u16; 256]
+pub fn rows<'a>(parents: &'a [u16; 256], depths: &'a [u8; 256], n: usize, out: &mut [u16; 256])
     requires { ⌜ Lower (now parents) n ⌝ }
     requires { ⌜ Flat (now depths) n ⌝ }
-    ensures { λ r. ⌜ ((ks ws : List ℕ) → Column r n (row (table (now (parents .entry)) ks ws (now (depths .entry)) n))) ⌝ }
+    requires { ⌜ now out ≡ replicate 256 0 ⌝ }
+    ensures { λ _. ⌜ ((ks ws : List ℕ) → Column (now (out .exit)) n (row (table (now (parents .entry)) ks ws (now (depths .entry)) n))) ⌝ }
 {
-    let mut rows = [0u16; 256];
     let mut c: usize = 1;
     while c < n {
         let p = wide(parents[c]);
-        rows[c] = rows[p] + wide8(depths[p]) + 1;
+        out[c] = out[p] + wide8(depths[p]) + 1;
         c += 1;
     }
-    rows
 }

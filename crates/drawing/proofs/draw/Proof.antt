@@ -1,3 +1,4 @@
+use mathlib.Core.Path.{refl}
 use native.Mathlib.Omega.{arith}
 use Rattle.plan.specs.Columns.{table-of}
 use Rattle.layout.specs.Sheet.{sheet}
@@ -8,30 +9,30 @@ use Rattle.drawing.proofs.draw.Tie as tie
 
 rows-requires : tie.Need-rows-requires
 rows-requires c κs =
-    let st = c .before .before .before .before .before .before in
-    (fit-lower (st .args .t) (st .pre .fit), fit-flat (st .args .t) (st .pre .fit))
+    let st = c .before .before .before .before .before in
+    (fit-lower (st .args .t1) (st .pre .fit), (fit-flat (st .args .t1) (st .pre .fit), refl))
 
 place-requires : tie.Need-place-requires
 place-requires c κs =
-    let st = c .before .before .before .before .before .before .before .before .before in
+    let st = c .before .before .before .before .before .before .before .before in
     record { fit = st .pre .fit; rows = c .before .before .rows .ensures _ _; scratch = st .pre .scratch }
 
 write-positions-requires : tie.Need-write-positions-requires
 write-positions-requires c κs =
-    let st = c .before .before .before .before .before .before .before .before .before .before .before .before .before .before .before in
+    let st = c .before .before .before .before .before .before .before .before .before .before .before .before .before .before in
     let f = st .pre .fit in
-    (high (st .args .t) f _ _ (c .before .before .before .before .before .place .ensures .0), omega (arith, st .pre .room, size (st .args .t) f))
+    (high (st .args .t1) f _ _ (c .before .before .before .before .before .place .ensures .0), omega (arith, st .pre .room, size (st .args .t1) f))
 
 sheet-width-requires : tie.Need-sheet-width-requires
 sheet-width-requires c κs =
     let st = c .before .before .before .before .before .before .before .before .before .before .before .before .before .before .before .before .before .before .before in
     let f = st .pre .fit in
-    (high (st .args .t) f _ _ (c .before .before .before .before .before .before .before .before .before .place .ensures .0), fit-lower (st .args .t) f .some)
+    (high (st .args .t1) f _ _ (c .before .before .before .before .before .before .before .before .before .before .place .ensures .0), fit-lower (st .args .t1) f .some)
 
 sheet-rows-requires : tie.Need-sheet-rows-requires
 sheet-rows-requires c κs =
-    let st = c .before .before .before .before .before .before .before .before .before .before .before .before .before .before .before .before .before .before .before .before .before .before in
-    let l = fit-lower (st .args .t) (st .pre .fit) in
+    let st = c .before .before .before .before .before .before .before .before .before .before .before .before .before .before .before .before .before .before .before .before .before .before .before in
+    let l = fit-lower (st .args .t1) (st .pre .fit) in
     (l .some, l .few)
 
 same-length : tie.Need-same-length
@@ -42,13 +43,13 @@ same-length-2 c = search needs
 
 returns : tie.Need-returns
 returns c =
-    let st = c .before .before .before .before .before .before .before .before .before .before .before .before .before .before .before .before .before .before .before .before .before .before .before in
-    let t = st .args .t in
+    let st = c .before .before .before .before .before .before .before .before .before .before .before .before .before .before .before .before .before .before .before .before .before .before .before .before in
+    let t = st .args .t1 in
     let f = st .pre .fit in
-    let tops = c .before .before .before .before .before .before .before .before .before .before .before .before .before .before .before .before .rows .ensures (t .kind) (t .width) in
-    let p = c .before .before .before .before .before .before .before .before .before .before .before .before .before .place .ensures in
-    drawn t f _ tops (st .args .allowance) _ (p .0) _ (p .1) (st .args .positions .now) _ (c .before .before .before .before .before .before .before .write-positions .ensures) _ _
-    (c .before .before .before .sheet-width .ensures (sheet (table-of t) (st .args .allowance)) (t .parent) (t .kind) (t .depth) (p .0))
+    let tops = c .before .before .before .before .before .before .before .before .before .before .before .before .before .before .before .before .before .before .rows .ensures (t .kind) (t .width) in
+    let p = c .before .before .before .before .before .before .before .before .before .before .before .before .before .before .before .place .ensures in
+    drawn t f _ tops (st .args .allowance) _ (p .0) _ (p .1) (st .args .positions .now) _ (c .before .before .before .before .before .before .before .before .before .write-positions .ensures) _ _
+    (c .before .before .before .before .sheet-width .ensures (sheet (table-of t) (st .args .allowance)) (t .parent) (t .kind) (t .depth) (p .0))
     (c .sheet-rows .ensures (t .parent) (t .kind) (t .width) (f .sound) tops)
 
 pub draw-spec : {M : Type 1} → statement M

@@ -1,12 +1,9 @@
-use lib.ListN.{getD-replicate}
-use mathlib.Core.Path.{_≡_, refl, sym, ap, _∙_}
 use mathlib.Core.List.{List}
-use Prim.Native.Nat.{ℕ, _+_, _-_, _≤_, _<_}
+use mathlib.Core.Path.{_≡_, refl, _∙_}
+use Prim.Native.Nat.{ℕ, _-_, _≤_, _<_}
 use native.Mathlib.Omega.{arith}
-use lib.ListN.{length, getD, length-set}
-use Rattle.plan.specs.Plan.{level, row}
-use Rattle.plan.specs.Columns.{table}
-use Rattle.plan.specs.Trees.{seen, seen-most, seen-more, seen-children, parent-so, one-more, level-next, row-next}
+use lib.ListN.{length, getD, getD-replicate, length-set}
+use Rattle.plan.specs.Trees.{parent-few, seen, seen-most, seen-more, seen-children}
 use borrow.Author.Needs.{needs}
 use Rattle.plan.proofs.tree.child_counts.Statement.{statement}
 use Rattle.plan.proofs.tree.child_counts.Tie as tie
@@ -15,64 +12,66 @@ use Rattle.plan.proofs.tree.child_counts.Lts as lts
 use Rattle.plan.proofs.tree.wide.Reads as wide-reads
 
 abbrev Inv-loop : tie.InvT-loop
-Inv-loop parents n counts₀ c₀ counts c =
-    (1 ≤ c) × (c ≤ n) × (length counts ≡ 256) × ((f : ℕ) → f < 256 → getD counts f 0 ≡ seen parents (c - 1) f)
+Inv-loop parents n out₀ c₀ out c =
+    (1 ≤ c) × (c ≤ n) × (length out ≡ 256) × ((f : ℕ) → f < 256 → getD out f 0 ≡ seen parents (c - 1) f)
 
 abbrev μ-loop : tie.MeasureT-loop
-μ-loop parents n counts₀ c₀ counts c = n - c
+μ-loop parents n out₀ c₀ out c = n - c
 
--- src/tree.rt:29:5
 loop-holds : tie.Need-loop-holds Inv-loop μ-loop
 unfolding seen
-loop-holds c = (omega arith, omega arith, refl, λ f h. getD-replicate 256 f 0 0 h)
+loop-holds c = rw (c .pre .1) (omega arith, omega arith, refl, λ f h. getD-replicate 256 f 0 0 h)
 
--- src/tree.rt:30:22
 mul-wide : tie.Need-mul-wide Inv-loop μ-loop
 mul-wide c = search needs
 
--- src/tree.rt:30:22
 element-copy-out-wide : tie.Need-element-copy-out-wide Inv-loop μ-loop
 element-copy-out-wide c = search needs
 
--- src/tree.rt:30:13
 wide-requires : tie.Need-wide-requires Inv-loop μ-loop
 wide-requires c κs = search needs
 
--- src/tree.rt:31:21
-mul-counts : tie.Need-mul-counts Inv-loop μ-loop
-mul-counts c = omega (arith, c .before .before .before .before .pre .lower (c .before .before .before .loop .c) (c .before .before .before .loop .inv .0) (c .before .before .loop-test .taken), c .before .before .before .before .pre .few, c .wide .ensures)
+mul-out : tie.Need-mul-out Inv-loop μ-loop
+mul-out c = omega (arith, parent-few (c .before .before .before .before .pre .0) (c .before .before .before .loop .inv .0) (c .before .before .loop-test .taken) (c .wide .ensures))
 
--- src/tree.rt:31:21
-array-read-counts : tie.Need-array-read-counts Inv-loop μ-loop
-array-read-counts c = omega (arith, c .before .before .before .before .pre .lower (c .before .before .before .loop .c) (c .before .before .before .loop .inv .0) (c .before .before .loop-test .taken), c .before .before .before .before .pre .few, c .wide .ensures)
+element-copy-out-out : tie.Need-element-copy-out-out Inv-loop μ-loop
+element-copy-out-out c = omega (arith, parent-few (c .before .before .before .before .pre .0) (c .before .before .before .loop .inv .0) (c .before .before .loop-test .taken) (c .wide .ensures))
 
--- src/tree.rt:31:21
-add-counts : tie.Need-add-counts Inv-loop μ-loop
-add-counts c = omega (arith, c .before .before .before .before .pre .lower (c .before .before .before .loop .c) (c .before .before .before .loop .inv .0) (c .before .before .loop-test .taken), c .before .before .before .before .pre .few, c .wide .ensures, c .before .before .before .loop .inv .3 (c .wide .result) (omega (arith, c .before .before .before .before .pre .lower (c .before .before .before .loop .c) (c .before .before .before .loop .inv .0) (c .before .before .loop-test .taken), c .before .before .before .before .pre .few, c .wide .ensures)), seen-most (c .before .before .before .before .args .parents .now) (c .before .before .before .loop .c - 1) (c .wide .result))
+add-out : tie.Need-add-out Inv-loop μ-loop
+add-out c =
+    let st = c .before .before .before .before .before in
+    let l = c .before .before .before .before .loop in
+    let p = c .before .wide .result in
+    let g : p < 256 = omega (arith, parent-few (c .before .before .before .before .before .pre .0) (c .before .before .before .before .loop .inv .0) (c .before .before .before .loop-test .taken) (c .before .wide .ensures)) in
+    omega (arith, st .pre .0 .few, l .inv .3 p g, seen-most (st .args .parents .now) (l .c - 1) p)
 
--- src/tree.rt:31:9
-mul-counts-2 : tie.Need-mul-counts-2 Inv-loop μ-loop
-mul-counts-2 c = omega (arith, c .before .before .before .before .pre .lower (c .before .before .before .loop .c) (c .before .before .before .loop .inv .0) (c .before .before .loop-test .taken), c .before .before .before .before .pre .few, c .wide .ensures)
+mul-out-2 : tie.Need-mul-out-2 Inv-loop μ-loop
+mul-out-2 c = omega (arith, parent-few (c .before .before .before .before .before .pre .0) (c .before .before .before .before .loop .inv .0) (c .before .before .before .loop-test .taken) (c .before .wide .ensures))
 
--- src/tree.rt:31:9
-array-write-counts : tie.Need-array-write-counts Inv-loop μ-loop
-array-write-counts c = omega (arith, c .before .before .before .before .pre .lower (c .before .before .before .loop .c) (c .before .before .before .loop .inv .0) (c .before .before .loop-test .taken), c .before .before .before .before .pre .few, c .wide .ensures)
+element-write-out : tie.Need-element-write-out Inv-loop μ-loop
+element-write-out c = omega (arith, parent-few (c .before .before .before .before .before .pre .0) (c .before .before .before .before .loop .inv .0) (c .before .before .before .loop-test .taken) (c .before .wide .ensures))
 
--- src/tree.rt:32:9
 add-c : tie.Need-add-c Inv-loop μ-loop
 add-c c = search needs
 
--- src/tree.rt:29:5
 loop-less : tie.Need-loop-less Inv-loop μ-loop
 loop-less c = search needs
 
--- src/tree.rt:29:5
 loop-again : tie.Need-loop-again Inv-loop μ-loop
-loop-again c = (omega arith, omega arith, simp length-set (c .before .before .before .loop .inv .2), rw (c .wide .ensures) (seen-more (c .before .before .before .before .args .parents .now) (c .before .before .before .loop .counts) (c .before .before .before .before .args .n) (c .before .before .before .loop .c) (c .before .before .before .before .pre) (c .before .before .before .loop .inv .0) (c .before .before .loop-test .taken) (c .before .before .before .loop .inv .2) (c .before .before .before .loop .inv .3)))
+loop-again c =
+    let st = c .before .before .before .before .before in
+    let l = c .before .before .before .before .loop in (
+      omega arith,
+      omega arith,
+      simp length-set (l .inv .2),
+      rw (c .before .wide .ensures) (seen-more (st .args .parents .now) (l .out) (st .args .n) (l .c) (st .pre .0) (l .inv .0) (c .before .before .before .loop-test .taken) (l .inv .2) (l .inv .3)),
+    )
 
--- src/tree.rt:23:1
 returns : tie.Need-returns Inv-loop μ-loop
-returns c = λ ks ws ds. record { long = c .before .loop .inv .2; each = λ f h. c .before .loop .inv .3 f (omega (arith, c .before .before .pre .few)) ∙ (let e : c .before .loop .c ≡ c .before .before .args .n = omega arith in rw e (seen-children _ ks ws ds _ f)) }
+returns c = λ ks ws ds.
+    let l = c .before .loop in
+    let e : l .c ≡ c .before .before .args .n = omega arith in
+    record { long = l .inv .2; each = λ f h. l .inv .3 f (omega (arith, c .before .before .pre .0 .few)) ∙ rw e (seen-children _ ks ws ds _ f) }
 
 pub child-counts-spec : {M : Type 1} → statement M
 child-counts-spec =
@@ -84,11 +83,11 @@ child-counts-spec =
     mul-wide
     element-copy-out-wide
     wide-requires
-    mul-counts
-    array-read-counts
-    add-counts
-    mul-counts-2
-    array-write-counts
+    mul-out
+    element-copy-out-out
+    add-out
+    mul-out-2
+    element-write-out
     add-c
     loop-less
     loop-again
