@@ -6,7 +6,7 @@ use planfile::Reading;
 ghost use mathlib.Core.Path.{_≡_};
 ghost use Prim.Native.Nat.{_<_, _≤_};
 ghost use lib.ListN.{length};
-ghost use Rattle.records.specs.Apart.{«lent-at», blank, clipped, «with-record», «lent-columns»};
+ghost use Rattle.records.specs.Apart.{«lent-at», blank, clipped, «lent-columns»};
 ghost use Rattle.records.specs.Together.{«record-in», filled};
 
 // One record of a lent table.
@@ -37,19 +37,6 @@ fn clip(count: usize) -> usize
     if MOST_CELLS < count { 0 } else { count }
 }
 
-// Columns with a record's numbers at cell c.
-fn with(t: Columns, c: usize, r: Record) -> Columns
-    requires { ⌜ c < 256 ⌝ }
-    ensures { λ next. ⌜ next ≡ with-record t c r ⌝ }
-{
-    let mut next = t;
-    next.parent[c] = r.parent;
-    next.kind[c] = r.kind;
-    next.width[c] = r.width;
-    next.depth[c] = r.depth;
-    next
-}
-
 // The columns of a lent table. One of more than 256 records gives its count, and no numbers.
 pub fn columns_of(table: &[Record]) -> Columns
     ensures { λ r. ⌜ r ≡ lent-columns (now (table .entry)) ⌝ }
@@ -60,7 +47,10 @@ pub fn columns_of(table: &[Record]) -> Columns
     let mut c = 0;
     while c < n {
         let r = record_at(table, c);
-        t = with(t, c, r);
+        t.parent[c] = r.parent;
+        t.kind[c] = r.kind;
+        t.width[c] = r.width;
+        t.depth[c] = r.depth;
         c += 1;
     }
     t
