@@ -1,11 +1,11 @@
 -- An array of numbers in memory, one number at a time: a `Part` (`Types/Part.antt`) within the array's cell, and what holds of the array when one number is another.
 --     number           number k of an array's cell that p finds, at the offset that MIR's `offset` makes of the array's and k
 --     Numbers w n xs   xs are the n numbers of an array of width w
---     numbers-set      they are so with another number at k
+--     numbers-at       each fits the width.        numbers-set      they are so with another number at k
 -- Assumes `Given` (of it `at-elems`, `elems-at`).
 use mathlib.Core.Path.{_≡_, refl, sym, _∙_, ap, subst}
 use Prim.Native.Nat.{ℕ, zero, suc, _+_, _*_, _<_, _^_}
-use native.Mathlib.Nat.{not-suc-le-zero, le-of-suc-le-suc}
+use native.Mathlib.Nat.{mul-one, not-suc-le-zero, le-of-suc-le-suc}
 use mathlib.Core.List.{List, [], _∷_, map}
 use lib.ListN.{length, getD, set, length-set, length-map, List·getD-map}
 use lib.Seq.{set-getD}
@@ -74,6 +74,10 @@ module _ {M : Type 1} {𝓤 : URA M} {H : Heap 𝓤} {A : Atoms 𝓤} {K : Type 
       (subst (λ (a : ℕ). Part K W i q (tyInt w) b a (getD (map (vint w) xs) k (vint w 0)) (λ u. back (arrayVal (set (map (vint w) xs) k u)))) (place-is (size (tyInt w)) o k ∙ m)
       (element t (tyInt w) n (map (vint w) xs) k (vint w 0) (length-map xs (vint w) ∙ e) l p))
 
+-- the offset of a byte
+pub byte : (k o : ℕ) → k * 1 + o ≡ k + o
+byte k o = ap (λ (m : ℕ). m + o) (mul-one k)
+
 -- ---- as values
 -- a number is its own denotation, and an array's row has its numbers' denotations
 abbrev same : List ℕ → List ℕ
@@ -97,6 +101,15 @@ each-set w (y ∷ ys) (suc k) x l s = (s .0, each-set w ys k x l (s .1))
 
 pub numbers-length : (w : Width) (n : ℕ) (xs : List ℕ) → Numbers w n xs → length xs ≡ n
 numbers-length w n xs s = sym (length-map xs (λ x. x)) ∙ s .1 .0 .1
+
+each-at : (w : Width) (xs : List ℕ) (us : List Val) (k : ℕ) → k < length xs → Each w (same xs) us → getD xs k 0 < 2 ^ bits w
+each-at w [] us k l s = absurd (not-suc-le-zero l)
+each-at w (x ∷ xs) [] k l s = absurd s
+each-at w (x ∷ xs) (u ∷ us) zero l s = s .0 .1
+each-at w (x ∷ xs) (u ∷ us) (suc k) l s = each-at w xs us k (le-of-suc-le-suc l) (s .1)
+
+pub numbers-at : (w : Width) (n : ℕ) (xs : List ℕ) (k : ℕ) → k < n → Numbers w n xs → getD xs k 0 < 2 ^ bits w
+numbers-at w n xs k l s = each-at w xs (s .0) k (subst (λ (m : ℕ). k < m) (sym (numbers-length w n xs s)) l) (s .1 .1)
 
 pub numbers-set : (w : Width) (n : ℕ) (xs : List ℕ) (k x : ℕ) → x < 2 ^ bits w → Numbers w n xs → Numbers w n (set xs k x)
 numbers-set w n xs k x l s =

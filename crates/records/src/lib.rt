@@ -7,7 +7,7 @@ ghost use mathlib.Core.Path.{_≡_};
 ghost use Prim.Native.Nat.{_<_, _≤_};
 ghost use lib.ListN.{length};
 ghost use Rattle.records.specs.Apart.{«lent-at», blank, clipped, «lent-columns»};
-ghost use Rattle.records.specs.Together.{«record-in», filled};
+ghost use Rattle.records.specs.Together.{filled};
 
 // One record of a lent table.
 fn record_at(table: &[Record], c: usize) -> Record
@@ -56,22 +56,6 @@ pub fn columns_of(table: &[Record]) -> Columns
     t
 }
 
-// The record of cell c, from the columns of a reading.
-fn record_of(reading: Reading, c: usize) -> Record
-    requires { ⌜ c < 256 ⌝ }
-    ensures { λ r. ⌜ r ≡ record-in reading c ⌝ }
-{
-    let columns = reading.columns;
-    Record {
-        parent: columns.parent[c],
-        kind: columns.kind[c],
-        width: columns.width[c],
-        depth: columns.depth[c],
-        label_length: reading.label_length[c],
-        label_start: reading.label_start[c],
-    }
-}
-
 // Writes the records of cells 0 to n - 1, and leaves the rest.
 pub fn fill(reading: Reading, n: usize, table: &mut [Record])
     requires { ⌜ (n ≤ length (now table)) × (n ≤ 256) ⌝ }
@@ -79,8 +63,14 @@ pub fn fill(reading: Reading, n: usize, table: &mut [Record])
 {
     let mut c = 0;
     while c < n {
-        let r = record_of(reading, c);
-        table[c] = r;
+        table[c] = Record {
+            parent: reading.columns.parent[c],
+            kind: reading.columns.kind[c],
+            width: reading.columns.width[c],
+            depth: reading.columns.depth[c],
+            label_length: reading.label_length[c],
+            label_start: reading.label_start[c],
+        };
         c += 1;
     }
 }

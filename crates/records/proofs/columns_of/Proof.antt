@@ -3,7 +3,7 @@
 -- Assumes nothing.
 use mathlib.Core.Path.{_≡_, refl, sym, _∙_, ap, subst}
 use Prim.Native.Nat.{ℕ, _+_, _*_, _-_, _≤_, _<_, _^_, zero-le}
-use native.Mathlib.Nat.{mul-one, le-antisymm, lt-of-le-of-lt, lt-of-lt-of-le}
+use native.Mathlib.Nat.{le-antisymm, lt-of-le-of-lt, lt-of-lt-of-le}
 use native.Mathlib.Omega.{arith}
 use native.Mathlib.Numerals.{add-one-le, add-one-dec}
 use mathlib.Core.WellFounded.{WellFounded, InvImage·wf}
@@ -68,7 +68,7 @@ use Rattle.records.proofs.record_at.Symbol as record-at-def
 use Rattle.records.proofs.record_at.Symbol.{name as #records·record-at}
 use Rattle.records.proofs.record_at.Met as record-at-thm
 use Rattle.records.proofs.Locals.{room, holds}
-use Rattle.records.proofs.Numbers.{number, numbers-length, numbers-set, map-set}
+use Rattle.records.proofs.Numbers.{number, byte, numbers-length, numbers-set, map-set}
 use Rattle.records.proofs.columns_of.Key.{name as #records·columns-of}
 use Rattle.records.proofs.columns_of as columns-of
 use Rattle.records.proofs.columns_of.Statement as stated
@@ -258,12 +258,12 @@ module _ {M : Type 1} (𝓤 : URA M) (H : Heap 𝓤) (A : Atoms 𝓤) (W : Given
           assigns ! (addr ! (from ! (fld ! refl (stop !)))) (from ! (stop !)) (init ! 14 refl (tt, tt)) $ assigns ! (bin ! (load ! (from ! (stop !)) (look ! 14 refl)) (load ! (from ! (stop !)) (look ! 16 refl)) tt) (from ! (stop !)) (init ! 12 refl (tt, tt)) $
           assigns ! (of-opd ! (load ! (from ! (fld ! refl (stop !))) (look-in ! 22 (sub ! 0 refl (whole !))))) (from ! (hop ! (look ! 12 refl) (stop !))) (store-in ! 26 (number ! (tab i .parent) i (lengths (tab i) is .0) within refl (sub ! 1 refl (whole !))) (tt, record { fits = fits c (v ∷ []) is-c .0 })) $
           assigns ! (addr ! (from ! (fld ! refl (stop !)))) (from ! (stop !)) (init ! 10 refl (tt, tt)) $ assigns ! (bin ! (load ! (from ! (stop !)) (look ! 10 refl)) (load ! (from ! (stop !)) (look ! 24 refl)) tt) (from ! (stop !)) (init ! 8 refl (tt, tt)) $
-          assigns ! (of-opd ! (load ! (from ! (fld ! refl (stop !))) (look-in ! 22 (sub ! 1 refl (whole !))))) (from ! (hop ! (look ! 8 refl) (stop !))) (store-in ! 26 (number ! (tab i .kind) i (lengths (tab i) is .1) within (ap (λ (k : ℕ). k + 520) (mul-one i)) (sub ! 2 refl (whole !))) (tt, record { fits = fits c (v ∷ []) is-c .1 })) $
+          assigns ! (of-opd ! (load ! (from ! (fld ! refl (stop !))) (look-in ! 22 (sub ! 1 refl (whole !))))) (from ! (hop ! (look ! 8 refl) (stop !))) (store-in ! 26 (number ! (tab i .kind) i (lengths (tab i) is .1) within (byte i _) (sub ! 2 refl (whole !))) (tt, record { fits = fits c (v ∷ []) is-c .1 })) $
           assigns ! (bin ! (load ! (from ! (stop !)) (look ! 24 refl)) (lit ! tt) (record { fits = twice })) (from ! (stop !)) (store ! 16 refl (tt, record { fits = twice })) $
           assigns ! (addr ! (from ! (fld ! refl (stop !)))) (from ! (stop !)) (init ! 6 refl (tt, tt)) $ assigns ! (bin ! (load ! (from ! (stop !)) (look ! 6 refl)) (load ! (from ! (stop !)) (look ! 16 refl)) tt) (from ! (stop !)) (init ! 4 refl (tt, tt)) $
           assigns ! (of-opd ! (load ! (from ! (fld ! refl (stop !))) (look-in ! 22 (sub ! 2 refl (whole !))))) (from ! (hop ! (look ! 4 refl) (stop !))) (store-in ! 26 (number ! (tab i .width) i (lengths (tab i) is .2) within refl (sub ! 3 refl (whole !))) (tt, record { fits = fits c (v ∷ []) is-c .2 })) $
           assigns ! (addr ! (from ! (fld ! refl (stop !)))) (from ! (stop !)) (init ! 2 refl (tt, tt)) $ assigns ! (bin ! (load ! (from ! (stop !)) (look ! 2 refl)) (load ! (from ! (stop !)) (look ! 24 refl)) tt) (from ! (stop !)) (init ! 0 refl (tt, tt)) $
-          assigns ! (of-opd ! (load ! (from ! (fld ! refl (stop !))) (look-in ! 22 (sub ! 3 refl (whole !))))) (from ! (hop ! (look ! 0 refl) (stop !))) (store-in ! 26 (number ! (tab i .depth) i (lengths (tab i) is .3) within (ap (λ (k : ℕ). k + 1288) (mul-one i)) (sub ! 4 refl (whole !))) (tt, record { fits = fits c (v ∷ []) is-c .3 })) $
+          assigns ! (of-opd ! (load ! (from ! (fld ! refl (stop !))) (look-in ! 22 (sub ! 3 refl (whole !))))) (from ! (hop ! (look ! 0 refl) (stop !))) (store-in ! 26 (number ! (tab i .depth) i (lengths (tab i) is .3) within (byte i _) (sub ! 4 refl (whole !))) (tt, record { fits = fits c (v ∷ []) is-c .3 })) $
           rewrite ! 26 (λ (w : Val). ‵ (fat fullShare B′.mir l₄ 0 w)) (stored-is (tab i) i c ∙ ap mach (next c e)) refl $
           assigns-last ! (bin ! (load ! (from ! (stop !)) (look ! 24 refl)) (lit ! tt) (record { fits = next-fits })) (from ! (stop !)) (store ! 24 refl (tt, record { fits = next-fits })) $
           forget ! 0 refl $ forget ! 2 refl $ forget ! 4 refl $ forget ! 6 refl $ forget ! 8 refl $ forget ! 10 refl $ forget ! 12 refl $ forget ! 14 refl $ forget ! 16 refl $ forget ! 18 refl $ forget ! 22 refl $
