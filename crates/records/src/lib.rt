@@ -6,8 +6,8 @@ use planfile::Reading;
 ghost use mathlib.Core.Path.{_≡_};
 ghost use Prim.Native.Nat.{_<_, _≤_};
 ghost use lib.ListN.{length};
-ghost use Rattle.records.specs.Apart.{«lent-at», blank, clipped, «with-record», «lent-columns»};
-ghost use Rattle.records.specs.Together.{«record-in», filled};
+ghost use Rattle.records.specs.Apart.{«lent-at», blank, clipped, «lent-columns»};
+ghost use Rattle.records.specs.Together.{filled};
 
 // One record of a lent table.
 fn record_at(table: &[Record], c: usize) -> Record
@@ -37,19 +37,6 @@ fn clip(count: usize) -> usize
     if MOST_CELLS < count { 0 } else { count }
 }
 
-// Columns with a record's numbers at cell c.
-fn with(t: Columns, c: usize, r: Record) -> Columns
-    requires { ⌜ c < 256 ⌝ }
-    ensures { λ next. ⌜ next ≡ with-record t c r ⌝ }
-{
-    let mut next = t;
-    next.parent[c] = r.parent;
-    next.kind[c] = r.kind;
-    next.width[c] = r.width;
-    next.depth[c] = r.depth;
-    next
-}
-
 // The columns of a lent table. One of more than 256 records gives its count, and no numbers.
 pub fn columns_of(table: &[Record]) -> Columns
     ensures { λ r. ⌜ r ≡ lent-columns (now (table .entry)) ⌝ }
@@ -60,26 +47,13 @@ pub fn columns_of(table: &[Record]) -> Columns
     let mut c = 0;
     while c < n {
         let r = record_at(table, c);
-        t = with(t, c, r);
+        t.parent[c] = r.parent;
+        t.kind[c] = r.kind;
+        t.width[c] = r.width;
+        t.depth[c] = r.depth;
         c += 1;
     }
     t
-}
-
-// The record of cell c, from the columns of a reading.
-fn record_of(reading: Reading, c: usize) -> Record
-    requires { ⌜ c < 256 ⌝ }
-    ensures { λ r. ⌜ r ≡ record-in reading c ⌝ }
-{
-    let columns = reading.columns;
-    Record {
-        parent: columns.parent[c],
-        kind: columns.kind[c],
-        width: columns.width[c],
-        depth: columns.depth[c],
-        label_length: reading.label_length[c],
-        label_start: reading.label_start[c],
-    }
 }
 
 // Writes the records of cells 0 to n - 1, and leaves the rest.
@@ -89,8 +63,14 @@ pub fn fill(reading: Reading, n: usize, table: &mut [Record])
 {
     let mut c = 0;
     while c < n {
-        let r = record_of(reading, c);
-        table[c] = r;
+        table[c] = Record {
+            parent: reading.columns.parent[c],
+            kind: reading.columns.kind[c],
+            width: reading.columns.width[c],
+            depth: reading.columns.depth[c],
+            label_length: reading.label_length[c],
+            label_start: reading.label_start[c],
+        };
         c += 1;
     }
 }

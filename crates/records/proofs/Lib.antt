@@ -1,0 +1,2 @@
+mod Locals
+mod Numbers
