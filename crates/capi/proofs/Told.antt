@@ -1,5 +1,5 @@
--- A function for C hands its parameters on to an entry of crate engine, and tells the entry's answer as a struct of numbers: what all such functions share.
--- `post` hands no parameter back, so what the function owns at entry goes whole to the entry: the walk of the MIR is over machine values alone.
+-- A function for C hands its parameters on to an entry of crate engine, and tells the entry's answer as a struct of numbers: what the proofs of all such functions share.
+-- A contract hands no parameter back, so all that the function owns goes to the entry whole, and the walk of its MIR is over machine values alone.
 -- Assumes `Given`, and that the table of calls is monotone under a frame.
 use mathlib.Core.Path.{_≡_, refl, sym, subst, ap}
 use Prim.Native.Nat.{ℕ}
