@@ -3,15 +3,10 @@ use Rattle.planfile.specs.declared.Part.{Part}
 use borrow.Author.Needs.{needs}
 use Rattle.capi.proofs.kuzpalen_label.Statement.{statement}
 use Rattle.capi.proofs.kuzpalen_label.Tie as tie
-use Rattle.capi.proofs.kuzpalen_label.Reads as reads
-use Rattle.capi.proofs.kuzpalen_label.Lts as lts
-use Rattle.planfile.proofs.label_part.Reads as label-part-reads
 
--- src/lib.rt:167:9
 label-part-requires : tie.Need-label-part-requires
 label-part-requires c κs = search needs
 
--- src/lib.rt:163:1
 returns : tie.Need-returns
 returns c = (ap (λ (r : Part). r .start) (c .label-part .ensures), ap (λ (r : Part). r .end) (c .label-part .ensures))
 

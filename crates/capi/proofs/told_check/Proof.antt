@@ -3,8 +3,6 @@ use Rattle.capi.specs.Answers.{check-answer}
 use borrow.Author.Needs.{needs}
 use Rattle.capi.proofs.told_check.Statement.{statement}
 use Rattle.capi.proofs.told_check.Tie as tie
-use Rattle.capi.proofs.told_check.Reads as reads
-use Rattle.capi.proofs.told_check.Lts as lts
 
 enum-known-answer : tie.Need-enum-known-answer
 enum-known-answer c = search needs

@@ -4,8 +4,6 @@ use Rattle.capi.specs.Answers.{ends-answer}
 use borrow.Author.Needs.{needs}
 use Rattle.capi.proofs.told_ends.Statement.{statement}
 use Rattle.capi.proofs.told_ends.Tie as tie
-use Rattle.capi.proofs.told_ends.Reads as reads
-use Rattle.capi.proofs.told_ends.Lts as lts
 
 enum-known-answer : tie.Need-enum-known-answer
 enum-known-answer c = search needs

@@ -3,8 +3,6 @@ use Rattle.capi.specs.Answers.{laid-answer}
 use borrow.Author.Needs.{needs}
 use Rattle.capi.proofs.told_layout.Statement.{statement}
 use Rattle.capi.proofs.told_layout.Tie as tie
-use Rattle.capi.proofs.told_layout.Reads as reads
-use Rattle.capi.proofs.told_layout.Lts as lts
 
 enum-known-answer : tie.Need-enum-known-answer
 enum-known-answer c = search needs

@@ -3,8 +3,6 @@ use Rattle.capi.specs.Answers.{read-answer}
 use borrow.Author.Needs.{needs}
 use Rattle.capi.proofs.told_read.Statement.{statement}
 use Rattle.capi.proofs.told_read.Tie as tie
-use Rattle.capi.proofs.told_read.Reads as reads
-use Rattle.capi.proofs.told_read.Lts as lts
 
 enum-known-answer : tie.Need-enum-known-answer
 enum-known-answer c = search needs
