@@ -57,12 +57,8 @@ fn named(cell: usize, n: usize) -> bool
 fn refuse(t: Columns, positions: &[i32], cell: usize) -> Refusal
     ensures { λ r. ⌜ r ≡ refusal ends (ends-given (table-of t) (now (positions .entry)) cell) ⌝ }
 {
-    let parents = t.parent;
-    let kinds = t.kind;
-    let widths = t.width;
-    let depths = t.depth;
     let n = t.count;
-    let lent = lent_refusal(&parents, &kinds, &widths, &depths, n, positions.len());
+    let lent = lent_refusal(&t.parent, &t.kind, &t.width, &t.depth, n, positions.len());
     if lent.number != 0 {
         return lent;
     }

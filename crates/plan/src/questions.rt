@@ -226,6 +226,7 @@ fn counted(n: usize) -> bool
 }
 
 // Questions 4, 1 (of so many positions), 6 to 8 and 11 to 13, put to a lent table.
+// One lifetime, so that a caller can lend the fields of its columns.
 pub fn lent_refusal<'a>(
     parents: &'a [u16; 256],
     kinds: &'a [u8; 256],
