@@ -1,6 +1,6 @@
 pub mod Tests
 pub mod Searching
 pub mod Looking
-pub mod Gathering
+pub mod Scattering
 pub mod Widening
 pub mod Judging

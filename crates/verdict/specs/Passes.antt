@@ -1,9 +1,10 @@
 -- The rules as the code tests them, on natural numbers. Assumes nothing.
-use mathlib.Core.List.{List, [], _∷_}
+use mathlib.Core.List.{List, []}
 use mathlib.Core.Bool.{Bool, true, false, _&&_}
 use mathlib.Core.Path.{_≡_}
+use mathlib.Core.Logic.{_⊎_}
 use Prim.Native.Nat.{ℕ, zero, suc, _+_, _*_, _^_, _≤_, _<_}
-use lib.ListN.{getD, set}
+use lib.ListN.{length, getD}
 use lib.Dec.{eqb, leb, ltb}
 use Rattle.whole.specs.Says.{only}
 use Rattle.plan.specs.Limits.{farthest}
@@ -16,58 +17,33 @@ use Rattle.verdict.specs.declared.search.Found.the-variants.{Kept, Broke
 abbrev pub Sights : Type 0
 Sights = ℕ → View
 
--- the numbers of the cell c, out of the columns
-abbrev pub view-at : (parent nth middle x right y due base bottom first end from to : List ℕ) → Sights
-view-at parent nth middle x right y due base bottom first end from to c = record {
-  parent = getD parent c 0;
-  nth = getD nth c 0;
-  middle = getD middle c 0;
-  x = getD x c 0;
-  right = getD right c 0;
-  y = getD y c 0;
-  due = getD due c 0;
-  base = getD base c 0;
-  bottom = getD bottom c 0;
-  first = getD first c 0;
-  end = getD end c 0;
-  from = getD from c 0;
-  to = getD to c 0;
-}
-
 -- how many they are
 abbrev pub sight : ℕ
 sight = 13
 
--- the numbers of the cell c, out of one list
+-- the numbers of the cell c, out of one list, 13 for each cell
 abbrev pub view-in : List ℕ → Sights
 view-in xs c = record {
-  parent = getD xs (sight * c) 0;
+  parent = getD xs (sight * c + 0) 0;
   nth = getD xs (sight * c + 1) 0;
   middle = getD xs (sight * c + 2) 0;
-  x = getD xs (sight * c + 3) 0;
-  right = getD xs (sight * c + 4) 0;
-  y = getD xs (sight * c + 5) 0;
-  due = getD xs (sight * c + 6) 0;
-  base = getD xs (sight * c + 7) 0;
-  bottom = getD xs (sight * c + 8) 0;
-  first = getD xs (sight * c + 9) 0;
-  end = getD xs (sight * c + 10) 0;
-  from = getD xs (sight * c + 11) 0;
-  to = getD xs (sight * c + 12) 0;
+  first = getD xs (sight * c + 3) 0;
+  end = getD xs (sight * c + 4) 0;
+  from = getD xs (sight * c + 5) 0;
+  to = getD xs (sight * c + 6) 0;
+  x = getD xs (sight * c + 7) 0;
+  right = getD xs (sight * c + 8) 0;
+  y = getD xs (sight * c + 9) 0;
+  due = getD xs (sight * c + 10) 0;
+  base = getD xs (sight * c + 11) 0;
+  bottom = getD xs (sight * c + 12) 0;
 }
 
--- numbers in a row from b + k on, one after the other
-abbrev pub puts : List ℕ → ℕ → ℕ → List ℕ → List ℕ
-puts xs b k [] = xs
-puts xs b k (a ∷ l) = puts (set xs (b + k) a) b (suc k) l
-
--- those of a view, after the parent
-abbrev pub numbers-after : View → List ℕ
-numbers-after v = v .nth ∷ v .middle ∷ v .x ∷ v .right ∷ v .y ∷ v .due ∷ v .base ∷ v .bottom ∷ v .first ∷ v .end ∷ v .from ∷ v .to ∷ []
-
--- v in the place of the cell c
-abbrev pub put-view : List ℕ → ℕ → View → List ℕ
-put-view xs c v = puts (set xs (sight * c) (v .parent)) (sight * c) 1 (numbers-after v)
+-- the columns' first n numbers stand from number k of their cells on, and the other numbers are as they were
+pub record Scattered (columns : List (List ℕ)) (n k : ℕ) (xs xs′ : List ℕ) : Type 0 where
+  pub long : length xs′ ≡ 256 * sight
+  pub here : (j c : ℕ) → j < length columns → c < n → getD xs′ (sight * c + (k + j)) 0 ≡ getD (getD columns j []) c 0
+  pub off : (j c : ℕ) → j < sight → (j < k) ⊎ (k + length columns ≤ j) → getD xs′ (sight * c + j) 0 ≡ getD xs (sight * c + j) 0
 
 -- the same numbers of the first n cells
 pub record Agree (s s′ : Sights) (n : ℕ) : Type 0 where

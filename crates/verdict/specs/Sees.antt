@@ -1,10 +1,12 @@
 -- What the columns hold of a table and a placement. Assumes nothing.
 use mathlib.Core.Path.{_≡_}
-use mathlib.Core.List.{List}
-use Prim.Native.Nat.{ℕ, _+_, _^_, _<_}
-use lib.ListN.{length}
-use lib.IntN.{ℤ}
+use mathlib.Core.List.{List, [], _∷_}
+use Prim.Native.Nat.{ℕ, _+_, _*_, _^_, _<_}
+use lib.ListN.{length, getD}
+use lib.IntN.{ℤ, pos}
 use Rattle.whole.specs.Whole.{plus, minus}
+use Rattle.whole.specs.Bias.{bias}
+use Rattle.plan.specs.Trees.{Column}
 use Rattle.plan.specs.Limits.{farthest}
 use Rattle.plan.specs.Plan.{Table, Is, kind, parent, appointed, W, D}
 use Rattle.plan.specs.PlanLaws.{Child}
@@ -13,7 +15,7 @@ use Rattle.spans.specs.Columns.{at}
 use Rattle.spans.specs.Counted.{Counted}
 use Rattle.spans.specs.Deepest.{Deepest}
 use Rattle.spans.specs.Spans.{Spans}
-use Rattle.verdict.specs.Passes.{Sights, Agree}
+use Rattle.verdict.specs.Passes.{Sights, Agree, Scattered}
 
 -- n is z moved up
 abbrev pub Lifts : ℤ → ℕ → Type 0
@@ -46,3 +48,35 @@ pub record Looked (t : Table) (p : Placement) (s : Sights) : Type 0 where
   pub seen : Sights
   pub sees : Sees t p seen
   pub agree : Agree s seen (length t)
+
+-- what the rules read of the table: the first seven numbers of each cell
+pub record Tree-seen (t : Table) (n : ℕ) (xs xs′ : List ℕ) : Type 0 where
+  pub heads : List ℕ
+  pub nth : List ℕ
+  pub middle : List ℕ
+  pub first : List ℕ
+  pub end : List ℕ
+  pub from : List ℕ
+  pub to : List ℕ
+  pub many : List ℕ
+  pub parents : Column heads n (parent t)
+  pub counted : Counted t (at nth) (at many)
+  pub middles : Column middle n (λ c. appointed (kind t c) (at many c))
+  pub spans : Spans t (at first) (at end) (at from) (at to)
+  pub scattered : Scattered (heads ∷ nth ∷ middle ∷ first ∷ end ∷ from ∷ to ∷ []) n 0 xs xs′
+
+-- and of the placement: the others
+pub record Placement-seen (t : Table) (ps : List ℤ) (n : ℕ) (xs xs′ : List ℕ) : Type 0 where
+  pub x : List ℕ
+  pub right : List ℕ
+  pub y : List ℕ
+  pub due : List ℕ
+  pub base : List ℕ
+  pub bottom : List ℕ
+  pub x-raised : Column x n (λ c. bias farthest (getD ps (2 * c + 0) (pos 0)))
+  pub rights : Column right n (λ c. at x c + W t c)
+  pub y-raised : Column y n (λ c. bias farthest (getD ps (2 * c + 1) (pos 0)))
+  pub dues : Due t (at base) (at due)
+  pub bases : Column base n (λ c. at y c + D t c)
+  pub bottoms : Deepest t (at base) (at bottom)
+  pub scattered : Scattered (x ∷ right ∷ y ∷ due ∷ base ∷ bottom ∷ []) n 7 xs xs′

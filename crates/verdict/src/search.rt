@@ -1,8 +1,9 @@
 // The search: each rule in turn, at each pair of cells in turn.
 use plan::limits::FARTHEST;
 ghost use mathlib.Core.Path.{_≡_};
-ghost use Prim.Native.Nat.{_+_, _^_, _≤_, _<_};
-ghost use Rattle.verdict.specs.Passes.{Sighted, pass1, pass2, pass3, «pass3-ends», «pass3-starts», pass4, «pass4-box», «pass4-stem», pass5, passes, «view-in», «found-of», «row-found», «rule-found», «all-found»};
+ghost use Prim.Native.Nat.{_+_, _*_, _^_, _≤_, _<_};
+ghost use lib.ListN.{getD};
+ghost use Rattle.verdict.specs.Passes.{Sighted, pass1, pass2, pass3, «pass3-ends», «pass3-starts», pass4, «pass4-box», «pass4-stem», pass5, passes, sight, «view-in», «found-of», «row-found», «rule-found», «all-found»};
 
 // How many numbers the rules read of a cell. Those of all cells lie in one array, cell after cell.
 pub const SIGHT: usize = 13;
@@ -12,16 +13,16 @@ pub struct View {
     pub parent: u32,
     pub nth: u32,
     pub middle: u32,
+    pub first: u32,
+    pub end: u32,
+    pub from: u32,
+    pub to: u32,
     pub x: u32,
     pub right: u32,
     pub y: u32,
     pub due: u32,
     pub base: u32,
     pub bottom: u32,
-    pub first: u32,
-    pub end: u32,
-    pub from: u32,
-    pub to: u32,
 }
 
 // Nothing broken, or a rule with the lowest a and b at which it is.
@@ -160,26 +161,32 @@ fn passes(rule: u8, a: usize, b: usize, v: View, w: View, allowance: u32) -> boo
     }
 }
 
-// The numbers of the cell c.
+// Number k of the cell c.
+fn number_at(sights: &[u32; 3328], c: usize, k: usize) -> u32
+    requires { ⌜ (c < 256) × (k < sight) ⌝ }
+    ensures { λ r. ⌜ r ≡ getD (now (sights .entry)) (sight * c + k) 0 ⌝ }
+{
+    sights[SIGHT * c + k]
+}
+
 pub fn see(sights: &[u32; 3328], c: usize) -> View
     requires { ⌜ c < 256 ⌝ }
     ensures { λ r. ⌜ r ≡ view-in (now (sights .entry)) c ⌝ }
 {
-    let b = SIGHT * c;
     View {
-        parent: sights[b],
-        nth: sights[b + 1],
-        middle: sights[b + 2],
-        x: sights[b + 3],
-        right: sights[b + 4],
-        y: sights[b + 5],
-        due: sights[b + 6],
-        base: sights[b + 7],
-        bottom: sights[b + 8],
-        first: sights[b + 9],
-        end: sights[b + 10],
-        from: sights[b + 11],
-        to: sights[b + 12],
+        parent: number_at(sights, c, 0),
+        nth: number_at(sights, c, 1),
+        middle: number_at(sights, c, 2),
+        first: number_at(sights, c, 3),
+        end: number_at(sights, c, 4),
+        from: number_at(sights, c, 5),
+        to: number_at(sights, c, 6),
+        x: number_at(sights, c, 7),
+        right: number_at(sights, c, 8),
+        y: number_at(sights, c, 9),
+        due: number_at(sights, c, 10),
+        base: number_at(sights, c, 11),
+        bottom: number_at(sights, c, 12),
     }
 }
 

@@ -1,6 +1,5 @@
 // The columns that the rules read, made of a table and a placement.
 use crate::search::SIGHT;
-use crate::search::View;
 use plan::Columns;
 use plan::limits::FARTHEST;
 use spans::lay;
@@ -10,6 +9,7 @@ use spans::parent_of;
 use spans::sink;
 use whole::raise_at;
 ghost use mathlib.Core.Path.{_≡_};
+ghost use mathlib.Core.List.{[], _∷_};
 ghost use Prim.Native.Nat.{ℕ, _+_, _*_, _≤_, _<_, _^_};
 ghost use lib.ListN.{length, getD};
 ghost use lib.IntN.{pos};
@@ -22,9 +22,9 @@ ghost use Rattle.plan.specs.Fit.{Fit};
 ghost use Rattle.plan.specs.Near.{Near};
 ghost use Rattle.plan.specs.Trees.{Column};
 ghost use Rattle.spans.specs.Columns.{at};
-ghost use Rattle.verdict.specs.Passes.{Agree, Sighted, sight, «put-view», «view-at», «view-in»};
+ghost use Rattle.verdict.specs.Passes.{Scattered, Sighted, sight, «view-in»};
 ghost use Rattle.rules.specs.Placement.{placed};
-ghost use Rattle.verdict.specs.Sees.{Looked, Short, Due};
+ghost use Rattle.verdict.specs.Sees.{Looked, Short, Due, «Tree-seen», «Placement-seen»};
 
 // The right edge and the last row of each box.
 pub struct Edges {
@@ -118,134 +118,57 @@ fn heads_of(t: Columns, many: [u32; 256]) -> Heads
     Heads { parent, middle }
 }
 
-// The numbers of the cell c, out of the columns.
-fn view_at<'a>(
-    parent: &'a [u32; 256],
-    nth: &'a [u32; 256],
-    middle: &'a [u32; 256],
-    x: &'a [u32; 256],
-    right: &'a [u32; 256],
-    y: &'a [u32; 256],
-    due: &'a [u32; 256],
-    base: &'a [u32; 256],
-    bottom: &'a [u32; 256],
-    first: &'a [u32; 256],
-    end: &'a [u32; 256],
-    from: &'a [u32; 256],
-    to: &'a [u32; 256],
-    c: usize,
-) -> View
-    requires { ⌜ c < 256 ⌝ }
-    ensures { λ r. ⌜ r ≡ view-at (now (parent .entry)) (now (nth .entry)) (now (middle .entry)) (now (x .entry)) (now (right .entry)) (now (y .entry)) (now (due .entry)) (now (base .entry)) (now (bottom .entry)) (now (first .entry)) (now (end .entry)) (now (from .entry)) (now (to .entry)) c ⌝ }
-{
-    View {
-        parent: parent[c],
-        nth: nth[c],
-        middle: middle[c],
-        x: x[c],
-        right: right[c],
-        y: y[c],
-        due: due[c],
-        base: base[c],
-        bottom: bottom[c],
-        first: first[c],
-        end: end[c],
-        from: from[c],
-        to: to[c],
-    }
-}
-
-fn put(out: &mut [u32; 3328], c: usize, v: View)
-    requires { ⌜ c < 256 ⌝ }
-    ensures { λ _. ⌜ now (out .exit) ≡ put-view (now (out .entry)) c v ⌝ }
-{
-    let b = SIGHT * c;
-    out[b] = v.parent;
-    out[b + 1] = v.nth;
-    out[b + 2] = v.middle;
-    out[b + 3] = v.x;
-    out[b + 4] = v.right;
-    out[b + 5] = v.y;
-    out[b + 6] = v.due;
-    out[b + 7] = v.base;
-    out[b + 8] = v.bottom;
-    out[b + 9] = v.first;
-    out[b + 10] = v.end;
-    out[b + 11] = v.from;
-    out[b + 12] = v.to;
-}
-
-// The columns' numbers, cell after cell.
-fn gather<'a>(
-    parent: &'a [u32; 256],
-    nth: &'a [u32; 256],
-    middle: &'a [u32; 256],
-    x: &'a [u32; 256],
-    right: &'a [u32; 256],
-    y: &'a [u32; 256],
-    due: &'a [u32; 256],
-    base: &'a [u32; 256],
-    bottom: &'a [u32; 256],
-    first: &'a [u32; 256],
-    end: &'a [u32; 256],
-    from: &'a [u32; 256],
-    to: &'a [u32; 256],
-    n: usize,
-    out: &mut [u32; 3328],
-)
-    requires { ⌜ (n ≤ 256) × (length (now out) ≡ 256 * sight) ⌝ }
-    ensures { λ _. ⌜ Agree (view-in (now (out .exit))) (view-at (now (parent .entry)) (now (nth .entry)) (now (middle .entry)) (now (x .entry)) (now (right .entry)) (now (y .entry)) (now (due .entry)) (now (base .entry)) (now (bottom .entry)) (now (first .entry)) (now (end .entry)) (now (from .entry)) (now (to .entry))) n ⌝ }
+// A column's numbers, as number k of their cells.
+fn scatter(column: &[u32; 256], n: usize, k: usize, out: &mut [u32; 3328])
+    requires { ⌜ (n ≤ 256) × (k < sight) × (length (now out) ≡ 256 * sight) ⌝ }
+    ensures { λ _. ⌜ Scattered (now (column .entry) ∷ []) n k (now (out .entry)) (now (out .exit)) ⌝ }
 {
     let mut c: usize = 0;
     while c < n {
-        let v = view_at(
-            parent,
-            nth,
-            middle,
-            x,
-            right,
-            y,
-            due,
-            base,
-            bottom,
-            first,
-            end,
-            from,
-            to,
-            c,
-        );
-        put(out, c, v);
+        out[SIGHT * c + k] = column[c];
         c += 1;
     }
 }
 
-pub fn look(t: Columns, positions: &[i32], out: &mut [u32; 3328])
+// What the rules read of the table.
+fn look_at_tree(t: Columns, out: &mut [u32; 3328])
+    requires { ⌜ Fit (table-of t) × (length (now out) ≡ 256 * sight) ⌝ }
+    ensures { λ _. ⌜ Tree-seen (table-of t) (t .count) (now (out .entry)) (now (out .exit)) ⌝ }
+{
+    let numbers = number(t);
+    let head = heads_of(t, numbers.many);
+    let span = lay(t, measure(t));
+    scatter(&head.parent, t.count, 0, out);
+    scatter(&numbers.nth, t.count, 1, out);
+    scatter(&head.middle, t.count, 2, out);
+    scatter(&span.first, t.count, 3, out);
+    scatter(&span.end, t.count, 4, out);
+    scatter(&span.from, t.count, 5, out);
+    scatter(&span.to, t.count, 6, out);
+}
+
+// What they read of the placement.
+fn look_at_placement(t: Columns, positions: &[i32], out: &mut [u32; 3328])
     requires { ⌜ Fit (table-of t) × Near (now positions) (t .count) × (length (now out) ≡ 256 * sight) ⌝ }
-    ensures { λ _. ⌜ Looked (table-of t) (placed (now (positions .entry))) (view-in (now (out .exit))) × Sighted (view-in (now (out .exit))) (t .count) ⌝ }
+    ensures { λ _. ⌜ Placement-seen (table-of t) (now (positions .entry)) (t .count) (now (out .entry)) (now (out .exit)) ⌝ }
 {
     let x = raised(positions, t.count, 0);
     let y = raised(positions, t.count, 1);
     let edge = edges_of(t, x, y);
     let due = dues(t, edge.base);
     let bottom = sink(t, edge.base);
-    let span = lay(t, measure(t));
-    let numbers = number(t);
-    let head = heads_of(t, numbers.many);
-    gather(
-        &head.parent,
-        &numbers.nth,
-        &head.middle,
-        &x,
-        &edge.right,
-        &y,
-        &due,
-        &edge.base,
-        &bottom,
-        &span.first,
-        &span.end,
-        &span.from,
-        &span.to,
-        t.count,
-        out,
-    );
+    scatter(&x, t.count, 7, out);
+    scatter(&edge.right, t.count, 8, out);
+    scatter(&y, t.count, 9, out);
+    scatter(&due, t.count, 10, out);
+    scatter(&edge.base, t.count, 11, out);
+    scatter(&bottom, t.count, 12, out);
+}
+
+pub fn look(t: Columns, positions: &[i32], out: &mut [u32; 3328])
+    requires { ⌜ Fit (table-of t) × Near (now positions) (t .count) × (length (now out) ≡ 256 * sight) ⌝ }
+    ensures { λ _. ⌜ Looked (table-of t) (placed (now (positions .entry))) (view-in (now (out .exit))) × Sighted (view-in (now (out .exit))) (t .count) ⌝ }
+{
+    look_at_tree(t, out);
+    look_at_placement(t, positions, out);
 }
