@@ -1,18 +1,17 @@
 // The links of a table, made once: how the walk finds a cell's children. Only this crate knows the order of siblings.
 
+use plan::kinds::appointed;
 ghost use mathlib.Core.Path.{_≡_};
 ghost use Prim.Native.Nat.{_+_, _-_, _*_, _≤_, _<_};
 ghost use lib.ListN.{length, getD};
-ghost use Rattle.plan.specs.Limits.{most-cells};
-ghost use Rattle.plan.specs.Plan.{appointed};
 ghost use Rattle.links.specs.Links.{link};
 ghost use Rattle.links.specs.Built.{Built};
 ghost use Rattle.links.specs.Build.{chained, counted, placed, Building, Appointing, Linking};
 
-fn wide8(x: u8) -> usize
+fn wide32(x: u16) -> u32
     ensures { λ r. ⌜ r ≡ x ⌝ }
 {
-    x as usize
+    x as u32
 }
 
 fn wide16(x: u16) -> usize
@@ -36,11 +35,19 @@ fn parent(parents: &[u16], c: usize) -> usize
     wide16(parents[c])
 }
 
-fn kind(kinds: &[u8], c: usize) -> usize
+fn kind(kinds: &[u8], c: usize) -> u8
     requires { ⌜ c < length (now kinds) ⌝ }
     ensures { λ r. ⌜ r ≡ getD (now (kinds .entry)) c 0 ⌝ }
 {
-    wide8(kinds[c])
+    kinds[c]
+}
+
+// The number of children that stands as link 3 of the cell c.
+fn count_of(links: &[u16], c: usize) -> u32
+    requires { ⌜ 4 * c + 4 ≤ length (now links) ⌝ }
+    ensures { λ r. ⌜ r ≡ link (now (links .entry)) c 3 ⌝ }
+{
+    wide32(links[4 * c + 3])
 }
 
 // First child and next sibling, in file order: each cell from the last on is put before its later siblings.
@@ -72,14 +79,6 @@ fn number_siblings(parents: &[u16], n: usize, links: &mut [u16])
     }
 }
 
-// THE appointed child of a parent of this kind with k children: its number, counted from 1.
-pub fn appointed(kind: usize, k: usize) -> usize
-    requires { ⌜ k ≤ most-cells ⌝ }
-    ensures { λ r. ⌜ r ≡ appointed kind k ⌝ }
-{
-    (k + 1 + 1) / 2
-}
-
 // The place of the appointed child stands where the number of children stood.
 fn appoint(kinds: &[u8], n: usize, links: &mut [u16])
     requires { ⌜ Appointing (now kinds) n (now links) ⌝ }
@@ -87,7 +86,7 @@ fn appoint(kinds: &[u8], n: usize, links: &mut [u16])
 {
     let mut c: usize = 0;
     while c < n {
-        let first = appointed(kind(kinds, c), link_of(links, c, 3));
+        let first = appointed(kind(kinds, c), count_of(links, c));
         links[4 * c + 3] = (first - 1) as u16;
         c += 1;
     }

@@ -2,7 +2,8 @@
 use crate::limits::MOST_CHILDREN;
 use crate::limits::between;
 ghost use mathlib.Core.Path.{_≡_};
-ghost use Prim.Native.Nat.{ℕ};
+ghost use Prim.Native.Nat.{ℕ, _^_, _<_};
+ghost use Rattle.plan.specs.Plan.{appointed};
 ghost use Rattle.plan.specs.Kinds.{about, known, allows, «border-of»};
 
 // What a kind allows: from how many children to how many; and its border.
@@ -68,4 +69,12 @@ pub fn border(kind: u8) -> u8
         Lookup::Known(k) => k.border,
         Lookup::Unknown => 0,
     }
+}
+
+// THE appointed child of a parent of this kind with k children: its number, counted from 1.
+pub fn appointed(kind: u8, k: u32) -> u32
+    requires { ⌜ k < 2 ^ 31 ⌝ }
+    ensures { λ r. ⌜ r ≡ appointed kind k ⌝ }
+{
+    (k + 1 + 1) / 2
 }

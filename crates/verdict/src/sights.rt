@@ -1,6 +1,7 @@
 // The columns that the rules read, made of a table and a placement.
 use crate::search::SIGHT;
 use plan::Columns;
+use plan::kinds::appointed;
 use plan::limits::FARTHEST;
 use spans::lay;
 use spans::measure;
@@ -48,14 +49,6 @@ fn wide8(x: u8) -> u32
     ensures { λ r. ⌜ r ≡ x ⌝ }
 {
     x as u32
-}
-
-// THE appointed child's number, from 1, of a parent of this kind with k children.
-pub fn appointed(kind: u8, k: u32) -> u32
-    requires { ⌜ k < 2 ^ 31 ⌝ }
-    ensures { λ r. ⌜ r ≡ appointed kind k ⌝ }
-{
-    (k + 1 + 1) / 2
 }
 
 // The x (offset 0) or the y (offset 1) of each cell, moved up.

@@ -21,29 +21,29 @@ loop-holds c = (search needs, refl, refl)
 kind-requires : tie.Need-kind-requires Inv-loop μ-loop
 kind-requires c κs = search needs
 
-link-of-requires : tie.Need-link-of-requires Inv-loop μ-loop
-link-of-requires c κs = search needs
+count-of-requires : tie.Need-count-of-requires Inv-loop μ-loop
+count-of-requires c κs = search needs
 
 appointed-requires : tie.Need-appointed-requires Inv-loop μ-loop
 appointed-requires c κs =
     let a = c .before .before .before .before .before .before .before .args in
     let l = c .before .before .before .before .loop in
-    let q = placed-small (a .kinds .now) (a .links .now) (a .n) (l .c) (c .before .before .before .before .before .before .before .pre) (l .inv .2) (c .link-of .ensures) in
-    q
+    let q = placed-small (a .kinds .now) (a .links .now) (a .n) (l .c) (c .before .before .before .before .before .before .before .pre) (l .inv .2) (c .count-of .ensures) in
+    omega (arith, q)
 
 sub-links : tie.Need-sub-links Inv-loop μ-loop
 sub-links c =
     let a = c .before .before .before .before .before .before .before .before .args in
     let l = c .before .before .before .before .before .loop in
-    let q = placed-small (a .kinds .now) (a .links .now) (a .n) (l .c) (c .before .before .before .before .before .before .before .before .pre) (l .inv .2) (c .before .link-of .ensures) in
-    omega (arith, c .appointed .ensures, appointed-small (c .before .before .before .kind .result) (c .before .link-of .result) q)
+    let q = placed-small (a .kinds .now) (a .links .now) (a .n) (l .c) (c .before .before .before .before .before .before .before .before .pre) (l .inv .2) (c .before .count-of .ensures) in
+    omega (arith, c .appointed .ensures, appointed-small (c .before .before .before .kind .result) (c .before .count-of .result) q)
 
 cast-links : tie.Need-cast-links Inv-loop μ-loop
 cast-links c =
     let a = c .before .before .before .before .before .before .before .before .args in
     let l = c .before .before .before .before .before .loop in
-    let q = placed-small (a .kinds .now) (a .links .now) (a .n) (l .c) (c .before .before .before .before .before .before .before .before .pre) (l .inv .2) (c .before .link-of .ensures) in
-    omega (arith, c .appointed .ensures, appointed-small (c .before .before .before .kind .result) (c .before .link-of .result) q)
+    let q = placed-small (a .kinds .now) (a .links .now) (a .n) (l .c) (c .before .before .before .before .before .before .before .before .pre) (l .inv .2) (c .before .count-of .ensures) in
+    omega (arith, c .appointed .ensures, appointed-small (c .before .before .before .kind .result) (c .before .count-of .result) q)
 
 mul-links : tie.Need-mul-links Inv-loop μ-loop
 mul-links c = search needs
@@ -67,7 +67,7 @@ loop-again : tie.Need-loop-again Inv-loop μ-loop
 loop-again c =
     let a = c .before .before .before .before .before .before .before .before .args in
     let l = c .before .before .before .before .before .loop in
-    (search needs, simp length-set (l .inv .1), placed-more (a .kinds .now) (a .links .now) (l .c) (l .inv .2) (c .before .before .before .kind .ensures) (c .before .link-of .ensures) (c .appointed .ensures))
+    (search needs, simp length-set (l .inv .1), placed-more (a .kinds .now) (a .links .now) (l .c) (l .inv .2) (c .before .before .before .kind .ensures) (c .before .count-of .ensures) (c .appointed .ensures))
 
 same-length : tie.Need-same-length Inv-loop μ-loop
 same-length c = search needs
@@ -86,7 +86,7 @@ appoint-spec =
     μ-loop
     loop-holds
     kind-requires
-    link-of-requires
+    count-of-requires
     appointed-requires
     sub-links
     cast-links

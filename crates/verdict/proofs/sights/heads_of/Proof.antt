@@ -6,7 +6,7 @@ use Rattle.verdict.proofs.sights.heads_of.Statement.{statement}
 use Rattle.verdict.proofs.sights.heads_of.Tie as tie
 use Rattle.verdict.proofs.sights.heads_of.Reads as reads
 use Rattle.verdict.proofs.sights.heads_of.Lts as lts
-use Rattle.verdict.proofs.sights.appointed.Reads as appointed-reads
+use Rattle.plan.proofs.kinds.appointed.Reads as appointed-reads
 use Rattle.verdict.proofs.sights.wide.Reads as wide-reads
 
 abbrev Inv-loop : tie.InvT-loop
