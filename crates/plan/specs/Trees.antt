@@ -24,8 +24,8 @@ pub record Lower (ps : List ℕ) (n : ℕ) : Type 0 where
   pub few : n ≤ 256
   pub lower : (c : ℕ) → 1 ≤ c → c < n → getD ps c 0 < c
 
-pub parent-few : {ps : List ℕ} {n c p : ℕ} → Lower ps n → 1 ≤ c → c < n → p ≡ getD ps c 0 → p < 256
-parent-few {ps} {n} {c} h b l e = omega (arith, h .lower c b l, h .few)
+pub parent-few : {ps : List ℕ} {n c : ℕ} → Lower ps n → 1 ≤ c → c < n → getD ps c 0 < 256
+parent-few {ps} {n} {c} h b l = omega (arith, h .lower c b l, h .few)
 
 -- n depths that question 8 passes
 pub record Flat (ds : List ℕ) (n : ℕ) : Type 0 where
@@ -163,20 +163,20 @@ module _ (ps ks ws ds : List ℕ) (n : ℕ) (h : Lower ps n) where
       let g : getD ps (suc m) 0 < n = omega (arith, h .lower (suc m) p l) in
       row-suc (table ps ks ws ds n) (lower-sound ps ks ws ds n h) m ∙ rw (parent-at ps ks ws ds n (suc m) l, depth-at ps ks ws ds n (getD ps (suc m) 0) g) (omega arith)
 
-  module _ (xs : List ℕ) (c p : ℕ) (b : 1 ≤ c) (l : c < n) (long : length xs ≡ 256) (e : p ≡ getD ps c 0) where
-    pub level-value : ((x : ℕ) → x < c → getD xs x 0 ≡ level (table ps ks ws ds n) x) → getD xs p 0 + 1 ≡ level (table ps ks ws ds n) c
-    level-value so = rw e (rw (parent-so ps xs n c h b l long (level (table ps ks ws ds n)) so) (sym (level-next c b l)))
+  module _ (xs : List ℕ) (c : ℕ) (b : 1 ≤ c) (l : c < n) (long : length xs ≡ 256) where
+    pub level-value : ((x : ℕ) → x < c → getD xs x 0 ≡ level (table ps ks ws ds n) x) → getD xs (getD ps c 0) 0 + 1 ≡ level (table ps ks ws ds n) c
+    level-value so = rw (parent-so ps xs n c h b l long (level (table ps ks ws ds n)) so) (sym (level-next c b l))
 
     pub level-more : ((x : ℕ) → x < c → getD xs x 0 ≡ level (table ps ks ws ds n) x)
-        → (x : ℕ) → x < c + 1 → getD (set xs c (getD xs p 0 + 1)) x 0 ≡ level (table ps ks ws ds n) x
-    level-more so = one-more ps xs n c h b l long (level (table ps ks ws ds n)) so (getD xs p 0 + 1) (level-value so)
+        → (x : ℕ) → x < c + 1 → getD (set xs c (getD xs (getD ps c 0) 0 + 1)) x 0 ≡ level (table ps ks ws ds n) x
+    level-more so = one-more ps xs n c h b l long (level (table ps ks ws ds n)) so _ (level-value so)
 
-    pub row-value : ((x : ℕ) → x < c → getD xs x 0 ≡ row (table ps ks ws ds n) x) → (d : ℕ) → d ≡ getD ds p 0 → getD xs p 0 + d + 1 ≡ row (table ps ks ws ds n) c
-    row-value so d q = rw (q, e) (rw (parent-so ps xs n c h b l long (row (table ps ks ws ds n)) so) (sym (row-next c b l)))
+    pub row-value : ((x : ℕ) → x < c → getD xs x 0 ≡ row (table ps ks ws ds n) x) → getD xs (getD ps c 0) 0 + getD ds (getD ps c 0) 0 + 1 ≡ row (table ps ks ws ds n) c
+    row-value so = rw (parent-so ps xs n c h b l long (row (table ps ks ws ds n)) so) (sym (row-next c b l))
 
-    pub row-more : ((x : ℕ) → x < c → getD xs x 0 ≡ row (table ps ks ws ds n) x) → (d : ℕ) → d ≡ getD ds p 0
-        → (x : ℕ) → x < c + 1 → getD (set xs c (getD xs p 0 + d + 1)) x 0 ≡ row (table ps ks ws ds n) x
-    row-more so d q = one-more ps xs n c h b l long (row (table ps ks ws ds n)) so (getD xs p 0 + d + 1) (row-value so d q)
+    pub row-more : ((x : ℕ) → x < c → getD xs x 0 ≡ row (table ps ks ws ds n) x)
+        → (x : ℕ) → x < c + 1 → getD (set xs c (getD xs (getD ps c 0) 0 + getD ds (getD ps c 0) 0 + 1)) x 0 ≡ row (table ps ks ws ds n) x
+    row-more so = one-more ps xs n c h b l long (row (table ps ks ws ds n)) so _ (row-value so)
 
 -- the root
 pub first-only : (xs : List ℕ) (f : ℕ → ℕ) → getD xs 0 0 ≡ f 0 → (x : ℕ) → x < 1 → getD xs x 0 ≡ f x

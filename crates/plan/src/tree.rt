@@ -1,4 +1,5 @@
 // What the questions and the engines read off a table whose parents are lower than their children: children, levels and rows.
+// Each fills a column of zeros that the caller lends.
 ghost use mathlib.Core.Path.{_≡_};
 ghost use mathlib.Core.List.{List};
 ghost use Prim.Native.Nat.{ℕ, _+_, _≤_, _<_};
@@ -6,20 +7,6 @@ ghost use lib.ListN.{length, getD, replicate};
 ghost use Rattle.plan.specs.Plan.{children, level, row};
 ghost use Rattle.plan.specs.Columns.{table};
 ghost use Rattle.plan.specs.Trees.{Lower, Flat, Column};
-
-fn wide(x: u16) -> usize
-    ensures { λ r. ⌜ r ≡ x ⌝ }
-{
-    x as usize
-}
-
-fn wide8(x: u8) -> u16
-    ensures { λ r. ⌜ r ≡ x ⌝ }
-{
-    x as u16
-}
-
-// Each question fills a column of zeros that the caller lends.
 
 // The number of children of each cell.
 pub fn child_counts(parents: &[u16; 256], n: usize, out: &mut [u16; 256])
@@ -29,7 +16,7 @@ pub fn child_counts(parents: &[u16; 256], n: usize, out: &mut [u16; 256])
 {
     let mut c: usize = 1;
     while c < n {
-        let p = wide(parents[c]);
+        let p = parents[c] as usize;
         out[p] = out[p] + 1;
         c += 1;
     }
@@ -43,7 +30,7 @@ pub fn levels(parents: &[u16; 256], n: usize, out: &mut [u16; 256])
 {
     let mut c: usize = 1;
     while c < n {
-        let p = wide(parents[c]);
+        let p = parents[c] as usize;
         out[c] = out[p] + 1;
         c += 1;
     }
@@ -58,8 +45,8 @@ pub fn rows<'a>(parents: &'a [u16; 256], depths: &'a [u8; 256], n: usize, out: &
 {
     let mut c: usize = 1;
     while c < n {
-        let p = wide(parents[c]);
-        out[c] = out[p] + wide8(depths[p]) + 1;
+        let p = parents[c] as usize;
+        out[c] = out[p] + (depths[p] as u16) + 1;
         c += 1;
     }
 }

@@ -118,13 +118,13 @@ fn record_refusal(
 }
 
 // Questions 6 to 10, record by record.
-fn records_refusal(
-    parents: &[u16; 256],
-    kinds: &[u8; 256],
-    widths: &[u16; 256],
-    depths: &[u8; 256],
-    sizes: &[u8; 256],
-    starts: &[u16; 256],
+fn records_refusal<'a>(
+    parents: &'a [u16; 256],
+    kinds: &'a [u8; 256],
+    widths: &'a [u16; 256],
+    depths: &'a [u8; 256],
+    sizes: &'a [u8; 256],
+    starts: &'a [u16; 256],
     n: usize,
     begin: usize,
 ) -> Refusal
@@ -178,28 +178,26 @@ fn body_refusal(plan: Reading, begin: usize) -> Refusal
     requires { ⌜ (1 ≤ plan .columns .count) × (plan .columns .count ≤ 256) ⌝ }
     ensures { λ r. ⌜ r ≡ columns-refusal plan begin ⌝ }
 {
-    let columns = plan.columns;
-    let parents = columns.parent;
-    let kinds = columns.kind;
-    let widths = columns.width;
-    let depths = columns.depth;
-    let sizes = plan.label_length;
-    let starts = plan.label_start;
-    let n = columns.count;
+    let n = plan.columns.count;
     let at_records = records_refusal(
-        &parents,
-        &kinds,
-        &widths,
-        &depths,
-        &sizes,
-        &starts,
+        &plan.columns.parent,
+        &plan.columns.kind,
+        &plan.columns.width,
+        &plan.columns.depth,
+        &plan.label_length,
+        &plan.label_start,
         n,
         begin,
     );
     if at_records.number != 0 {
         return at_records;
     }
-    let at_tree = tree_refusal(&parents, &kinds, &depths, n);
+    let at_tree = tree_refusal(
+        &plan.columns.parent,
+        &plan.columns.kind,
+        &plan.columns.depth,
+        n,
+    );
     if at_tree.number != 0 {
         return at_tree;
     }

@@ -1,3 +1,4 @@
+use mathlib.Core.Path.{_∙_}
 use Rattle.plan.specs.Steps.{cell-refusal}
 use borrow.Author.Needs.{needs}
 use Rattle.plan.proofs.questions.cell_refusal.Statement.{statement}
@@ -45,7 +46,9 @@ or-else-requires-2 c κs = search needs
 -- src/questions.rt:65:1
 returns : tie.Need-returns
 unfolding cell-refusal
-returns c = cc
+returns c =
+    c .or-else2 .ensures
+    ∙ rw (c .before .before .asked3 .ensures, c .before .before .before .lower .ensures, c .before .or-else .ensures, c .before .before .before .before .before .before .asked .ensures, c .before .before .before .before .before .before .before .known .ensures, c .before .before .before .before .asked2 .ensures, c .before .before .before .before .before .sized .ensures)
 
 pub cell-refusal-spec : {M : Type 1} → statement M
 cell-refusal-spec =

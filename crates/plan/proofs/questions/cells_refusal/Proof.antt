@@ -25,27 +25,27 @@ loop-holds c = (omega arith, loop-starts _ _)
 
 -- src/questions.rt:91:33
 mul-cell-refusal : tie.Need-mul-cell-refusal Inv-loop μ-loop
-mul-cell-refusal c = search needs
+mul-cell-refusal c = omega arith
 
 -- src/questions.rt:91:33
 element-copy-out-cell-refusal : tie.Need-element-copy-out-cell-refusal Inv-loop μ-loop
-element-copy-out-cell-refusal c = search needs
+element-copy-out-cell-refusal c = omega arith
 
 -- src/questions.rt:91:45
 element-copy-out-cell-refusal-2 : tie.Need-element-copy-out-cell-refusal-2 Inv-loop μ-loop
-element-copy-out-cell-refusal-2 c = search needs
+element-copy-out-cell-refusal-2 c = omega arith
 
 -- src/questions.rt:91:55
 mul-cell-refusal-2 : tie.Need-mul-cell-refusal-2 Inv-loop μ-loop
-mul-cell-refusal-2 c = search needs
+mul-cell-refusal-2 c = omega arith
 
 -- src/questions.rt:91:55
 element-copy-out-cell-refusal-3 : tie.Need-element-copy-out-cell-refusal-3 Inv-loop μ-loop
-element-copy-out-cell-refusal-3 c = search needs
+element-copy-out-cell-refusal-3 c = omega arith
 
 -- src/questions.rt:91:66
 element-copy-out-cell-refusal-4 : tie.Need-element-copy-out-cell-refusal-4 Inv-loop μ-loop
-element-copy-out-cell-refusal-4 c = search needs
+element-copy-out-cell-refusal-4 c = omega arith
 
 -- src/questions.rt:91:13
 cell-refusal-requires : tie.Need-cell-refusal-requires Inv-loop μ-loop
@@ -57,7 +57,7 @@ returns c = loop-stops _ _ _ (c .before .before .before .before .before .before 
 
 -- src/questions.rt:95:9
 add-c : tie.Need-add-c Inv-loop μ-loop
-add-c c = search needs
+add-c c = omega arith
 
 -- src/questions.rt:90:5
 loop-less : tie.Need-loop-less Inv-loop μ-loop

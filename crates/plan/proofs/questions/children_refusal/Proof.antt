@@ -24,15 +24,15 @@ loop-holds c = (omega arith, loop-starts _ _)
 
 -- src/questions.rt:125:34
 element-copy-out-allows : tie.Need-element-copy-out-allows Inv-loop μ-loop
-element-copy-out-allows c = search needs
+element-copy-out-allows c = omega arith
 
 -- src/questions.rt:125:44
 mul-allows : tie.Need-mul-allows Inv-loop μ-loop
-mul-allows c = search needs
+mul-allows c = omega arith
 
 -- src/questions.rt:125:44
 element-copy-out-allows-2 : tie.Need-element-copy-out-allows-2 Inv-loop μ-loop
-element-copy-out-allows-2 c = search needs
+element-copy-out-allows-2 c = omega arith
 
 -- src/questions.rt:125:27
 allows-requires : tie.Need-allows-requires Inv-loop μ-loop
@@ -48,7 +48,7 @@ returns c = loop-stops _ _ _ (c .before .before .before .before .before .before 
 
 -- src/questions.rt:129:9
 add-c : tie.Need-add-c Inv-loop μ-loop
-add-c c = search needs
+add-c c = omega arith
 
 -- src/questions.rt:124:5
 loop-less : tie.Need-loop-less Inv-loop μ-loop

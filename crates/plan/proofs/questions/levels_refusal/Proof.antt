@@ -24,11 +24,11 @@ loop-holds c = (omega arith, loop-starts _ _)
 
 -- src/questions.rt:139:35
 mul-at-most : tie.Need-mul-at-most Inv-loop μ-loop
-mul-at-most c = search needs
+mul-at-most c = omega arith
 
 -- src/questions.rt:139:35
 element-copy-out-at-most : tie.Need-element-copy-out-at-most Inv-loop μ-loop
-element-copy-out-at-most c = search needs
+element-copy-out-at-most c = omega arith
 
 -- src/questions.rt:139:27
 at-most-requires : tie.Need-at-most-requires Inv-loop μ-loop
@@ -44,7 +44,7 @@ returns c = loop-stops _ _ _ (c .before .before .before .before .before .before 
 
 -- src/questions.rt:143:9
 add-c : tie.Need-add-c Inv-loop μ-loop
-add-c c = search needs
+add-c c = omega arith
 
 -- src/questions.rt:138:5
 loop-less : tie.Need-loop-less Inv-loop μ-loop

@@ -37,7 +37,7 @@ returns c = loop-stops _ _ _ (c .before .before .before .before .before .loop .i
 
 -- src/questions.rt:269:9
 add-c : tie.Need-add-c Inv-loop μ-loop
-add-c c = search needs
+add-c c = omega arith
 
 -- src/questions.rt:264:5
 loop-less : tie.Need-loop-less Inv-loop μ-loop

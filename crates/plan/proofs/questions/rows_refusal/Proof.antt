@@ -25,15 +25,15 @@ loop-holds c = (omega arith, loop-starts _ _)
 
 -- src/questions.rt:157:46
 mul-box-bottom : tie.Need-mul-box-bottom Inv-loop μ-loop
-mul-box-bottom c = search needs
+mul-box-bottom c = omega arith
 
 -- src/questions.rt:157:46
 element-copy-out-box-bottom : tie.Need-element-copy-out-box-bottom Inv-loop μ-loop
-element-copy-out-box-bottom c = search needs
+element-copy-out-box-bottom c = omega arith
 
 -- src/questions.rt:157:55
 element-copy-out-box-bottom-2 : tie.Need-element-copy-out-box-bottom-2 Inv-loop μ-loop
-element-copy-out-box-bottom-2 c = search needs
+element-copy-out-box-bottom-2 c = omega arith
 
 -- src/questions.rt:157:35
 box-bottom-requires : tie.Need-box-bottom-requires Inv-loop μ-loop
@@ -53,7 +53,7 @@ returns c = loop-stops _ _ _ (c .before .before .before .before .before .before 
 
 -- src/questions.rt:161:9
 add-c : tie.Need-add-c Inv-loop μ-loop
-add-c c = search needs
+add-c c = omega arith
 
 -- src/questions.rt:156:5
 loop-less : tie.Need-loop-less Inv-loop μ-loop

@@ -1,25 +1,16 @@
-use mathlib.Core.Path.{sym, _∙_}
+use mathlib.Core.Path.{refl, sym, _∙_}
 use mathlib.Core.List.{[]}
 use Rattle.plan.specs.Steps.{tree-refusal}
 use Rattle.plan.specs.QuestionLaws.{stops, goes-on}
 use Rattle.plan.specs.StepLaws.{rows-short, children-columns, levels-columns, rows-columns}
-use borrow.Author.Needs.{needs}
 use Rattle.plan.proofs.questions.tree_refusal.Statement.{statement}
 use Rattle.plan.proofs.questions.tree_refusal.Tie as tie
-use Rattle.plan.proofs.questions.tree_refusal.Reads as reads
-use Rattle.plan.proofs.questions.tree_refusal.Lts as lts
-use Rattle.plan.proofs.questions.children_refusal.Reads as children-refusal-reads
-use Rattle.plan.proofs.questions.levels_refusal.Reads as levels-refusal-reads
-use Rattle.plan.proofs.questions.rows_refusal.Reads as rows-refusal-reads
-use Rattle.plan.proofs.tree.child_counts.Reads as child-counts-reads
-use Rattle.plan.proofs.tree.levels.Reads as levels-reads
-use Rattle.plan.proofs.tree.rows.Reads as rows-reads
 
 child-counts-requires : tie.Need-child-counts-requires
-child-counts-requires c κs = search needs
+child-counts-requires c κs = (c .before .pre .0, refl)
 
 children-refusal-requires : tie.Need-children-refusal-requires
-children-refusal-requires c κs = search needs
+children-refusal-requires c κs = c .before .before .before .pre .0 .few
 
 returns : tie.Need-returns
 unfolding tree-refusal
@@ -28,10 +19,10 @@ returns c =
     λ ws. stops _ _ _ (c .before .before .children-refusal .ensures ∙ sym (children-columns (g .parents .now) (g .kinds .now) ws (g .depths .now) (g .n) _ (c .before .before .before .before .child-counts .ensures _ _ _))) (c .if1 .taken)
 
 levels-requires : tie.Need-levels-requires
-levels-requires c κs = search needs
+levels-requires c κs = (c .before .before .before .before .before .before .before .pre .0, refl)
 
 levels-refusal-requires : tie.Need-levels-refusal-requires
-levels-refusal-requires c κs = search needs
+levels-refusal-requires c κs = c .before .before .before .before .before .before .before .before .before .pre .0 .few
 
 returns-2 : tie.Need-returns-2
 unfolding tree-refusal
@@ -41,7 +32,9 @@ returns-2 c =
     (stops _ _ _ (c .before .before .levels-refusal .ensures ∙ sym (levels-columns (g .parents .now) (g .kinds .now) ws (g .depths .now) (g .n) _ (c .before .before .before .before .levels .ensures _ _ _))) (c .if2 .taken))
 
 rows-requires : tie.Need-rows-requires
-rows-requires c κs = search needs
+rows-requires c κs =
+    let st = c .before .before .before .before .before .before .before .before .before .before .before .before .before in
+    (st .pre .0, (st .pre .1, refl))
 
 rows-refusal-requires : tie.Need-rows-refusal-requires
 rows-refusal-requires c κs =

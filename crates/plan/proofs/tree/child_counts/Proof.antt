@@ -4,12 +4,8 @@ use Prim.Native.Nat.{ℕ, _-_, _≤_, _<_}
 use native.Mathlib.Omega.{arith}
 use lib.ListN.{length, getD, getD-replicate, length-set}
 use Rattle.plan.specs.Trees.{parent-few, seen, seen-most, seen-more, seen-children}
-use borrow.Author.Needs.{needs}
 use Rattle.plan.proofs.tree.child_counts.Statement.{statement}
 use Rattle.plan.proofs.tree.child_counts.Tie as tie
-use Rattle.plan.proofs.tree.child_counts.Reads as reads
-use Rattle.plan.proofs.tree.child_counts.Lts as lts
-use Rattle.plan.proofs.tree.wide.Reads as wide-reads
 
 abbrev Inv-loop : tie.InvT-loop
 Inv-loop parents n out₀ c₀ out c =
@@ -22,49 +18,48 @@ loop-holds : tie.Need-loop-holds Inv-loop μ-loop
 unfolding seen
 loop-holds c = rw (c .pre .1) (omega arith, omega arith, refl, λ f h. getD-replicate 256 f 0 0 h)
 
-mul-wide : tie.Need-mul-wide Inv-loop μ-loop
-mul-wide c = search needs
+mul-p : tie.Need-mul-p Inv-loop μ-loop
+mul-p c = omega (arith, c .before .before .pre .0 .few)
 
-element-copy-out-wide : tie.Need-element-copy-out-wide Inv-loop μ-loop
-element-copy-out-wide c = search needs
+element-copy-out-p : tie.Need-element-copy-out-p Inv-loop μ-loop
+element-copy-out-p c = omega (arith, c .before .before .pre .0 .few)
 
-wide-requires : tie.Need-wide-requires Inv-loop μ-loop
-wide-requires c κs = search needs
+cast-p : tie.Need-cast-p Inv-loop μ-loop
+cast-p c = omega (arith, parent-few (c .before .before .before .pre .0) (c .before .before .loop .inv .0) (c .before .loop-test .taken))
 
 mul-out : tie.Need-mul-out Inv-loop μ-loop
-mul-out c = omega (arith, parent-few (c .before .before .before .before .pre .0) (c .before .before .before .loop .inv .0) (c .before .before .loop-test .taken) (c .wide .ensures))
+mul-out c = omega (arith, parent-few (c .before .before .before .pre .0) (c .before .before .loop .inv .0) (c .before .loop-test .taken))
 
 element-copy-out-out : tie.Need-element-copy-out-out Inv-loop μ-loop
-element-copy-out-out c = omega (arith, parent-few (c .before .before .before .before .pre .0) (c .before .before .before .loop .inv .0) (c .before .before .loop-test .taken) (c .wide .ensures))
+element-copy-out-out c = omega (arith, parent-few (c .before .before .before .pre .0) (c .before .before .loop .inv .0) (c .before .loop-test .taken))
 
 add-out : tie.Need-add-out Inv-loop μ-loop
 add-out c =
-    let st = c .before .before .before .before .before in
-    let l = c .before .before .before .before .loop in
-    let p = c .before .wide .result in
-    let g : p < 256 = omega (arith, parent-few (c .before .before .before .before .before .pre .0) (c .before .before .before .before .loop .inv .0) (c .before .before .before .loop-test .taken) (c .before .wide .ensures)) in
-    omega (arith, st .pre .0 .few, l .inv .3 p g, seen-most (st .args .parents .now) (l .c - 1) p)
+    let st = c .before .before .before .before in
+    let l = c .before .before .before .loop in
+    let ps = st .args .parents .now in
+    omega (arith, st .pre .0 .few, l .inv .3 (getD ps (l .c) 0) (parent-few (c .before .before .before .before .pre .0) (c .before .before .before .loop .inv .0) (c .before .before .loop-test .taken)), seen-most ps (l .c - 1) (getD ps (l .c) 0))
 
 mul-out-2 : tie.Need-mul-out-2 Inv-loop μ-loop
-mul-out-2 c = omega (arith, parent-few (c .before .before .before .before .before .pre .0) (c .before .before .before .before .loop .inv .0) (c .before .before .before .loop-test .taken) (c .before .wide .ensures))
+mul-out-2 c = omega (arith, parent-few (c .before .before .before .before .pre .0) (c .before .before .before .loop .inv .0) (c .before .before .loop-test .taken))
 
 element-write-out : tie.Need-element-write-out Inv-loop μ-loop
-element-write-out c = omega (arith, parent-few (c .before .before .before .before .before .pre .0) (c .before .before .before .before .loop .inv .0) (c .before .before .before .loop-test .taken) (c .before .wide .ensures))
+element-write-out c = omega (arith, parent-few (c .before .before .before .before .pre .0) (c .before .before .before .loop .inv .0) (c .before .before .loop-test .taken))
 
 add-c : tie.Need-add-c Inv-loop μ-loop
-add-c c = search needs
+add-c c = omega (arith, c .before .before .before .before .pre .0 .few)
 
 loop-less : tie.Need-loop-less Inv-loop μ-loop
-loop-less c = search needs
+loop-less c = omega arith
 
 loop-again : tie.Need-loop-again Inv-loop μ-loop
 loop-again c =
-    let st = c .before .before .before .before .before in
-    let l = c .before .before .before .before .loop in (
+    let st = c .before .before .before .before in
+    let l = c .before .before .before .loop in (
       omega arith,
       omega arith,
       simp length-set (l .inv .2),
-      rw (c .before .wide .ensures) (seen-more (st .args .parents .now) (l .out) (st .args .n) (l .c) (st .pre .0) (l .inv .0) (c .before .before .before .loop-test .taken) (l .inv .2) (l .inv .3)),
+      seen-more (st .args .parents .now) (l .out) (st .args .n) (l .c) (st .pre .0) (l .inv .0) (c .before .before .loop-test .taken) (l .inv .2) (l .inv .3),
     )
 
 returns : tie.Need-returns Inv-loop μ-loop
@@ -80,9 +75,9 @@ child-counts-spec =
     Inv-loop
     μ-loop
     loop-holds
-    mul-wide
-    element-copy-out-wide
-    wide-requires
+    mul-p
+    element-copy-out-p
+    cast-p
     mul-out
     element-copy-out-out
     add-out

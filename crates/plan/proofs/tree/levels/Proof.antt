@@ -6,12 +6,8 @@ use lib.ListN.{length, getD, replicate, length-set}
 use Rattle.plan.specs.Plan.{level}
 use Rattle.plan.specs.Columns.{table}
 use Rattle.plan.specs.Trees.{parent-few, level-value, level-more, level-small, first-only}
-use borrow.Author.Needs.{needs}
 use Rattle.plan.proofs.tree.levels.Statement.{statement}
 use Rattle.plan.proofs.tree.levels.Tie as tie
-use Rattle.plan.proofs.tree.levels.Reads as reads
-use Rattle.plan.proofs.tree.levels.Lts as lts
-use Rattle.plan.proofs.tree.wide.Reads as wide-reads
 
 abbrev Inv-loop : tie.InvT-loop
 Inv-loop parents n out₀ c₀ out c =
@@ -24,47 +20,47 @@ loop-holds : tie.Need-loop-holds Inv-loop μ-loop
 unfolding level
 loop-holds c = rw (c .pre .1) (omega arith, omega arith, refl, λ ks ws ds. first-only (replicate 256 0) (level (table (c .args .parents .now) ks ws ds (c .args .n))) refl)
 
-mul-wide : tie.Need-mul-wide Inv-loop μ-loop
-mul-wide c = search needs
+mul-p : tie.Need-mul-p Inv-loop μ-loop
+mul-p c = omega (arith, c .before .before .pre .0 .few)
 
-element-copy-out-wide : tie.Need-element-copy-out-wide Inv-loop μ-loop
-element-copy-out-wide c = search needs
+element-copy-out-p : tie.Need-element-copy-out-p Inv-loop μ-loop
+element-copy-out-p c = omega (arith, c .before .before .pre .0 .few)
 
-wide-requires : tie.Need-wide-requires Inv-loop μ-loop
-wide-requires c κs = search needs
+cast-p : tie.Need-cast-p Inv-loop μ-loop
+cast-p c = omega (arith, parent-few (c .before .before .before .pre .0) (c .before .before .loop .inv .0) (c .before .loop-test .taken))
 
 mul-out : tie.Need-mul-out Inv-loop μ-loop
-mul-out c = omega (arith, parent-few (c .before .before .before .before .pre .0) (c .before .before .before .loop .inv .0) (c .before .before .loop-test .taken) (c .wide .ensures))
+mul-out c = omega (arith, parent-few (c .before .before .before .pre .0) (c .before .before .loop .inv .0) (c .before .loop-test .taken))
 
 element-copy-out-out : tie.Need-element-copy-out-out Inv-loop μ-loop
-element-copy-out-out c = omega (arith, parent-few (c .before .before .before .before .pre .0) (c .before .before .before .loop .inv .0) (c .before .before .loop-test .taken) (c .wide .ensures))
+element-copy-out-out c = omega (arith, parent-few (c .before .before .before .pre .0) (c .before .before .loop .inv .0) (c .before .loop-test .taken))
 
 add-out : tie.Need-add-out Inv-loop μ-loop
 add-out c =
-    let st = c .before .before .before .before .before in
-    let l = c .before .before .before .before .loop in
-    omega (arith, st .pre .0 .few, level-value (st .args .parents .now) [] [] [] (st .args .n) (st .pre .0) (l .out) (l .c) (c .before .wide .result) (l .inv .0) (c .before .before .before .loop-test .taken) (l .inv .2) (c .before .wide .ensures) (l .inv .3 [] [] []), level-small (st .args .parents .now) [] [] [] (st .args .n) (st .pre .0) (l .c))
+    let st = c .before .before .before .before in
+    let l = c .before .before .before .loop in
+    omega (arith, st .pre .0 .few, level-value (st .args .parents .now) [] [] [] (st .args .n) (st .pre .0) (l .out) (l .c) (l .inv .0) (c .before .before .loop-test .taken) (l .inv .2) (l .inv .3 [] [] []), level-small (st .args .parents .now) [] [] [] (st .args .n) (st .pre .0) (l .c))
 
 mul-out-2 : tie.Need-mul-out-2 Inv-loop μ-loop
-mul-out-2 c = omega (arith, c .before .before .before .before .before .pre .0 .few)
+mul-out-2 c = omega (arith, c .before .before .before .before .pre .0 .few)
 
 element-write-out : tie.Need-element-write-out Inv-loop μ-loop
-element-write-out c = omega (arith, c .before .before .before .before .before .pre .0 .few)
+element-write-out c = omega (arith, c .before .before .before .before .pre .0 .few)
 
 add-c : tie.Need-add-c Inv-loop μ-loop
-add-c c = search needs
+add-c c = omega (arith, c .before .before .before .before .pre .0 .few)
 
 loop-less : tie.Need-loop-less Inv-loop μ-loop
-loop-less c = search needs
+loop-less c = omega arith
 
 loop-again : tie.Need-loop-again Inv-loop μ-loop
 loop-again c =
-    let st = c .before .before .before .before .before in
-    let l = c .before .before .before .before .loop in (
+    let st = c .before .before .before .before in
+    let l = c .before .before .before .loop in (
       omega arith,
       omega arith,
       simp length-set (l .inv .2),
-      λ ks ws ds. level-more (st .args .parents .now) ks ws ds (st .args .n) (st .pre .0) (l .out) (l .c) (c .before .wide .result) (l .inv .0) (c .before .before .before .loop-test .taken) (l .inv .2) (c .before .wide .ensures) (l .inv .3 ks ws ds),
+      λ ks ws ds. level-more (st .args .parents .now) ks ws ds (st .args .n) (st .pre .0) (l .out) (l .c) (l .inv .0) (c .before .before .loop-test .taken) (l .inv .2) (l .inv .3 ks ws ds),
     )
 
 returns : tie.Need-returns Inv-loop μ-loop
@@ -77,9 +73,9 @@ levels-spec =
     Inv-loop
     μ-loop
     loop-holds
-    mul-wide
-    element-copy-out-wide
-    wide-requires
+    mul-p
+    element-copy-out-p
+    cast-p
     mul-out
     element-copy-out-out
     add-out

@@ -1,3 +1,4 @@
+use mathlib.Core.Path.{_∙_}
 use Rattle.planfile.specs.FileSteps.{record-refusal}
 use borrow.Author.Needs.{needs}
 use Rattle.planfile.proofs.questions.record_refusal.Statement.{statement}
@@ -41,7 +42,9 @@ or-else-requires-2 c κs = search needs
 -- src/questions.rt:99:1
 returns : tie.Need-returns
 unfolding record-refusal
-returns c = cc
+returns c =
+    c .or-else2 .ensures
+    ∙ rw (c .before .before .cell-refusal .ensures, c .before .or-else .ensures, c .before .before .before .before .before .asked .ensures, c .before .before .before .before .before .before .inside .ensures, c .before .before .before .asked2 .ensures, c .before .before .before .before .fits2 .ensures)
 
 pub record-refusal-spec : {M : Type 1} → statement M
 record-refusal-spec =

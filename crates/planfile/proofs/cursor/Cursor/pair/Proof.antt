@@ -1,3 +1,4 @@
+use mathlib.Core.Path.{_∙_}
 use Rattle.planfile.specs.Format.{pair}
 use borrow.Author.Needs.{needs}
 use Rattle.planfile.proofs.cursor.Cursor.pair.Statement.{statement}
@@ -22,7 +23,9 @@ joined-requires c κs = search needs
 -- src/cursor.rt:54:5
 returns : tie.Need-returns
 unfolding pair
-returns c = (cc, search needs)
+returns c =
+    let low = c .before .before .before .before .byte .ensures in
+    (c .joined .ensures ∙ rw (low .0, c .before .before .byte2 .ensures .0, low .1), search needs)
 
 pub pair-spec : {M : Type 1} → statement M
 pair-spec = tie.close (tie.spec byte-requires byte-requires-2 joined-requires returns)
