@@ -1,4 +1,3 @@
-use Prim.Native.Nat.{ℕ}
 use Rattle.plan.specs.TableLaws.{length-is, count-few}
 use Rattle.plan.specs.Steps.{near-refusal}
 use Rattle.plan.specs.FitLaws.{lent-fit}
