@@ -223,11 +223,11 @@ fn counted(n: usize) -> bool
 }
 
 // Questions 4, 1 (of so many positions), 6 to 8 and 11 to 13, put to a lent table.
-pub fn lent_refusal(
-    parents: &[u16; 256],
-    kinds: &[u8; 256],
-    widths: &[u16; 256],
-    depths: &[u8; 256],
+pub fn lent_refusal<'a>(
+    parents: &'a [u16; 256],
+    kinds: &'a [u8; 256],
+    widths: &'a [u16; 256],
+    depths: &'a [u8; 256],
     n: usize,
     positions: usize,
 ) -> Refusal
