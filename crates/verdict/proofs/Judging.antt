@@ -1,10 +1,7 @@
 -- From what the search finds to Check's answer. Assumes nothing.
-use mathlib.Core.Path.{_≡_, refl, sym, _∙_, ap, subst}
+use mathlib.Core.Path.{_≡_, sym, _∙_, ap, subst}
 use mathlib.Core.List.{List}
 use Prim.Native.Nat.{ℕ, _+_, _-_, _^_, _≤_, _<_}
-use native.Mathlib.Omega.{arith}
-use lib.Dec.{eqb}
-use lib.ListN.{length}
 use lib.IntN.{ℤ}
 use borrow.Author.Tests.{eq-eqb, ne-eqb}
 use Rattle.plan.specs.declared.Columns.{Columns}
@@ -14,9 +11,8 @@ use Rattle.plan.specs.Near.{Near}
 use Rattle.plan.specs.Limits.{most-allowance}
 use Rattle.plan.specs.Questions.{refusal, check, check-given}
 use Rattle.plan.specs.Columns.{table-of}
-use Rattle.rules.specs.Search.{Verdict, kept, broken}
 use Rattle.rules.specs.Verdict.{verdict, answer}
-use Rattle.plan.specs.TableLaws.{length-is, count-few, count-some}
+use Rattle.plan.specs.TableLaws.{length-is, count-some}
 use Rattle.verdict.specs.declared.Checked.{Checked}
 use Rattle.verdict.specs.declared.Checked.the-variants as checked
 use Rattle.verdict.specs.declared.search.View.{View}

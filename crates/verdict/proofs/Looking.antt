@@ -1,5 +1,5 @@
 -- What the loops that make the columns keep: those of the cells passed are made. Assumes nothing.
-use mathlib.Core.Path.{_≡_, refl, sym, _∙_, ap, subst}
+use mathlib.Core.Path.{_≡_, sym, _∙_, ap, subst}
 use mathlib.Core.Logic.{inl}
 use mathlib.Core.List.{List, [], _∷_}
 use Prim.Native.Nat.{ℕ, zero, suc, _+_, _-_, _*_, _^_, _≤_, _<_}
@@ -8,23 +8,21 @@ use native.Mathlib.Omega.{arith}
 use native.Mathlib.Decide.{ℕ-discrete}
 use lib.ListN.{length, getD, set, length-set}
 use lib.IntN.{ℤ, pos}
-use Rattle.whole.specs.Whole.{whole, plus, minus, le-read, neg-plus, neg-minus}
+use Rattle.whole.specs.Whole.{whole, neg-plus, neg-minus}
 use Rattle.whole.specs.Bias.{bias}
 use Rattle.whole.specs.Range.{Within}
 use Rattle.plan.specs.declared.Columns.{Columns}
 use Rattle.plan.specs.Limits.{farthest}
-use Rattle.plan.specs.Plan.{Table, Is, parent, kind, appointed, W, D}
+use Rattle.plan.specs.Plan.{Is, parent, kind, appointed, W, D}
 use Rattle.plan.specs.PlanLaws.{Child}
 use Rattle.plan.specs.Fit.{Fit}
 use Rattle.plan.specs.Near.{Near}
 use Rattle.plan.specs.Columns.{table-of}
 use Rattle.plan.specs.Trees.{Column}
 use Rattle.spans.specs.Columns.{at, all, all-long, Put, put}
-use Rattle.plan.specs.TableLaws.{length-is, parent-is, kind-is, width-is, depth-is, parent-lower, count-some, count-few, child-of}
+use Rattle.plan.specs.TableLaws.{length-is, parent-is, kind-is, width-is, depth-is, parent-lower, count-some, count-few}
 use Rattle.spans.specs.Order.{children-few}
 use Rattle.spans.specs.Counted.{Counted}
-use Rattle.spans.specs.Deepest.{Deepest}
-use Rattle.spans.specs.Spans.{Spans}
 use Rattle.rules.specs.Placement.{placed}
 use Rattle.verdict.specs.Passes.{Sights, Agree, Sighted, sight, view-in}
 use Rattle.verdict.specs.Sees.{Lifts, Short, Due, Sees, Looked, Tree-seen, Placement-seen}

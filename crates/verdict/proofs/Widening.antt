@@ -1,7 +1,7 @@
 -- What the loop that takes the width keeps. Assumes nothing.
 use mathlib.Core.Path.{_≡_, refl}
 use Prim.Native.Nat.{ℕ, _+_, _-_, _≤_, _<_, max, min}
-use native.Mathlib.Omega.{arith, max-cases}
+use native.Mathlib.Omega.{arith}
 use native.Mathlib.Decide.{ℕ-discrete, decLe}
 use Rattle.verdict.specs.declared.search.View.{View}
 use Rattle.verdict.specs.Passes.{Sights}

@@ -1,11 +1,11 @@
 -- What Check's answer says. Assumes nothing.
 use mathlib.Core.Path.{_≡_, refl, sym, _∙_, ap}
 use mathlib.Core.List.{List}
-use Prim.Native.Nat.{ℕ, _+_, _-_, _*_, _≤_, _<_}
+use Prim.Native.Nat.{ℕ, _+_, _-_, _≤_}
 use native.Mathlib.Omega.{arith}
-use lib.Dec.{T, leb→le}
+use lib.Dec.{leb→le}
 use lib.ListN.{length}
-use lib.IntN.{ℤ, pos, _+ℤ_}
+use lib.IntN.{ℤ, pos}
 use lib.Signed.{_≤ℤ_}
 use Rattle.whole.specs.Whole.{whole, plus, narrow, sum, neg-plus, neg-minus}
 use Rattle.whole.specs.Range.{Within}
@@ -22,8 +22,8 @@ use Rattle.plan.specs.CallLaws.{check-refusal}
 use Rattle.plan.specs.FitLaws.{lent-fit}
 use Rattle.plan.specs.declared.Refusal.{Refusal}
 use Rattle.rules.specs.Placement.{Placement, right, bottom, width, rows}
-use Rattle.rules.specs.Search.{Verdict, kept, broken}
-use Rattle.rules.specs.Verdict.{verdict, answer, faulty}
+use Rattle.rules.specs.Search.{kept, broken}
+use Rattle.rules.specs.Verdict.{verdict, answer}
 use Rattle.rules.specs.VerdictLaws.{kept-keeps, fine-answer}
 use Rattle.rules.specs.Extents.{width-le, width-ge, rows-plan}
 use Rattle.verdict.specs.declared.Checked.the-variants.{Kept, Broken}

@@ -1,6 +1,6 @@
 -- The rules as the code tests them are the rules: so what the search finds is the verdict. Assumes nothing.
-use mathlib.Core.Path.{_≡_, refl, sym, _∙_, ap}
-use mathlib.Core.Bool.{Bool, true, false, _&&_, _||_}
+use mathlib.Core.Path.{_≡_, refl}
+use mathlib.Core.Bool.{Bool, _&&_}
 use mathlib.Core.Logic.{_⊎_, inl, inr}
 use Prim.Native.Nat.{ℕ, zero, suc, _+_, _≤_, _<_}
 use native.Mathlib.Omega.{arith}
@@ -9,14 +9,14 @@ use lib.ListN.{length}
 use lib.Dec.{T, eqb, leb, ltb, ltb→lt, lt→ltb}
 use lib.IntN.{ℤ, pos, _+ℤ_, _-ℤ_}
 use lib.Signed.{_≤ℤ_, _<ℤ_, leZ, ltZ}
-use Rattle.whole.specs.Whole.{whole, plus, minus, sum, diff, lt-or-le}
+use Rattle.whole.specs.Whole.{whole, sum, diff, lt-or-le}
 use Rattle.whole.specs.Says.{Says, that-is, both, either, whenever, only, eqZ, says-le, says-eq, says-leZ, says-ltZ, says-eqZ, same-test}
 use Rattle.plan.specs.Limits.{farthest}
 use Rattle.plan.specs.ListLaws.{at-less}
-use Rattle.plan.specs.Plan.{Table, Is, Sound, kind, parent, children, appointed, W, D, within, subtree}
+use Rattle.plan.specs.Plan.{Table, Is, Sound, parent, children, W, D, within, subtree}
 use Rattle.plan.specs.PlanLaws.{subtree-read, subtree-show}
 use Rattle.plan.specs.Paths.{below-split, within-below, within-self}
-use Rattle.rules.specs.Placement.{Placement, right, base, bottom, most}
+use Rattle.rules.specs.Placement.{Placement, right, base, bottom}
 use Rattle.rules.specs.Extremes.{most-all, most-one}
 use Rattle.rules.specs.Search.{lowest}
 use Rattle.rules.specs.SearchLaws.{lowest-same}

@@ -36,12 +36,8 @@ pub enum Checked {
 fn refuse(t: Columns, positions: &[i32], allowance: u32) -> Refusal
     ensures { λ r. ⌜ r ≡ refusal check (check-given (table-of t) allowance (now (positions .entry))) ⌝ }
 {
-    let parents = t.parent;
-    let kinds = t.kind;
-    let widths = t.width;
-    let depths = t.depth;
     let n = t.count;
-    let lent = lent_refusal(&parents, &kinds, &widths, &depths, n, positions.len());
+    let lent = lent_refusal(&t.parent, &t.kind, &t.width, &t.depth, n, positions.len());
     if lent.number != 0 {
         return lent;
     }

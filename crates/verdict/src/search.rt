@@ -1,7 +1,7 @@
 // The search: each rule in turn, at each pair of cells in turn.
 use plan::limits::FARTHEST;
 ghost use mathlib.Core.Path.{_≡_};
-ghost use Prim.Native.Nat.{_+_, _*_, _^_, _≤_, _<_};
+ghost use Prim.Native.Nat.{_+_, _*_, _^_, _<_};
 ghost use lib.ListN.{getD};
 ghost use Rattle.verdict.specs.Passes.{Sighted, pass1, pass2, pass3, «pass3-ends», «pass3-starts», pass4, «pass4-box», «pass4-stem», pass5, passes, sight, «view-in», «found-of», «row-found», «rule-found», «all-found»};
 

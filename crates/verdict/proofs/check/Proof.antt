@@ -1,7 +1,7 @@
 use Rattle.verdict.proofs.Judging.{accepted, unless-refused, unless-none}
 use Rattle.verdict.specs.Checked.{checked-of}
 use Rattle.plan.specs.declared.Refusal.{Refusal}
-use mathlib.Core.Path.{_∙_, sym, ap, refl}
+use mathlib.Core.Path.{_∙_, sym, ap}
 use borrow.Author.Needs.{needs}
 use Rattle.verdict.proofs.check.Statement.{statement}
 use Rattle.verdict.proofs.check.Tie as tie

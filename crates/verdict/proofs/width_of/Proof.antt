@@ -2,7 +2,6 @@ use Rattle.verdict.proofs.Widening.{Widening, widening-starts, low-high
 use Rattle.verdict.specs.Passes.{view-in}
 use Prim.Native.Nat.{_-_}
 use native.Mathlib.Omega.{arith}
-use mathlib.Core.Path.{_∙_, ap, sym}
 use borrow.Author.Needs.{needs}
 use Rattle.verdict.proofs.width_of.Statement.{statement}
 use Rattle.verdict.proofs.width_of.Tie as tie

@@ -1,7 +1,6 @@
 use Rattle.verdict.proofs.Searching.{Ruling, ruling-starts, ruling-turns, ruling-stops, ruling-ends}
 use Rattle.verdict.specs.Passes.{view-in}
 use Prim.Native.Nat.{_-_}
-use native.Mathlib.Omega.{arith}
 use borrow.Author.Needs.{needs}
 use Rattle.verdict.proofs.search.search_rule.Statement.{statement}
 use Rattle.verdict.proofs.search.search_rule.Tie as tie

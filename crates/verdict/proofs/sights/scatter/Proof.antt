@@ -1,6 +1,5 @@
 use Rattle.verdict.proofs.Scattering.{Scattering, scattering-starts, scattering-turns, scattering-ends}
 use Prim.Native.Nat.{_-_}
-use native.Mathlib.Omega.{arith}
 use borrow.Author.Needs.{needs}
 use Rattle.verdict.proofs.sights.scatter.Statement.{statement}
 use Rattle.verdict.proofs.sights.scatter.Tie as tie
