@@ -6,7 +6,7 @@ use plan::limits::SCRATCH_SIZE;
 use plan::questions::allowance_refusal;
 use plan::questions::asked;
 use plan::questions::lent_refusal;
-use plan::tree::rows;
+use plan::tree::survey;
 use positions::raised;
 use positions::sheet_rows;
 use positions::sheet_width;
@@ -70,8 +70,10 @@ fn draw(t: Columns, allowance: u32, scratch: &mut [u32], positions: &mut [i32]) 
     ensures { λ r. ⌜ Drawn (table-of t) allowance (now (scratch .exit)) (now (positions .entry)) (now (positions .exit)) r ⌝ }
 {
     let n = t.count;
+    let mut counts = [0u16; 256];
+    let mut levels = [0u16; 256];
     let mut tops = [0u16; 256];
-    rows(&t.parent, &t.depth, n, &mut tops);
+    survey(&t.parent, &t.depth, n, &mut counts, &mut levels, &mut tops);
     let xs = place(t, &tops, allowance, scratch);
     write_positions(&xs, &tops, n, positions);
     Laid::Sheet(

@@ -11,9 +11,7 @@ use crate::limits::MOST_LEVEL;
 use crate::limits::MOST_WIDTH;
 use crate::limits::NO_PARENT;
 use crate::limits::between;
-use crate::tree::child_counts;
-use crate::tree::levels;
-use crate::tree::rows;
+use crate::tree::survey;
 use whole::within;
 ghost use mathlib.Core.Path.{_≡_};
 ghost use mathlib.Core.List.{List};
@@ -181,20 +179,18 @@ pub fn tree_refusal<'a>(
     ensures { λ r. ⌜ ((ws : List ℕ) → r ≡ tree-refusal (table (now (parents .entry)) (now (kinds .entry)) ws (now (depths .entry)) n)) ⌝ }
 {
     let mut counts = [0u16; 256];
-    child_counts(parents, n, &mut counts);
+    let mut levels = [0u16; 256];
+    let mut rows = [0u16; 256];
+    survey(parents, depths, n, &mut counts, &mut levels, &mut rows);
     let at_children = children_refusal(kinds, &counts, n);
     if at_children.number != 0 {
         return at_children;
     }
-    let mut deep = [0u16; 256];
-    levels(parents, n, &mut deep);
-    let at_levels = levels_refusal(&deep, n);
+    let at_levels = levels_refusal(&levels, n);
     if at_levels.number != 0 {
         return at_levels;
     }
-    let mut low = [0u16; 256];
-    rows(parents, depths, n, &mut low);
-    rows_refusal(&low, depths, n)
+    rows_refusal(&rows, depths, n)
 }
 
 // Questions 6 to 8 and 11 to 13.

@@ -7,31 +7,31 @@ use borrow.Author.Needs.{needs}
 use Rattle.drawing.proofs.draw.Statement.{statement}
 use Rattle.drawing.proofs.draw.Tie as tie
 
-rows-requires : tie.Need-rows-requires
-rows-requires c κs =
-    let st = c .before .before .before .before .before in
-    (fit-lower (st .args .t1) (st .pre .fit), (fit-flat (st .args .t1) (st .pre .fit), refl))
+survey-requires : tie.Need-survey-requires
+survey-requires c κs =
+    let st = c .before .before .before .before .before .before .before in
+    (fit-lower (st .args .t1) (st .pre .fit), (fit-flat (st .args .t1) (st .pre .fit), (refl, refl, refl)))
 
 place-requires : tie.Need-place-requires
 place-requires c κs =
-    let st = c .before .before .before .before .before .before .before .before in
-    record { fit = st .pre .fit; rows = c .before .before .rows .ensures _ _; scratch = st .pre .scratch }
+    let st = c .before .before .before .before .before .before .before .before .before .before in
+    record { fit = st .pre .fit; rows = c .before .before .survey .ensures _ _ .2; scratch = st .pre .scratch }
 
 write-positions-requires : tie.Need-write-positions-requires
 write-positions-requires c κs =
-    let st = c .before .before .before .before .before .before .before .before .before .before .before .before .before .before in
+    let st = c .before .before .before .before .before .before .before .before .before .before .before .before .before .before .before .before in
     let f = st .pre .fit in
     (high (st .args .t1) f _ _ (c .before .before .before .before .before .place .ensures .0), omega (arith, st .pre .room, size (st .args .t1) f))
 
 sheet-width-requires : tie.Need-sheet-width-requires
 sheet-width-requires c κs =
-    let st = c .before .before .before .before .before .before .before .before .before .before .before .before .before .before .before .before .before .before .before in
+    let st = c .before .before .before .before .before .before .before .before .before .before .before .before .before .before .before .before .before .before .before .before .before in
     let f = st .pre .fit in
     (high (st .args .t1) f _ _ (c .before .before .before .before .before .before .before .before .before .before .place .ensures .0), fit-lower (st .args .t1) f .some)
 
 sheet-rows-requires : tie.Need-sheet-rows-requires
 sheet-rows-requires c κs =
-    let st = c .before .before .before .before .before .before .before .before .before .before .before .before .before .before .before .before .before .before .before .before .before .before .before in
+    let st = c .before .before .before .before .before .before .before .before .before .before .before .before .before .before .before .before .before .before .before .before .before .before .before .before .before in
     let l = fit-lower (st .args .t1) (st .pre .fit) in
     (l .some, l .few)
 
@@ -43,10 +43,10 @@ same-length-2 c = search needs
 
 returns : tie.Need-returns
 returns c =
-    let st = c .before .before .before .before .before .before .before .before .before .before .before .before .before .before .before .before .before .before .before .before .before .before .before .before in
+    let st = c .before .before .before .before .before .before .before .before .before .before .before .before .before .before .before .before .before .before .before .before .before .before .before .before .before .before in
     let t = st .args .t1 in
     let f = st .pre .fit in
-    let tops = c .before .before .before .before .before .before .before .before .before .before .before .before .before .before .before .before .before .before .rows .ensures (t .kind) (t .width) in
+    let tops = c .before .before .before .before .before .before .before .before .before .before .before .before .before .before .before .before .before .before .survey .ensures (t .kind) (t .width) .2 in
     let p = c .before .before .before .before .before .before .before .before .before .before .before .before .before .before .before .place .ensures in
     drawn t f _ tops (st .args .allowance) _ (p .0) _ (p .1) (st .args .positions .now) _ (c .before .before .before .before .before .before .before .before .before .write-positions .ensures) _ _
     (c .before .before .before .before .sheet-width .ensures (sheet (table-of t) (st .args .allowance)) (t .parent) (t .kind) (t .depth) (p .0))
@@ -56,7 +56,7 @@ pub draw-spec : {M : Type 1} → statement M
 draw-spec =
     tie.close
     (tie.spec
-    rows-requires
+    survey-requires
     place-requires
     write-positions-requires
     sheet-width-requires

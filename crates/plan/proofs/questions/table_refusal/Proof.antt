@@ -6,9 +6,6 @@ use Rattle.plan.specs.StepLaws.{cells-lower, cells-flat}
 use Rattle.plan.proofs.questions.children_refusal.Reads as children-refusal-reads
 use Rattle.plan.proofs.questions.levels_refusal.Reads as levels-refusal-reads
 use Rattle.plan.proofs.questions.rows_refusal.Reads as rows-refusal-reads
-use Rattle.plan.proofs.tree.child_counts.Reads as child-counts-reads
-use Rattle.plan.proofs.tree.levels.Reads as levels-reads
-use Rattle.plan.proofs.tree.rows.Reads as rows-reads
 use borrow.Author.Needs.{needs}
 use Rattle.plan.proofs.questions.table_refusal.Statement.{statement}
 use Rattle.plan.proofs.questions.table_refusal.Tie as tie
