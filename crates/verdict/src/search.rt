@@ -5,10 +5,10 @@ ghost use Prim.Native.Nat.{_+_, _*_, _^_, _<_};
 ghost use lib.ListN.{getD};
 ghost use Rattle.verdict.specs.Passes.{Sighted, pass1, pass2, pass3, «pass3-ends», «pass3-starts», pass4, «pass4-box», «pass4-stem», pass5, passes, sight, «view-in», «found-of», «row-found», «rule-found», «all-found»};
 
-// How many numbers the rules read of a cell. Those of all cells lie in one array, cell after cell.
+// How many numbers the rules read of a cell. Those of all cells lie in one array, cell after cell: a `View` for each.
 pub const SIGHT: usize = 13;
 
-// They, of one cell, coordinates moved up so that none is negative.
+// The numbers of one cell, coordinates moved up so that none is negative.
 pub struct View {
     pub parent: u32,
     pub nth: u32,
@@ -146,19 +146,27 @@ fn pass3(v: View, w: View) -> bool
     starts_after(v, w)
 }
 
-// A rule at the cells a and b.
+// A rule at the cells a and b. A chain of tests, which the compiler folds where the rule is a number; a `match` it leaves.
 fn passes(rule: u8, a: usize, b: usize, v: View, w: View, allowance: u32) -> bool
     requires { ⌜ (a < 256) × (v .right < 2 ^ 31) × (w .x < 2 ^ 31) × (allowance < 2 ^ 31) ⌝ }
     ensures { λ r. ⌜ r ≡ passes allowance rule a b v w ⌝ }
 {
-    match rule {
-        1 => pass1(a, b, v),
-        2 => pass2(a, v, w),
-        3 => pass3(v, w),
-        4 => pass4(v, w),
-        5 => pass5(v, w, allowance),
-        _ => true,
+    if rule == 1 {
+        return pass1(a, b, v);
     }
+    if rule == 2 {
+        return pass2(a, v, w);
+    }
+    if rule == 3 {
+        return pass3(v, w);
+    }
+    if rule == 4 {
+        return pass4(v, w);
+    }
+    if rule == 5 {
+        return pass5(v, w, allowance);
+    }
+    true
 }
 
 // Number k of the cell c.
