@@ -60,10 +60,10 @@ Columned 𝓤 H A = tripleOf 𝓤 H A (answering 1 (table-slot ∷ []) B.the-row
 
 -- ---- the entry's contract, over a table and ps, with answers in R, and the core's, over columns and ps: F is what is said of a table of cells, of ps at entry and at exit, and of the answer
 module _ (n : ℕ) (ps : List (Slot (suc n))) (R : RattleType) where
-  abbrev pub Of-table : Type 1
+  abbrev Of-table : Type 1
   Of-table = (κs : Lfts (suc n)) → Table → Denots (typesAt ps κs) → Outs κs ps (all yes ps) → R .Denot → Type 0
 
-  abbrev pub Entry : {M : Type 1} (𝓤 : URA M) (H : Heap 𝓤) (A : Atoms 𝓤) → Of-table → Contract 𝓤
+  abbrev Entry : {M : Type 1} (𝓤 : URA M) (H : Heap 𝓤) (A : Atoms 𝓤) → Of-table → Contract 𝓤
   Entry 𝓤 H A F = tripleOf 𝓤 H A (answering (suc n) (table-slot ∷ ps) R) (saying (suc n) (table-slot ∷ ps) 𝓤 H A R (λ κs a e r. F κs (cells-of (a .0 .now)) (a .1) (e .1) r))
 
   module _ {M : Type 1} (𝓤 : URA M) (H : Heap 𝓤) (A : Atoms 𝓤) (F : Of-table) where
@@ -71,7 +71,7 @@ module _ (n : ℕ) (ps : List (Slot (suc n))) (R : RattleType) where
     Ends κs t a r = ex 𝓤 (λ (ws : Unit {0} × Fins κs ps (all yes ps) a). sep 𝓤 (sem 𝓤 H A (fsep ftrue (lastsOf κs ps (all yes ps) a (ws .1)))) (fact 𝓤 (F κs t a (outs κs ps (all yes ps) a (ws .1)) r)))
 
     -- the core does not have the table's lifetime: κ stands for it in the slots of ps, none of which reads it
-    abbrev pub Core : Lft → Contract 𝓤
+    abbrev Core : Lft → Contract 𝓤
     Core κ = record {
       Ghost = (x : (κs : Lfts n) × (qs : Shares n) × Unit {0} × (a : Denots (B.the-row ∷ typesAt ps (κ, κs))) × Valss (B.the-row ∷ typesAt ps (κ, κs))) × Unit {0};
       args = λ y. flat (B.the-row ∷ typesAt ps (κ, y .0 .0)) (y .0 .4);
@@ -80,7 +80,7 @@ module _ (n : ℕ) (ps : List (Slot (suc n))) (R : RattleType) where
     }
 
     -- what holds of the columns' table holds of the records'
-    abbrev pub Lent : Type 0
+    abbrev Lent : Type 0
     Lent = (κs : Lfts (suc n)) (t : List Record) (c : Columns) → c ≡ lent-columns t → (a : Denots (typesAt ps κs)) (e : Outs κs ps (all yes ps)) (r : R .Denot) → F κs (table-of c) a e r → F κs (cells-of t) a e r
 
     module _ (W : Given 𝓤 H A) (C : Calls 𝓤 H) (fm : FmC 𝓤 H (W .laws) C) (k′ : Name) (τ : Ty) (of-R : (r : R .Denot) (u : Val) → Is R r (u ∷ []) → Of τ u) (lent : Lent)
@@ -155,7 +155,7 @@ module _ {M : Type 1} (𝓤 : URA M) (H : Heap 𝓤) (𝓜 : Model 𝓤 H) (𝓖
 
 -- ---- Check and Ends: the others are positions and a number of the width w, and the answer is g of what all three hold
 module _ (w : Width) (k′ : Name) (τ : Ty) where
-  abbrev pub code : Fn
+  abbrev code : Fn
   code = record {
     lifetimes = 2;
     outlives = [];
@@ -177,7 +177,7 @@ module _ (w : Width) (k′ : Name) (τ : Ty) where
         move ! (9 ∷ 10 ∷ []) $ free1 ! $ move ! (7 ∷ 8 ∷ []) $ free1 ! $ move ! (5 ∷ 6 ∷ []) $ free1 ! $ move ! (3 ∷ 4 ∷ []) $ free1 ! $ move ! (1 ∷ 2 ∷ []) $ free1 ! $ free0 ! $ done !)))))))))
 
   module _ (R : RattleType) (g : Table → List ℤ → ℕ → R .Denot) where
-    abbrev pub Gives : Of-table 1 (others w) R
+    abbrev Gives : Of-table 1 (others w) R
     Gives κs t a e r = r ≡ g t (a .0 .now) (a .1 .0)
 
     module _ {M : Type 1} (𝓤 : URA M) (H : Heap 𝓤) (𝓜 : Model 𝓤 H) (𝓖 : GhostRules 𝓤 H) (𝓡 : Running 𝓤 H 𝓜) (γ : Env) (f : Name) where
