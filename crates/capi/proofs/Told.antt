@@ -1,5 +1,5 @@
 -- A function for C hands its parameters on to an entry of crate engine, and tells the entry's answer as a struct of numbers: what the proofs of all such functions share.
--- A contract hands no parameter back, so all that the function owns goes to the entry whole, and the walk of its MIR is over machine values alone.
+-- All that the function owns goes to the entry, as crate engine's proofs/InTurn.antt has it.
 -- Assumes `Given`, and that the table of calls is monotone under a frame.
 use mathlib.Core.Path.{_≡_, refl, sym, subst, ap}
 use Prim.Native.Nat.{ℕ}
@@ -44,7 +44,7 @@ Passes 𝓤 H A C k k′ β τ run vs = Follows 𝓤 H A C k k′ β τ run vs v
 
 -- ---- the MIR of a function with three parameters, all handed on as they are
 module _ (k k′ : Name) (β τ τ₁ τ₂ τ₃ : Ty) where
-  abbrev pub three : Fn
+  abbrev three : Fn
   three = record {
     lifetimes = 2;
     outlives = [];
@@ -66,7 +66,7 @@ module _ (k k′ : Name) (β τ τ₁ τ₂ τ₃ : Ty) where
 
 -- ---- the contract of a function of one value: the result is t of it
 module _ {M : Type 1} (𝓤 : URA M) (H : Heap 𝓤) (A : Atoms 𝓤) (B L : RattleType) (t : B .Denot → L .Denot) where
-  abbrev pub Turns : Contract 𝓤
+  abbrev Turns : Contract 𝓤
   Turns = tripleOf 𝓤 H A (answering 0 (plain (λ _. B) ∷ []) L) (saying 0 (plain (λ _. B) ∷ []) 𝓤 H A L (λ κs a e r. r ≡ t (a .0)))
 
 module _ {M : Type 1} (𝓤 : URA M) (H : Heap 𝓤) (A : Atoms 𝓤) (W : Given 𝓤 H A) (C : Calls 𝓤 H) (fm : FmC 𝓤 H (W .laws) C) (k k′ : Name) (β τ : Ty) (B L : RattleType) (t : B .Denot → L .Denot)
