@@ -73,7 +73,7 @@ module _ (f : List ℕ) (room : ℕ) where
     refused-answer = rw (ne-eqb (stop .number) 0 z)
 
   -- ---- for the code
-  pub count-fits : (reading-of f room .columns .count ≤ room) × (reading-of f room .columns .count ≤ most-cells)
+  count-fits : (reading-of f room .columns .count ≤ room) × (reading-of f room .columns .count ≤ most-cells)
   unfolding columns-of
   count-fits = go (ℕ-discrete (stop .number) 0)
     where

@@ -25,7 +25,8 @@ use Rattle.drawing.proofs.Laid.Laws as B′
 use Rattle.capi.specs.Answers.{laid-answer, Laying}
 use Rattle.capi.proofs.LayoutAnswer as L
 use Rattle.capi.proofs.LayoutAnswer.Laws as L′
-use Rattle.capi.proofs.Told.{Told, Answered, Calling, Follows, meets-told}
+use Rattle.engine.proofs.InTurn.{Told, Answered, Calling}
+use Rattle.capi.proofs.Told.{Passes, meets-told}
 use Rattle.engine.proofs.layout.Symbol as entry
 use Rattle.engine.proofs.layout.Met as entry-thm
 use Rattle.capi.proofs.told_layout.Symbol as told
@@ -39,9 +40,9 @@ module _ {M : Type 1} (𝓤 : URA M) (H : Heap 𝓤) (A : Atoms 𝓤) (W : Given
   abbrev vs : List Val
   vs = sliceVal p n ∷ vint w32 w ∷ sliceVal p′ n′ ∷ sliceVal p″ n″ ∷ []
 
-  walk : n < 2 ^ 64 → w < 2 ^ 32 → n′ < 2 ^ 64 → n″ < 2 ^ 64 → Follows 𝓤 H A C entry.name told.name B′.mir L′.mir (WpFn 𝓤 H C Λ code.function) vs
+  walk : n < 2 ^ 64 → w < 2 ^ 32 → n′ < 2 ^ 64 → n″ < 2 ^ 64 → Passes 𝓤 H A C entry.name told.name B′.mir L′.mir (WpFn 𝓤 H C Λ code.function) vs
   walk f f-w f′ f″ P =
-      qed W (raw (Calling 𝓤 H A C entry.name told.name B′.mir L′.mir vs P) ∷ []) ∵ enter ! C Λ code.function vs P $
+      qed W (raw (Calling 𝓤 H A C entry.name told.name B′.mir L′.mir vs [] P) ∷ []) ∵ enter ! C Λ code.function vs P $
       alloc1 ! (λ l₀. alloc1 ! (λ l₁. alloc1 ! (λ l₂. alloc1 ! (λ l₃. alloc1 ! (λ l₄. alloc1 ! (λ l₅. alloc1 ! (λ l₆. alloc1 ! (λ l₇. alloc1 ! (λ l₈. alloc1 ! (λ l₉. alloc0 ! $ params1 ! $
       pass1 ! (init ! 16 refl (tt, (tt, (record { fits = f }, tt)))) $ pass1 ! (init ! 14 refl (tt, record { fits = f-w })) $ pass1 ! (init ! 12 refl (tt, (tt, (record { fits = f′ }, tt)))) $ pass1 ! (init ! 10 refl (tt, (tt, (record { fits = f″ }, tt)))) $ pass0 ! $
       -- [_9; …; _8; …; _7; …; _6; …; _5; …; _4; …; _3; …; _2; …; _1; …; room for _0; …; the call]
@@ -49,7 +50,7 @@ module _ {M : Type 1} (𝓤 : URA M) (H : Heap 𝓤) (A : Atoms 𝓤) (W : Given
       assigns ! (agg ! (and-then ! (load ! (from ! (stop !)) (look ! 6 refl)) (and-then ! (load ! (from ! (fld ! refl (stop !))) (look-in ! 12 (sub ! 1 refl (whole !)))) (no-more !)))) (from ! (stop !)) (init ! 4 refl (tt, (tt, (record { fits = f′ }, tt)))) $
       assigns ! (addr ! (from ! (fld ! refl (hop ! (look-in ! 10 (sub ! 0 refl (whole !))) (stop !))))) (from ! (stop !)) (init ! 2 refl (tt, tt)) $
       assigns ! (agg ! (and-then ! (load ! (from ! (stop !)) (look ! 2 refl)) (and-then ! (load ! (from ! (fld ! refl (stop !))) (look-in ! 10 (sub ! 1 refl (whole !)))) (no-more !)))) (from ! (stop !)) (init ! 0 refl (tt, (tt, (record { fits = f″ }, tt)))) $
-      move ! (20 ∷ []) $ calls ! fm (Answered 𝓤 H A C entry.name told.name B′.mir L′.mir P)
+      move ! (20 ∷ []) $ calls ! fm (Answered 𝓤 H A C entry.name told.name B′.mir L′.mir [] P)
       (and-then ! (load ! (from ! (stop !)) (look ! 17 refl)) (and-then ! (load ! (from ! (stop !)) (look ! 15 refl)) (and-then ! (load ! (from ! (stop !)) (look ! 5 refl)) (and-then ! (load ! (from ! (stop !)) (look ! 1 refl)) (no-more !))))) (λ v.
       await ! tt $ learn ! (λ o. land ! (from ! (stop !)) (init ! 9 refl o) $ calls ! fm (Told 𝓤 H A C entry.name told.name B′.mir L′.mir P) (and-then ! (load ! (from ! (stop !)) (look ! 9 refl)) (no-more !)) (λ u.
       await ! tt $ learn ! (λ o′. land ! (from ! (stop !)) (init ! 19 refl o′) $ returns ! (look ! 19 refl) $
@@ -62,7 +63,7 @@ unfolding code.routine
 kuzpalen-layout-spec 𝓤 H 𝓜 𝓖 𝓡 =
     meets-told 𝓤 H 𝓜 𝓖 𝓡 code.env key.name entry.name told.name code.function (code.unfolded 𝓤 H 𝓜 𝓡) entry.routine told.routine code.calls-engine·layout code.calls-capi·told-layout B′.mir L′.mir B.the-row L.the-row laid-answer
     (λ b v is. EL.lawful B.the-type B′.the-laws 𝓤 H (𝓖 .A) (givenOf 𝓤 H 𝓜 𝓖) tt .typed b _ is .0) (λ r u is. LL.lawful L.the-type L′.the-laws 𝓤 H (𝓖 .A) (givenOf 𝓤 H 𝓜 𝓖) .typed r _ is .0)
-    3 [] (own.signature .params) (own.ended .kept)
+    3 (own.signature .params)
     (λ κs a e d. Lays (cells-of (a .0 .now)) (a .1 .0) (a .1 .1 .0 .now) (e .1 .1 .0 .now) (a .1 .1 .1 .0 .now) (e .1 .1 .1 .0 .now) d)
     (λ κs a e r. Laying (cells-of (a .0 .now)) (a .1 .0) (a .1 .1 .0 .now) (e .1 .1 .0 .now) (a .1 .1 .1 .0 .now) (e .1 .1 .1 .0 .now) r)
     (entry-thm.met 𝓤 H 𝓜 𝓖 𝓡) (told-thm.met 𝓤 H 𝓜 𝓖 𝓡) (λ κs a e d h. record { laid = d; lays = h; answers = refl })

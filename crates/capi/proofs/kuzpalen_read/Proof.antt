@@ -23,7 +23,8 @@ use Rattle.engine.proofs.ReadAnswer.Laws as B′
 use Rattle.capi.specs.Answers.{read-answer, Filling}
 use Rattle.capi.proofs.ReadAnswer as L
 use Rattle.capi.proofs.ReadAnswer.Laws as L′
-use Rattle.capi.proofs.Told.{Told, Answered, Calling, Follows, meets-told}
+use Rattle.engine.proofs.InTurn.{Told, Answered, Calling}
+use Rattle.capi.proofs.Told.{Passes, meets-told}
 use Rattle.engine.proofs.read.Symbol as entry
 use Rattle.engine.proofs.read.Met as entry-thm
 use Rattle.capi.proofs.told_read.Symbol as told
@@ -37,15 +38,15 @@ module _ {M : Type 1} (𝓤 : URA M) (H : Heap 𝓤) (A : Atoms 𝓤) (W : Given
   abbrev vs : List Val
   vs = sliceVal p n ∷ sliceVal p′ n′ ∷ []
 
-  walk : n < 2 ^ 64 → n′ < 2 ^ 64 → Follows 𝓤 H A C entry.name told.name B′.mir L′.mir (WpFn 𝓤 H C Λ code.function) vs
+  walk : n < 2 ^ 64 → n′ < 2 ^ 64 → Passes 𝓤 H A C entry.name told.name B′.mir L′.mir (WpFn 𝓤 H C Λ code.function) vs
   walk f f′ P =
-      qed W (raw (Calling 𝓤 H A C entry.name told.name B′.mir L′.mir vs P) ∷ []) ∵ enter ! C Λ code.function vs P $
+      qed W (raw (Calling 𝓤 H A C entry.name told.name B′.mir L′.mir vs [] P) ∷ []) ∵ enter ! C Λ code.function vs P $
       alloc1 ! (λ l₀. alloc1 ! (λ l₁. alloc1 ! (λ l₂. alloc1 ! (λ l₃. alloc1 ! (λ l₄. alloc1 ! (λ l₅. alloc0 ! $ params1 ! $
       pass1 ! (init ! 8 refl (tt, (tt, (record { fits = f }, tt)))) $ pass1 ! (init ! 6 refl (tt, (tt, (record { fits = f′ }, tt)))) $ pass0 ! $
       -- [_5; …; _4; …; _3; …; _2; …; _1; …; room for _0; …; the call]
       assigns ! (addr ! (from ! (fld ! refl (hop ! (look-in ! 6 (sub ! 0 refl (whole !))) (stop !))))) (from ! (stop !)) (init ! 2 refl (tt, tt)) $
       assigns ! (agg ! (and-then ! (load ! (from ! (stop !)) (look ! 2 refl)) (and-then ! (load ! (from ! (fld ! refl (stop !))) (look-in ! 6 (sub ! 1 refl (whole !)))) (no-more !)))) (from ! (stop !)) (init ! 0 refl (tt, (tt, (record { fits = f′ }, tt)))) $
-      move ! (12 ∷ []) $ calls ! fm (Answered 𝓤 H A C entry.name told.name B′.mir L′.mir P) (and-then ! (load ! (from ! (stop !)) (look ! 9 refl)) (and-then ! (load ! (from ! (stop !)) (look ! 1 refl)) (no-more !))) (λ v.
+      move ! (12 ∷ []) $ calls ! fm (Answered 𝓤 H A C entry.name told.name B′.mir L′.mir [] P) (and-then ! (load ! (from ! (stop !)) (look ! 9 refl)) (and-then ! (load ! (from ! (stop !)) (look ! 1 refl)) (no-more !))) (λ v.
       await ! tt $ learn ! (λ o. land ! (from ! (stop !)) (init ! 5 refl o) $ calls ! fm (Told 𝓤 H A C entry.name told.name B′.mir L′.mir P) (and-then ! (load ! (from ! (stop !)) (look ! 5 refl)) (no-more !)) (λ u.
       await ! tt $ learn ! (λ o′. land ! (from ! (stop !)) (init ! 11 refl o′) $ returns ! (look ! 11 refl) $ forget ! 1 refl $ forget ! 3 refl $ forget ! 5 refl $ forget ! 7 refl $ forget ! 9 refl $ forget ! 11 refl $
       move ! (11 ∷ 12 ∷ []) $ free1 ! $ move ! (9 ∷ 10 ∷ []) $ free1 ! $ move ! (7 ∷ 8 ∷ []) $ free1 ! $ move ! (5 ∷ 6 ∷ []) $ free1 ! $ move ! (3 ∷ 4 ∷ []) $ free1 ! $ move ! (1 ∷ 2 ∷ []) $ free1 ! $ free0 ! $ done !))))))))))
@@ -55,7 +56,7 @@ unfolding code.routine
 kuzpalen-read-spec 𝓤 H 𝓜 𝓖 𝓡 =
     meets-told 𝓤 H 𝓜 𝓖 𝓡 code.env key.name entry.name told.name code.function (code.unfolded 𝓤 H 𝓜 𝓡) entry.routine told.routine code.calls-engine·read code.calls-capi·told-read B′.mir L′.mir B.the-row L.the-row read-answer
     (λ b v is. EL.lawful B.the-type B′.the-laws 𝓤 H (𝓖 .A) (givenOf 𝓤 H 𝓜 𝓖) tt .typed b _ is .0) (λ r u is. LL.lawful L.the-type L′.the-laws 𝓤 H (𝓖 .A) (givenOf 𝓤 H 𝓜 𝓖) .typed r _ is .0)
-    2 [] (own.signature .params) (own.ended .kept)
+    2 (own.signature .params)
     (λ κs a e d. Reads (a .0 .now) (a .1 .0 .now) (e .1 .0 .now) d)
     (λ κs a e r. Filling (a .0 .now) (a .1 .0 .now) (e .1 .0 .now) r)
     (entry-thm.met 𝓤 H 𝓜 𝓖 𝓡) (told-thm.met 𝓤 H 𝓜 𝓖 𝓡) (λ κs a e d h. record { read = d; reads = h; answers = refl })

@@ -3,9 +3,6 @@ use borrow.Author.Needs.{needs}
 use Rattle.engine.specs.ReadLaws.{parse-refused, parse-plan, parse-count}
 use Rattle.engine.proofs.parse.Statement.{statement}
 use Rattle.engine.proofs.parse.Tie as tie
-use Rattle.engine.proofs.parse.Reads as reads
-use Rattle.engine.proofs.parse.Lts as lts
-use Rattle.planfile.proofs.read.Reads as read-reads
 
 -- src/lib.rt:25:9
 read-requires : tie.Need-read-requires
