@@ -85,25 +85,28 @@ element-copy-out-rows : tie.Need-element-copy-out-rows Inv-loop μ-loop
 element-copy-out-rows c = omega (arith, parent-few (c .before .before .before .before .before .pre .0) (c .before .before .before .before .loop .inv .0) (c .before .before .before .loop-test .taken))
 
 element-copy-out-rows-2 : tie.Need-element-copy-out-rows-2 Inv-loop μ-loop
-element-copy-out-rows-2 c = omega (arith, parent-few (c .before .before .before .before .before .before .pre .0) (c .before .before .before .before .before .loop .inv .0) (c .before .before .before .before .loop-test .taken))
+element-copy-out-rows-2 c = omega (arith, c .before .before .before .before .before .before .pre .0 .few, parent-few (c .before .before .before .before .before .before .pre .0) (c .before .before .before .before .before .loop .inv .0) (c .before .before .before .before .loop-test .taken))
 
 cast-rows : tie.Need-cast-rows Inv-loop μ-loop
 cast-rows c =
     let st = c .before .before .before .before .before .before .before in
     let l = c .before .before .before .before .before .before .loop in
-    omega (arith, st .pre .1 .0 .flat (getD (st .args .parents .now) (l .c) 0) (omega (arith, st .pre .0 .lower (l .c) (l .inv .0) (c .before .before .before .before .before .loop-test .taken))))
+    let less = c .before .before .before .before .before .loop-test .taken in
+    omega (arith, st .pre .1 .0 .flat (l .c) less, st .pre .1 .0 .flat (getD (st .args .parents .now) (l .c) 0) (omega (arith, st .pre .0 .lower (l .c) (l .inv .0) less)))
 
 add-rows : tie.Need-add-rows Inv-loop μ-loop
 add-rows c =
     let st = c .before .before .before .before .before .before .before in
     let l = c .before .before .before .before .before .before .loop in
-    omega (arith, st .pre .0 .few, row-value (st .args .parents .now) [] [] (st .args .depths .now) (st .args .n) (st .pre .0) (l .rows) (l .c) (l .inv .0) (c .before .before .before .before .before .loop-test .taken) (l .inv .4) (l .inv .7 [] []), row-small (st .args .parents .now) [] [] (st .args .depths .now) (st .args .n) (st .pre .0) (st .pre .1 .0) (l .c) (c .before .before .before .before .before .loop-test .taken))
+    let less = c .before .before .before .before .before .loop-test .taken in
+    omega (arith, st .pre .0 .few, st .pre .1 .0 .flat (l .c) less, row-value (st .args .parents .now) [] [] (st .args .depths .now) (st .args .n) (st .pre .0) (l .rows) (l .c) (l .inv .0) less (l .inv .4) (l .inv .7 [] []), row-small (st .args .parents .now) [] [] (st .args .depths .now) (st .args .n) (st .pre .0) (st .pre .1 .0) (l .c) less)
 
 add-rows-2 : tie.Need-add-rows-2 Inv-loop μ-loop
 add-rows-2 c =
     let st = c .before .before .before .before .before .before .before in
     let l = c .before .before .before .before .before .before .loop in
-    omega (arith, st .pre .0 .few, row-value (st .args .parents .now) [] [] (st .args .depths .now) (st .args .n) (st .pre .0) (l .rows) (l .c) (l .inv .0) (c .before .before .before .before .before .loop-test .taken) (l .inv .4) (l .inv .7 [] []), row-small (st .args .parents .now) [] [] (st .args .depths .now) (st .args .n) (st .pre .0) (st .pre .1 .0) (l .c) (c .before .before .before .before .before .loop-test .taken))
+    let less = c .before .before .before .before .before .loop-test .taken in
+    omega (arith, st .pre .0 .few, st .pre .1 .0 .flat (l .c) less, row-value (st .args .parents .now) [] [] (st .args .depths .now) (st .args .n) (st .pre .0) (l .rows) (l .c) (l .inv .0) less (l .inv .4) (l .inv .7 [] []), row-small (st .args .parents .now) [] [] (st .args .depths .now) (st .args .n) (st .pre .0) (st .pre .1 .0) (l .c) less)
 
 mul-rows-2 : tie.Need-mul-rows-2 Inv-loop μ-loop
 mul-rows-2 c = omega (arith, c .before .before .before .before .before .before .before .pre .0 .few)
