@@ -16,13 +16,9 @@ ghost use lib.ListN.{length, getD};
 ghost use lib.IntN.{pos, _+ℤ_};
 ghost use Rattle.whole.specs.Range.{Within};
 ghost use Rattle.plan.specs.Limits.{farthest};
-ghost use Rattle.plan.specs.Plan.{Is};
 ghost use Rattle.plan.specs.Columns.{«table-of»};
-ghost use Rattle.plan.specs.Fit.{Fit};
-ghost use Rattle.plan.specs.Near.{Near};
 ghost use Rattle.plan.specs.Questions.{refusal, ends, «ends-given»};
-ghost use Rattle.rules.specs.Placement.{placed};
-ghost use Rattle.connectors.specs.Ended.{half, joined, «ended-of»};
+ghost use Rattle.connectors.specs.Ended.{half, «ended-of»};
 
 // Joined: x and y at the parent, x and y at the child. Refused: number and cell.
 pub enum Ended {
@@ -77,20 +73,6 @@ fn moved(positions: &[i32], i: usize, by: u32) -> i32
     difference(raise_at(positions, i, FARTHEST) + by, FARTHEST)
 }
 
-// The ends for a child of a placement that no question refuses.
-fn join(t: Columns, positions: &[i32], cell: usize) -> Ended
-    requires { ⌜ Fit (table-of t) × Near (now positions) (t .count) × (cell < t .count) × (0 < cell) ⌝ }
-    ensures { λ r. ⌜ r ≡ joined (table-of t) (placed (now (positions .entry))) cell ⌝ }
-{
-    let p = parent_of(&t.parent, cell);
-    Ended::Joined(
-        moved(positions, 2 * p, half(t.width[p])),
-        moved(positions, 2 * p + 1, wide8(t.depth[p])),
-        moved(positions, 2 * cell, half(t.width[cell])),
-        moved(positions, 2 * cell + 1, 0),
-    )
-}
-
 pub fn ends(t: Columns, positions: &[i32], cell: usize) -> Ended
     ensures { λ r. ⌜ r ≡ ended-of (table-of t) (now (positions .entry)) cell ⌝ }
 {
@@ -98,5 +80,11 @@ pub fn ends(t: Columns, positions: &[i32], cell: usize) -> Ended
     if no.number != 0 {
         return Ended::Refused(no.number, no.cell);
     }
-    join(t, positions, cell)
+    let p = parent_of(&t.parent, cell);
+    Ended::Joined(
+        moved(positions, 2 * p, half(t.width[p])),
+        moved(positions, 2 * p + 1, wide8(t.depth[p])),
+        moved(positions, 2 * cell, half(t.width[cell])),
+        moved(positions, 2 * cell + 1, 0),
+    )
 }
