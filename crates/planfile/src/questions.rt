@@ -63,19 +63,18 @@ fn printable(letter: u8) -> bool
     letter <= LAST_LETTER
 }
 
-// Question 5.
+// Question 5. No way out of the loop, so that the compiler tests many bytes at once.
 fn letters_printable(file: &[u8], begin: usize) -> bool
     requires { ⌜ begin ≤ length (now file) ⌝ }
     ensures { λ r. ⌜ r ≡ every (between first-letter last-letter) (take begin (now (file .entry))) ⌝ }
 {
+    let mut good = true;
     let mut i = 0;
     while i < begin {
-        if !printable(file[i]) {
-            return false;
-        }
+        good = good & printable(file[i]);
         i += 1;
     }
-    true
+    good
 }
 
 // Question 9, for a label of so many bytes.
