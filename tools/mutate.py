@@ -88,8 +88,9 @@ MUTATIONS = {
         (SPAN_LAWS, "        overlap = omega arith;\n", ""),
     ],
     "the appointed child (k+1)/2 rounded down": [
-        (PLAN, "appointed kind k = (k + 1 + 1) / 2", "appointed kind k = (k + 1) / 2"),
-        (PLAN_LAWS, "pred ((n + 1 + 1) / 2) < n", "pred ((n + 1) / 2) < n"),
+        (PLAN, "appointed kind k = (k + 1 + 1) / 2", "appointed kind k = (k + 1 + 0) / 2"),
+        ("plan/src/kinds.rt", "(k + 1 + 1) / 2", "(k + 1 + 0) / 2"),
+        (PLAN_LAWS, "pred ((n + 1 + 1) / 2) < n", "pred ((n + 1 + 0) / 2) < n"),
     ] + DROP_HALF,
     "left children to the right": [
         (SHEET, "pos (offset al 0 os (index (suc m) (children t c))) -ℤ pos (middle c os)", "pos (middle c os) -ℤ pos (offset al 0 os (index (suc m) (children t c)))"),

@@ -1,5 +1,5 @@
 -- From positions to the ends of a connector. Assumes nothing.
-use mathlib.Core.Path.{_≡_, refl, sym, _∙_}
+use mathlib.Core.Path.{_≡_, refl, sym, ap, _∙_}
 use mathlib.Core.List.{List}
 use Prim.Native.Nat.{ℕ, _+_, _*_, _^_, _≤_, _<_}
 use native.Mathlib.Omega.{arith}
@@ -21,10 +21,12 @@ use Rattle.plan.specs.Fit.{Fit}
 use Rattle.plan.specs.Near.{Near}
 use Rattle.plan.specs.Columns.{table-of}
 use Rattle.plan.specs.TableLaws.{length-is, parent-is, width-is, depth-is, count-few, parent-lower}
+use Rattle.plan.specs.Questions.{refusal, ends, ends-given}
 use Rattle.rules.specs.Placement.{placed}
 use Rattle.connectors.specs.declared.Ended.{Ended}
 use Rattle.connectors.specs.declared.Ended.the-variants.{Joined, Refused}
 use Rattle.connectors.specs.Ended.{half, joined, unless}
+use Rattle.connectors.specs.EndedLaws.{accepted}
 
 -- moved up, moved on, and moved back
 module _ (z : ℤ) (w : Within farthest z) (by : ℕ) where
@@ -63,6 +65,20 @@ module _ (t : Columns) (fit : Fit (table-of t)) where
       let p : parent (table-of t) c ≡ f = parent-is t c i ∙ sym e in
       let z : getD ps (2 * c + 1) (pos 0) +ℤ pos 0 ≡ getD ps (2 * c + 1) (pos 0) = omega (whole, sum (getD ps (2 * c + 1) (pos 0)) (pos 0)) in
       rw (p, width-is t f j, depth-is t f j, width-is t c i, eu, ev, ex, ey, eh, ed, ek, z) refl
+
+-- a child of a table and positions that no question refuses
+pub record Endable (t : Columns) (ps : List ℤ) (c : ℕ) : Type 0 where
+  pub fit : Fit (table-of t)
+  pub near : Near ps (t .count)
+  pub room : 2 * t .count ≤ length ps
+  pub few : t .count ≤ 256
+  pub is : c < t .count
+  pub lower : getD (t .parent) c 0 < c
+
+pub endable : (t : Columns) (ps : List ℤ) (c : ℕ) (q : Refusal) → q ≡ refusal ends (ends-given (table-of t) ps c) → q .number ≡ 0 → Endable t ps c
+endable t ps c q e h =
+    let ok = accepted t ps c (ap (λ (x : Refusal). x .number) (sym e) ∙ h) in
+    record { fit = ok .0; near = ok .1; room = ok .1 .room; few = count-few t (ok .0); is = ok .2; lower = parent-lower t (ok .0) c (ok .3) (ok .2) }
 
 -- the refusal, or the answer
 pub unless-refused : (r q : Refusal) (a : Ended) → q ≡ r → ¬ (q .number ≡ 0) → Refused (q .number) (q .cell) ≡ unless r a
