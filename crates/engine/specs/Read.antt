@@ -20,7 +20,7 @@ read-refusal f room = refusal read (file-given f (long room) 0)
 unfoldable pub answer : List ℕ → Refusal → ReadAnswer
 answer f r = cond (eqb (r .number) 0) (Plan (trailer-of f .count) (trailer-of f .allowance)) (Refused (r .number) (r .cell))
 
--- the lent table after an answer: records 0 to n - 1 are the file's, the rest as they were; as it was
+-- the lent table after it. Of a plan: records 0 to n - 1 are the file's, the rest as they were. Of a refusal: as it was
 unfoldable pub table-after : ReadAnswer → List ℕ → List Record → List Record
 table-after (Plan n al) f t = records-of f ++ drop n t
 table-after (Refused k c) f t = t

@@ -3,6 +3,7 @@ pub mod search;
 pub mod sights;
 
 use crate::search::Found;
+use crate::search::SIGHTS;
 use crate::search::search;
 use crate::search::see;
 use crate::sights::look;
@@ -55,7 +56,7 @@ fn lesser(a: u32, b: u32) -> u32
 }
 
 // The greatest right edge less the least x.
-fn width_of(sights: &[u32; 3328], n: usize) -> u32
+fn width_of(sights: &[u32; SIGHTS], n: usize) -> u32
     requires { ⌜ Bounds (view-in (now sights)) n ⌝ }
     ensures { λ r. ⌜ Spread (view-in (now (sights .entry))) n r ⌝ }
 {
@@ -77,7 +78,7 @@ fn judge(t: Columns, positions: &[i32], allowance: u32) -> Checked
     requires { ⌜ Fit (table-of t) × Near (now positions) (t .count) × (allowance ≤ most-allowance) ⌝ }
     ensures { λ r. ⌜ r ≡ answered (answer (table-of t) (placed (now (positions .entry))) allowance) ⌝ }
 {
-    let mut sights = [0u32; 3328];
+    let mut sights = [0u32; SIGHTS];
     look(t, positions, &mut sights);
     let found = search(&sights, t.count, allowance);
     if let Found::Broken(rule, a, b) = found {

@@ -1,5 +1,6 @@
 // The search: each rule in turn, at each pair of cells in turn.
 use plan::limits::FARTHEST;
+use plan::limits::MOST_CELLS;
 ghost use mathlib.Core.Path.{_≡_};
 ghost use Prim.Native.Nat.{_+_, _*_, _^_, _<_};
 ghost use lib.ListN.{getD};
@@ -7,6 +8,8 @@ ghost use Rattle.verdict.specs.Passes.{Sighted, pass1, pass2, pass3, «p
 
 // How many numbers the rules read of a cell. Those of all cells lie in one array, cell after cell: a `View` for each.
 pub const SIGHT: usize = 13;
+
+pub const SIGHTS: usize = SIGHT * MOST_CELLS;
 
 // The numbers of one cell, coordinates moved up so that none is negative.
 pub struct View {
@@ -170,14 +173,14 @@ fn passes(rule: u8, a: usize, b: usize, v: View, w: View, allowance: u32) -> boo
 }
 
 // Number k of the cell c.
-fn number_at(sights: &[u32; 3328], c: usize, k: usize) -> u32
+fn number_at(sights: &[u32; SIGHTS], c: usize, k: usize) -> u32
     requires { ⌜ (c < 256) × (k < sight) ⌝ }
     ensures { λ r. ⌜ r ≡ getD (now (sights .entry)) (sight * c + k) 0 ⌝ }
 {
     sights[SIGHT * c + k]
 }
 
-pub fn see(sights: &[u32; 3328], c: usize) -> View
+pub fn see(sights: &[u32; SIGHTS], c: usize) -> View
     requires { ⌜ c < 256 ⌝ }
     ensures { λ r. ⌜ r ≡ view-in (now (sights .entry)) c ⌝ }
 {
@@ -199,7 +202,7 @@ pub fn see(sights: &[u32; 3328], c: usize) -> View
 }
 
 // A rule at a and each b in turn.
-fn search_row(sights: &[u32; 3328], n: usize, rule: u8, a: usize, allowance: u32) -> Found
+fn search_row(sights: &[u32; SIGHTS], n: usize, rule: u8, a: usize, allowance: u32) -> Found
     requires { ⌜ Sighted (view-in (now sights)) n × (a < n) × (allowance < 2 ^ 31) ⌝ }
     ensures { λ r. ⌜ r ≡ found-of (row-found (view-in (now (sights .entry))) allowance n rule a) ⌝ }
 {
@@ -216,7 +219,7 @@ fn search_row(sights: &[u32; 3328], n: usize, rule: u8, a: usize, allowance: u32
 }
 
 // A rule at each a in turn.
-fn search_rule(sights: &[u32; 3328], n: usize, rule: u8, allowance: u32) -> Found
+fn search_rule(sights: &[u32; SIGHTS], n: usize, rule: u8, allowance: u32) -> Found
     requires { ⌜ Sighted (view-in (now sights)) n × (allowance < 2 ^ 31) ⌝ }
     ensures { λ r. ⌜ r ≡ found-of (rule-found (view-in (now (sights .entry))) allowance n rule) ⌝ }
 {
@@ -232,7 +235,7 @@ fn search_rule(sights: &[u32; 3328], n: usize, rule: u8, allowance: u32) -> Foun
 }
 
 // Each rule in turn: a call for each, so that the compiler makes a loop for each, with no test of the rule at a pair.
-pub fn search(sights: &[u32; 3328], n: usize, allowance: u32) -> Found
+pub fn search(sights: &[u32; SIGHTS], n: usize, allowance: u32) -> Found
     requires { ⌜ Sighted (view-in (now sights)) n × (allowance < 2 ^ 31) ⌝ }
     ensures { λ r. ⌜ r ≡ found-of (all-found (view-in (now (sights .entry))) allowance n) ⌝ }
 {

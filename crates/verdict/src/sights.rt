@@ -1,5 +1,6 @@
 // The columns that the rules read, made of a table and a placement.
 use crate::search::SIGHT;
+use crate::search::SIGHTS;
 use plan::Columns;
 use plan::kinds::appointed;
 use plan::limits::FARTHEST;
@@ -111,7 +112,7 @@ fn heads_of(t: Columns, many: [u32; 256]) -> Heads
 }
 
 // A column's numbers, as number k of their cells.
-fn scatter(column: &[u32; 256], n: usize, k: usize, out: &mut [u32; 3328])
+fn scatter(column: &[u32; 256], n: usize, k: usize, out: &mut [u32; SIGHTS])
     requires { ⌜ (n ≤ 256) × (k < sight) × (length (now out) ≡ 256 * sight) ⌝ }
     ensures { λ _. ⌜ Scattered (now (column .entry) ∷ []) n k (now (out .entry)) (now (out .exit)) ⌝ }
 {
@@ -123,7 +124,7 @@ fn scatter(column: &[u32; 256], n: usize, k: usize, out: &mut [u32; 3328])
 }
 
 // What the rules read of the table.
-fn look_at_tree(t: Columns, out: &mut [u32; 3328])
+fn look_at_tree(t: Columns, out: &mut [u32; SIGHTS])
     requires { ⌜ Fit (table-of t) × (length (now out) ≡ 256 * sight) ⌝ }
     ensures { λ _. ⌜ Tree-seen (table-of t) (t .count) (now (out .entry)) (now (out .exit)) ⌝ }
 {
@@ -140,7 +141,7 @@ fn look_at_tree(t: Columns, out: &mut [u32; 3328])
 }
 
 // What they read of the placement.
-fn look_at_placement(t: Columns, positions: &[i32], out: &mut [u32; 3328])
+fn look_at_placement(t: Columns, positions: &[i32], out: &mut [u32; SIGHTS])
     requires { ⌜ Fit (table-of t) × Near (now positions) (t .count) × (length (now out) ≡ 256 * sight) ⌝ }
     ensures { λ _. ⌜ Placement-seen (table-of t) (now (positions .entry)) (t .count) (now (out .entry)) (now (out .exit)) ⌝ }
 {
@@ -157,7 +158,7 @@ fn look_at_placement(t: Columns, positions: &[i32], out: &mut [u32; 3328])
     scatter(&bottom, t.count, 12, out);
 }
 
-pub fn look(t: Columns, positions: &[i32], out: &mut [u32; 3328])
+pub fn look(t: Columns, positions: &[i32], out: &mut [u32; SIGHTS])
     requires { ⌜ Fit (table-of t) × Near (now positions) (t .count) × (length (now out) ≡ 256 * sight) ⌝ }
     ensures { λ _. ⌜ Looked (table-of t) (placed (now (positions .entry))) (view-in (now (out .exit))) × Sighted (view-in (now (out .exit))) (t .count) ⌝ }
 {
