@@ -31,6 +31,7 @@ use Rattle.marks.specs.Marks.{Markable, zeros-get}
 use Rattle.positions.specs.Written.{written}
 use Rattle.positions.specs.Raised.{Raised, High, Topped}
 use Rattle.drawing.specs.declared.Laid.{Laid}
+use Rattle.drawing.specs.declared.Measures.{Measures}
 use Rattle.drawing.specs.declared.Laid.the-variants.{Sheet, Refused}
 use Rattle.drawing.specs.Laid.{answer, positions-after, scratch-after, Lays}
 
@@ -47,8 +48,8 @@ pub record Placeable (t : Columns) (tops : List ℕ) (s : ℕ) : Type 0 where
   pub scratch : s ≡ scratch-size
 
 -- our sheet is drawn
-pub record Drawn (t : Table) (al : ℕ) (s′ : List ℕ) (ps ps′ : List ℤ) (r : Laid) : Type 0 where
-  pub answers : r ≡ Sheet (plus (width t (sheet t al))) (plus (placement.rows t (sheet t al)))
+pub record Drawn (t : Table) (al : ℕ) (s′ : List ℕ) (ps ps′ : List ℤ) (r : Measures) : Type 0 where
+  pub answers : r ≡ record { width = plus (width t (sheet t al)); rows = plus (placement.rows t (sheet t al)) }
   pub positions : ps′ ≡ written ps (sheet t al) (length t)
   pub scratch : s′ ≡ replicate scratch-size 0
 
@@ -96,7 +97,7 @@ module _ (t : Columns) (fit : Fit (table-of t)) where
         → (s′ : List ℕ) → s′ ≡ replicate scratch-size 0
         → (ps ps′ : List ℤ) → ((p : Placement) → Raised xs (t .count) (p .x) → Topped tops (t .count) (p .y) → ps′ ≡ written ps p (t .count))
         → (w h : ℕ) → pos w ≡ width (table-of t) (sheet (table-of t) al) → h ≡ bottom (table-of t) 0 + 1
-        → Drawn (table-of t) al s′ ps ps′ (Sheet w h)
+        → Drawn (table-of t) al s′ ps ps′ (record { width = w; rows = h })
     drawn al xs r s′ z ps ps′ put w h e f = record {
       answers = cc (ap plus e, f ∙ ap plus (sym (sheet-rows (table-of t) (fit .sound) al (fit .some-cell))));
       positions = rw size (put (sheet (table-of t) al) r (topped al));
@@ -128,12 +129,12 @@ module _ (t : Table) (al : ℕ) (s : List ℕ) (ps : List ℤ) (r : Refusal) (e 
     pub asks : LayoutAsked t al (length s) (length ps)
     asks = layout-asks t al (length s) (length ps) .0 (nothing t al (length s) (length ps) (ap (λ (x : Refusal). x .number) (sym e) ∙ h))
 
-    pub laid : (s′ : List ℕ) (ps′ : List ℤ) (a : Laid) → Drawn t al s′ ps ps′ a → Lays t al s (s′ ++ drop scratch-size s) ps ps′ a
+    pub laid : (s′ : List ℕ) (ps′ : List ℤ) (a : Measures) → Drawn t al s′ ps ps′ a → Lays t al s (s′ ++ drop scratch-size s) ps ps′ (Sheet (a .width) (a .rows))
     unfolding answer positions-after scratch-after
     laid s′ ps′ a d = record {
-      answers = d .answers ∙ rw (← e, eq-eqb (r .number) 0 h);
-      positions = rw (d .answers) (d .positions);
-      scratch = rw (d .answers, d .scratch);
+      answers = ap (λ (m : Measures). Sheet (m .width) (m .rows)) (d .answers) ∙ rw (← e, eq-eqb (r .number) 0 h);
+      positions = d .positions;
+      scratch = rw (d .scratch);
     }
 
 -- ---- an answer that is a sheet: nothing was refused, and its numbers are our sheet's

@@ -27,6 +27,12 @@ pub enum Laid {
     Refused(u8, u16),
 }
 
+// Width and rows of a sheet.
+pub struct Measures {
+    pub width: u32,
+    pub rows: u32,
+}
+
 // Every number becomes 0.
 fn clear(scratch: &mut [u32])
     ensures { λ _. ⌜ now (scratch .exit) ≡ replicate (length (now (scratch .entry))) 0 ⌝ }
@@ -65,7 +71,7 @@ fn place(t: Columns, tops: &[u16; 256], allowance: u32, scratch: &mut [u32]) -> 
 }
 
 // A table that no question refuses is laid out over a scratch of 16,384 numbers.
-fn draw(t: Columns, allowance: u32, scratch: &mut [u32], positions: &mut [i32]) -> Laid
+pub fn draw(t: Columns, allowance: u32, scratch: &mut [u32], positions: &mut [i32]) -> Measures
     requires { ⌜ Drawable (table-of t) (length (now scratch)) (length (now positions)) ⌝ }
     ensures { λ r. ⌜ Drawn (table-of t) allowance (now (scratch .exit)) (now (positions .entry)) (now (positions .exit)) r ⌝ }
 {
@@ -76,10 +82,10 @@ fn draw(t: Columns, allowance: u32, scratch: &mut [u32], positions: &mut [i32]) 
     survey(&t.parent, &t.depth, n, &mut counts, &mut levels, &mut tops);
     let xs = place(t, &tops, allowance, scratch);
     write_positions(&xs, &tops, n, positions);
-    Laid::Sheet(
-        sheet_width(&xs, &t.width, n),
-        sheet_rows(&tops, &t.depth, n),
-    )
+    Measures {
+        width: sheet_width(&xs, &t.width, n),
+        rows: sheet_rows(&tops, &t.depth, n),
+    }
 }
 
 // Layout: the questions, then our sheet.
@@ -90,5 +96,6 @@ pub fn layout(t: Columns, allowance: u32, scratch: &mut [u32], positions: &mut [
     if r.number != 0 {
         return Laid::Refused(r.number, r.cell);
     }
-    draw(t, allowance, &mut scratch[..SCRATCH_SIZE], positions)
+    let drawn = draw(t, allowance, &mut scratch[..SCRATCH_SIZE], positions);
+    Laid::Sheet(drawn.width, drawn.rows)
 }

@@ -3,3 +3,8 @@ pub mod ReadLaws
 pub mod Label
 pub mod LentLaws
 pub mod Demand
+pub mod Decides
+pub mod Given
+pub mod ReadThen
+pub mod Calls
+pub mod WorkedCalls

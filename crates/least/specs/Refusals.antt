@@ -16,11 +16,11 @@ use Rattle.plan.specs.CallLaws.{none-first, each-nothing}
 use Rattle.plan.specs.declared.Refusal.{Refusal}
 
 -- ---- the first "no" of several
-abbrev Passes : Refusal → Type 0
+abbrev pub Passes : Refusal → Type 0
 Passes r = r .number ≡ 0
 
 -- no question has the number 0
-not-zero : (call : Call) → T (mem 0 (puts call)) → ⊥
+pub not-zero : (call : Call) → T (mem 0 (puts call)) → ⊥
 unfolding puts mem some from
 not-zero asked.read h = h
 not-zero asked.label h = h
@@ -29,7 +29,7 @@ not-zero check h = h
 not-zero asked.ends h = h
 
 module _ (call : Call) (g : Given) where
-  abbrev Put : Question → Type 0
+  abbrev pub Put : Question → Type 0
   Put q = T (mem (number q) (puts call))
 
   -- those of the questions that the call puts are answered yes at cell c
@@ -45,7 +45,7 @@ module _ (call : Call) (g : Given) where
   YesSteps [] = Unit {0}
   YesSteps (s ∷ ss) = YesStep s × YesSteps ss
 
-  ask-read : (q : Question) (c : ℕ) → Put q → Passes (ask call g q c) → T (asked.holds call g q c)
+  pub ask-read : (q : Question) (c : ℕ) → Put q → Passes (ask call g q c) → T (asked.holds call g q c)
   unfolding ask asked.asked
   ask-read q c m h = go (asked.holds call g q c) refl h
     where
@@ -53,11 +53,11 @@ module _ (call : Call) (g : Given) where
       go true e h = tt
       go false e h = absurd (not-zero call (rw h at m))
 
-  ask-show : (q : Question) (c : ℕ) → T (asked.holds call g q c) → ask call g q c ≡ none
+  pub ask-show : (q : Question) (c : ℕ) → T (asked.holds call g q c) → ask call g q c ≡ none
   unfolding ask asked.asked
   ask-show q c h = rw (is-true (itself (asked.holds call g q c)) h, ask, asked.asked)
 
-  all-read : (qs : List Question) (c : ℕ) → Passes (ask-all call g qs c) → Yes qs c
+  pub all-read : (qs : List Question) (c : ℕ) → Passes (ask-all call g qs c) → Yes qs c
   unfolding ask-all
   all-read [] c h = tt
   all-read (q ∷ qs) c h = go (mem (number q) (puts call)) refl h (all-read qs c)
@@ -67,7 +67,7 @@ module _ (call : Call) (g : Given) where
       go true e h more = let (a, b) = both-none (ask call g q c) _ h in (λ m. ask-read q c m a, more b)
       go false e h more = (λ m. absurd (rw e at m), more h)
 
-  all-show : (qs : List Question) (c : ℕ) → Yes qs c → ask-all call g qs c ≡ none
+  pub all-show : (qs : List Question) (c : ℕ) → Yes qs c → ask-all call g qs c ≡ none
   unfolding ask-all
   all-show [] c y = refl
   all-show (q ∷ qs) c y = go (mem (number q) (puts call)) refl (all-show qs c (y .1))
@@ -77,22 +77,22 @@ module _ (call : Call) (g : Given) where
       go true e r = rw (ask-show q c (y .0 (rw e tt)), r) (none-first none)
       go false e r = r
 
-  step-read : (s : Step) → Passes (take-step call g s) → YesStep s
+  pub step-read : (s : Step) → Passes (take-step call g s) → YesStep s
   unfolding take-step
   step-read (once q) h = all-read (q ∷ []) 0 h
   step-read (each qs) h = λ c i. all-read qs c (each-none (ask-all call g qs) (length (g .table)) h c i)
 
-  step-show : (s : Step) → YesStep s → take-step call g s ≡ none
+  pub step-show : (s : Step) → YesStep s → take-step call g s ≡ none
   unfolding take-step
   step-show (once q) y = all-show (q ∷ []) 0 y
   step-show (each qs) y = each-same (ask-all call g qs) (λ _. none) (length (g .table)) (λ c i. all-show qs c (y c i)) ∙ each-nothing (λ _. none) 0 (length (g .table)) (λ _. refl)
 
-  steps-read : (ss : List Step) → Passes (take-steps call g ss) → YesSteps ss
+  pub steps-read : (ss : List Step) → Passes (take-steps call g ss) → YesSteps ss
   unfolding take-steps
   steps-read [] h = tt
   steps-read (s ∷ ss) h = let (a, b) = both-none (take-step call g s) _ h in (step-read s a, steps-read ss b)
 
-  steps-show : (ss : List Step) → YesSteps ss → take-steps call g ss ≡ none
+  pub steps-show : (ss : List Step) → YesSteps ss → take-steps call g ss ≡ none
   unfolding take-steps
   steps-show [] y = refl
   steps-show (s ∷ ss) y = rw (step-show s (y .0), steps-show ss (y .1)) (none-first none)

@@ -108,7 +108,7 @@ module _ (f : List ℕ) (h : Headed f) where
   few : n ≤ 256
   few = h .full .few
 
-  same-table : table-of (plan .columns) ≡ cells-of (records-of f)
+  pub same-table : table-of (plan .columns) ≡ cells-of (records-of f)
   unfolding table cells-of records-of columns-of bare
   same-table =
       table-same _ (entry f) 0 n (λ c p q.

@@ -33,7 +33,7 @@ module _ (f : List ℕ) where
   abbrev t : Table
   t = cells-of (records-of f)
 
-  records-length : length (records-of f) ≡ n
+  pub records-length : length (records-of f) ≡ n
   unfolding records-of
   records-length = length-from (entry f) 0 n
 

@@ -6,3 +6,4 @@ pub mod EveryLaws
 pub mod FileLaws
 pub mod ExaminedLaws
 pub mod LabelLaws
+pub mod ReadThen

@@ -1,2 +1,4 @@
 pub mod Printing
 pub mod PrintingLaws
+pub mod TakenLaws
+pub mod Example

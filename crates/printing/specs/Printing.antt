@@ -1,9 +1,9 @@
 -- THE LISTING OF A PLAN FILE (document 01, "Printed"). Assumes nothing.
 use mathlib.Core.Path.{_≡_}
 use mathlib.Core.Bool.{cond}
-use mathlib.Core.List.{List, [], _∷_, map}
+use mathlib.Core.List.{List, [], _∷_, _++_, map}
 use Prim.Native.Nat.{ℕ, _-_, _*_, _≤_}
-use lib.Dec.{eqb}
+use lib.Dec.{eqb, leb}
 use lib.IntN.{ℤ}
 use lib.ListN.{length, take, drop}
 use Rattle.whole.specs.Whole.{plus}
@@ -18,6 +18,8 @@ use Rattle.planfile.specs.Reading.{reading-of, label-part}
 use Rattle.listing.specs.Printed.{Bytes, sheet-line, cell-line, refused-line}
 use Rattle.listing.specs.Line.{line-size}
 use Rattle.listing.specs.declared.Line.{Line}
+use Rattle.printing.specs.declared.Listed.{Listed}
+use Rattle.printing.specs.declared.Listed.the-variants.{Text, Refused}
 
 -- the bytes of a cell's label
 abbrev pub label-of : Bytes → (cell : ℕ) → Bytes
@@ -38,7 +40,7 @@ first-of p = sheet-line (p .columns .count) (p .allowance) (plus (width (cells p
 unfoldable pub cell-of : Reading → (file : Bytes) → (cell : ℕ) → Bytes
 cell-of p f c = cell-line c (ours p .x c) (ours p .y c) (W (cells p) c) (D (cells p) c) (label-of f c)
 
--- all lines, in order. The functions below `print_sheet` give each of them by its definition, and what they write is what they give
+-- all lines, in order
 unfoldable pub listing-of : (file : Bytes) → List Bytes
 listing-of f =
     let p = reading-of f most-cells in
@@ -46,7 +48,52 @@ listing-of f =
     (first-of p ∷ map (cell-of p f) (from 0 (p .columns .count)))
     (refused-line (p .refusal .number) (p .refusal .cell) ∷ [])
 
+-- lines one after another
+unfoldable pub joined : List Bytes → Bytes
+joined [] = []
+joined (l ∷ ls) = l ++ joined ls
+
+-- THE LISTING, every byte of it
+unfoldable pub text-of : (file : Bytes) → Bytes
+text-of f = joined (listing-of f)
+
+-- ---- WHAT THE CALL ANSWERS, and what it leaves in the output lent to it, on every input
+-- bytes that always suffice: 256 lines of 63, and a first one
+abbrev pub listing-size : ℕ
+listing-size = 16384
+
+-- document 01's values of the two answers: the length of the listing; number and cell of the refusal, by question 1, of an output that is too short
+unfoldable pub answer : (file : Bytes) → (room : ℕ) → Listed
+answer f room = cond (leb listing-size room) (Text (length (text-of f))) (Refused 1 0)
+
+-- the lent output after it. Of a listing: the listing, the rest as it was. Of a refusal: as it was
+unfoldable pub out-after : Listed → (file out : Bytes) → Bytes
+out-after (Text n) f out = text-of f ++ drop n out
+out-after (Refused k c) f out = out
+
+-- a call: the answer, and the output before and after it
+pub record Lists (f out out′ : Bytes) (r : Listed) : Type 0 where
+  pub answers : r ≡ answer f (length out)
+  pub bytes : out′ ≡ out-after r f out
+
 -- ---- what the functions ask of each other
+-- the plan that Read gives of a file
+pub record Taken (p : Reading) (f : Bytes) : Type 0 where
+  pub is : p ≡ reading-of f most-cells
+  pub passes : p .refusal .number ≡ 0
+
+-- bytes of a cell's line, at most
+abbrev pub cell-size : ℕ
+cell-size = 63
+
+-- the lines of the first n cells
+unfoldable pub cells-text : Reading → (file : Bytes) → ℕ → Bytes
+cells-text p f n = joined (map (cell-of p f) (from 0 n))
+
+-- the bytes of a line
+abbrev pub text : Line → Bytes
+text l = take (l .length) (l .bytes)
+
 -- positions that are our sheet for the plan
 pub record Placed (p : Reading) (ps : List ℤ) : Type 0 where
   pub few : p .columns .count ≤ most-cells

@@ -1,4 +1,4 @@
--- A plan that Read gives has at most 256 cells, and a label that Label gives at most 40 bytes. Assumes nothing.
+-- A label that Label gives has at most 40 bytes; the lines, from what the code has; our sheet, from what is drawn. Assumes nothing.
 use mathlib.Core.Path.{_≡_, ap}
 use mathlib.Core.List.{List}
 use Prim.Native.Nat.{ℕ, _+_, _*_, _≤_, _<_}
@@ -8,43 +8,24 @@ use lib.Dec.{leb, leb→le, ltb→lt}
 use lib.IntN.{ℤ, pos}
 use lib.ListN.{length, getD, length-take}
 use borrow.Author.Tests.{eq-eqb, ne-eqb}
-use Rattle.whole.specs.Whole.{plus}
 use Rattle.plan.specs.Limits.{most-cells, most-label}
 use Rattle.plan.specs.ColumnLaws.{table-length, width-at, depth-at}
-use Rattle.plan.specs.Questions.{long, read, refusal, asked}
+use Rattle.plan.specs.Questions.{asked}
 use Rattle.plan.specs.QuestionLaws.{both-none, asked-yes, each-none}
 use Rattle.plan.specs.Steps.{cell-refusal}
 use Rattle.plan.specs.StepLaws.{and-left}
-use Rattle.plan.specs.declared.Refusal.{Refusal}
 use Rattle.rules.specs.Placement.{placed}
 use Rattle.positions.specs.WrittenLaws.{written-agree}
-use Rattle.drawing.specs.declared.Laid.{Laid}
-use Rattle.drawing.specs.declared.Laid.the-variants.{Sheet}
-use Rattle.drawing.specs.Laid.{positions-after, Lays}
-use Rattle.drawing.specs.LaidLaws.{sheet-wide, sheet-deep}
+use Rattle.drawing.specs.declared.Measures.{Measures}
+use Rattle.drawing.specs.LaidLaws.{Drawn}
 use Rattle.planfile.specs.declared.Reading.{Reading}
-use Rattle.planfile.specs.Format.{trailer-of, entry, file-given}
-use Rattle.planfile.specs.Reading.{columns-of, reading-of, label-refusal, label-part}
+use Rattle.planfile.specs.Format.{trailer-of, entry}
+use Rattle.planfile.specs.Reading.{label-refusal, label-part}
 use Rattle.planfile.specs.FileSteps.{inside, record-refusal, entry-refusal, header-refusal, body-refusal, file-refusal}
-use Rattle.planfile.specs.FileLaws.{read-refusal, label-refusal-is}
-use Rattle.planfile.specs.ExaminedLaws.{zero-of, header-read}
+use Rattle.planfile.specs.FileLaws.{label-refusal-is}
+use Rattle.planfile.specs.ExaminedLaws.{zero-of}
 use Rattle.listing.specs.Printed.{Bytes, sheet-line, cell-line}
 use Rattle.printing.specs.Printing.{label-of, cells, ours, first-of, cell-of, Placed, Measured}
-
--- a plan that Read gives
-pub few : (f : Bytes) (room : ℕ) → reading-of f room .columns .count ≤ 256
-unfolding reading-of columns-of file-refusal
-few f room = go (ℕ-discrete (r .number) 0)
-  where
-    r : Refusal
-    r = refusal read (file-given f (long room) 0)
-
-    go : Dec (r .number ≡ 0) → reading-of f room .columns .count ≤ 256
-    go (yes z) =
-        let (short, files) = both-none (asked 1 (leb most-cells room) 0) (file-refusal f) (zero-of r _ (read-refusal f room) z) in
-        let (header, body) = both-none (header-refusal f) (body-refusal f) files in
-        rw (eq-eqb (r .number) 0 z) (header-read f header .full .few)
-    go (no z) = rw (ne-eqb (r .number) 0 z) (omega arith)
 
 -- a label
 record-short : (begin c p k w d l s : ℕ) → record-refusal begin c p k w d l s .number ≡ 0 → l ≤ most-label
@@ -85,19 +66,10 @@ cell-is p f ps c h d =
     let (x, y) = d .agree c i in
     rw (x, y, width-at (t .parent) (t .kind) (t .width) (t .depth) (t .count) c h, depth-at (t .parent) (t .kind) (t .width) (t .depth) (t .count) c h)
 
--- ---- our sheet, from what Layout answers
-module _ (p : Reading) (few : p .columns .count ≤ most-cells) {s s′ : List ℕ} {ps ps′ : List ℤ} {r : Laid} {w h : ℕ} (l : Lays (cells p) (p .allowance) s s′ ps ps′ r) (e : r ≡ Sheet w h) where
-  lays : Lays (cells p) (p .allowance) s s′ ps ps′ (Sheet w h)
-  lays = rw e at l
+-- ---- our sheet, from what is drawn
+module _ (p : Reading) (few : p .columns .count ≤ most-cells) {s′ : List ℕ} {ps ps′ : List ℤ} {r : Measures} (d : Drawn (cells p) (p .allowance) s′ ps ps′ r) where
+  pub drawn-placed : 2 * most-cells ≤ length ps′ → Placed p ps′
+  drawn-placed room = record { few = few; room = omega arith; agree = rw (d .positions) (written-agree (ours p) (cells p) ps) }
 
-  pub laid-placed : 2 * most-cells ≤ length ps′ → Placed p ps′
-  unfolding positions-after
-  laid-placed room = record { few = few; room = omega arith; agree = rw (lays .positions) (written-agree (ours p) (cells p) ps) }
-
-  pub laid-measured : Measured p w h
-  laid-measured =
-      record {
-        small = few;
-        wide = ap plus (sheet-wide (cells p) (p .allowance) s s′ ps ps′ w h lays);
-        deep = ap plus (sheet-deep (cells p) (p .allowance) s s′ ps ps′ w h lays);
-      }
+  pub drawn-measured : Measured p (r .width) (r .rows)
+  drawn-measured = record { small = few; wide = ap (λ (m : Measures). m .width) (d .answers); deep = ap (λ (m : Measures). m .rows) (d .answers) }

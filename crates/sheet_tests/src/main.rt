@@ -1,4 +1,6 @@
 // Prints the sheet of each plan file on standard input. A file comes after its length, a number of two bytes, low byte first.
+use printing::LISTING_SIZE;
+
 fn number(low: u8, high: u8) -> usize {
     (low as usize) + 256 * (high as usize)
 }
@@ -16,7 +18,9 @@ fn print_file(space: &[u8], size: usize) {
     if space.len() < size {
         return;
     }
-    printing::print_sheet(&space[..size]);
+    let mut out = [0u8; LISTING_SIZE];
+    let length = printing::write_listing(&space[..size], &mut out);
+    io::write_all(1, &out[..length]);
 }
 
 // The next file; false where the input has ended.

@@ -1,0 +1,118 @@
+-- THE THREE DEMANDS AT THE CALLS: statements only; each proof is one name. A reader needs the definitions of crate plan (sequence, puts, holds), of crate
+-- rules (placement, S1 to S5, verdict), `sheet`, and what each call answers: Reads, Lays, checked-of, label-of. Every call's contract is one of these
+-- four, so what is said of them is said of what the call answers and leaves in the lent buffers. Assumes nothing.
+use mathlib.Core.Path.{_≡_}
+use mathlib.Core.List.{List, [], _∷_, _++_, map}
+use mathlib.Core.Logic.{_↔_}
+use Prim.Native.Nat.{ℕ, _*_, _≤_, _<_}
+use lib.ListN.{length, getD, take, drop}
+use lib.IntN.{ℤ, _-ℤ_}
+use Rattle.plan.specs.Limits.{scratch-size}
+use Rattle.plan.specs.Plan.{Table, Is}
+use Rattle.plan.specs.Records.{cells-of}
+use Rattle.plan.specs.Questions.{Call, Given, layout, check, none, sequence, refusal, layout-given, check-given}
+use Rattle.plan.specs.declared.Record.{Record}
+use Rattle.rules.specs.Placement.{Placement, placed}
+use Rattle.rules.specs.Rules.{Keeps}
+use Rattle.rules.specs.Verdict.{Breaks}
+use Rattle.least.specs.Refusals.{YesSteps}
+use Rattle.least.specs.FirstNo as first
+use Rattle.least.specs.FirstNo.{FirstNo}
+use Rattle.least.specs.Alike.{Alike, Twins}
+use Rattle.least.specs.Theorems.{NoLess}
+use Rattle.least.specs.Worked.{sheets}
+use Rattle.planfile.specs.Format.{trailer-of, records-of}
+use Rattle.planfile.specs.Reading.{label-refusal}
+use Rattle.drawing.specs.Laid.{Lays}
+use Rattle.drawing.specs.Promised as promised
+use Rattle.drawing.specs.declared.Laid.{Laid}
+use Rattle.drawing.specs.declared.Laid.the-variants.{Sheet}
+use Rattle.drawing.specs.declared.Laid.the-variants as laid
+use Rattle.verdict.specs.Checked.{checked-of}
+use Rattle.verdict.specs.declared.Checked.the-variants.{Kept, Broken}
+use Rattle.engine.specs.declared.ReadAnswer.{ReadAnswer}
+use Rattle.engine.specs.declared.ReadAnswer.the-variants.{Plan, Refused}
+use Rattle.engine.specs.Read.{read-refusal, Reads}
+use Rattle.engine.specs.Label.{label-of}
+use Rattle.engine.specs.Decides as decides
+use Rattle.engine.specs.Decides.{Judged}
+use Rattle.engine.specs.Given as given
+use Rattle.engine.specs.Given.{Gives}
+use Rattle.engine.specs.ReadThen as then
+use Rattle.engine.specs.Demand as demand
+use Rattle.engine.specs.WorkedCalls as worked-calls
+use Rattle.engine.specs.WorkedCalls.{called, due}
+
+-- ==== DEMAND 1: A CALL REFUSES BY THE FIRST "NO"
+-- The refusal is number k at cell c exactly where a question of that number, at that cell, is the first "no" of the sequence.
+pub first-no : (call : Call) (g : Given) (k c : ℕ) → 1 ≤ k → (refusal call g ≡ record { number = k; cell = c }) ↔ FirstNo call g k c
+first-no = first.first-no
+
+-- There is none exactly where there is no "no".
+pub no-no : (call : Call) (g : Given) → (refusal call g ≡ none) ↔ YesSteps call g sequence
+no-no = first.no-no
+
+-- A refusal is answered by its number and cell, and leaves the lent buffers as they were. (Check, Ends and Label are lent nothing to write.)
+pub read-refuses : (f : List ℕ) (t t′ : List Record) (r : ReadAnswer) → Reads f t t′ r → ¬ (read-refusal f (length t) .number ≡ 0)
+    → (r ≡ Refused (read-refusal f (length t) .number) (read-refusal f (length t) .cell)) × (t′ ≡ t)
+read-refuses = then.unchanged
+
+pub layout-refuses : (t : Table) (al : ℕ) (s s′ : List ℕ) (ps ps′ : List ℤ) (r : Laid) → Lays t al s s′ ps ps′ r
+    → ¬ (refusal layout (layout-given t al (length s) (length ps)) .number ≡ 0)
+    → (r ≡ laid.Refused (refusal layout (layout-given t al (length s) (length ps)) .number) (refusal layout (layout-given t al (length s) (length ps)) .cell)) × (ps′ ≡ ps) × (s′ ≡ s)
+layout-refuses = given.unchanged
+
+-- ==== WHERE NO QUESTION REFUSES
+-- Read gives n and the allowance, and the file's records in the first n of the table, the rest as they were.
+pub read-gives : (f : List ℕ) (t t′ : List Record) (r : ReadAnswer) → Reads f t t′ r → read-refusal f (length t) ≡ none
+    → (r ≡ Plan (trailer-of f .count) (trailer-of f .allowance)) × (t′ ≡ records-of f ++ drop (trailer-of f .count) t)
+read-gives = then.gives
+
+-- Layout gives our sheet, its width and its rows.
+pub layout-gives : (t : Table) (al : ℕ) (s s′ : List ℕ) (ps ps′ : List ℤ) (r : Laid) → Lays t al s s′ ps ps′ r
+    → refusal layout (layout-given t al (length s) (length ps)) ≡ none → Gives t al s s′ ps ps′ r
+layout-gives = given.gives
+
+-- Check answers "kept" exactly where the placement keeps S1 to S5, with its width and rows; "broken" exactly where that is the lowest rule and pair broken.
+pub check-decides : (t : Table) (al : ℕ) (ps : List ℤ) → refusal check (check-given t al ps) ≡ none
+    → ((w h : ℕ) → (checked-of t ps al ≡ Kept w h) ↔ Judged t (placed ps) al w h) × ((r a b : ℕ) → (checked-of t ps al ≡ Broken r a b) ↔ Breaks t (placed ps) al r a b)
+check-decides t al ps z = (decides.kept-iff t al ps z, decides.broken-iff t al ps z)
+
+-- ---- one call after another
+-- What Read gives, Label refuses for no cell of it; the label is the part of the file that the cell's record says.
+pub read-then-label : (f : List ℕ) (t t′ : List Record) (n al : ℕ) → Reads f t t′ (Plan n al) → (c : ℕ) → c < n → (d : Record)
+    → (label-refusal f c ≡ none) × (label-of f c ≡ take (getD t′ c d .«label_length») (drop (getD t′ c d .«label_start») f))
+read-then-label = then.then-label
+
+-- What Read gives, Layout does not refuse, with long enough buffers.
+pub read-then-layout : (f : List ℕ) (t t′ : List Record) (n al : ℕ) → Reads f t t′ (Plan n al) → (s p : ℕ) → scratch-size ≤ s → 2 * n ≤ p
+    → refusal layout (layout-given (cells-of (take n t′)) al s p) ≡ none
+read-then-layout = then.then-layout
+
+-- ==== DEMANDS 2 AND 3, of what Layout writes
+module _ (t : Table) (al : ℕ) (s s′ : List ℕ) (ps ps′ : List ℤ) (w h : ℕ) (l : Lays t al s s′ ps ps′ (Sheet w h)) where
+  -- it keeps S1 to S5,
+  pub layout-keeps : Keeps t (placed ps′) al
+  layout-keeps = promised.promised t al s s′ ps ps′ w h l .keeps
+
+  -- of all placements that keep them none is anywhere less,
+  pub layout-least : (p : Placement) → Keeps t p al → NoLess t (placed ps′) p
+  layout-least = promised.promised t al s s′ ps ps′ w h l .least
+
+  -- Check accepts it, with the same width and rows,
+  pub layout-accepted : checked-of t ps′ al ≡ Kept w h
+  layout-accepted = demand.layout-accepted t al s s′ ps ps′ w h l
+
+  -- and no sheet that Check accepts is narrower or has other rows.
+  pub none-narrower : (qs : List ℤ) (v k : ℕ) → checked-of t qs al ≡ Kept v k → (w ≤ v) × (k ≡ h)
+  none-narrower = demand.none-narrower t al s s′ ps ps′ w h l
+
+-- Two Layouts under one allowance: subtrees of equal shape, widths and depths, of one table or of two, differ by a shift only (000's Bd5).
+pub layout-alike : (t u : Table) (al : ℕ) (s s′ v v′ : List ℕ) (ps ps′ qs qs′ : List ℤ) (w h y k : ℕ) → Lays t al s s′ ps ps′ (Sheet w h) → Lays u al v v′ qs qs′ (Sheet y k)
+    → (a b : ℕ) → Is t a → Is u b → Alike t u (a ∷ []) (b ∷ []) → (c d : ℕ) → Twins t u (a ∷ []) (b ∷ []) c d
+    → (placed ps′ .x c -ℤ placed ps′ .x a ≡ placed qs′ .x d -ℤ placed qs′ .x b) × (placed ps′ .y c -ℤ placed ps′ .y a ≡ placed qs′ .y d -ℤ placed qs′ .y b)
+layout-alike = given.alike-written
+
+-- ==== THE WORKED SHEETS ◆A to ◆J, and five more, lent to Check with its questions: it answers what document 01 has.
+pub worked : map called sheets ≡ map due sheets
+worked = worked-calls.worked-calls
