@@ -1,11 +1,11 @@
 -- WHAT READ ANSWERS, and what it leaves in the table lent to it, on every input. Assumes nothing.
 use mathlib.Core.Path.{_≡_}
 use mathlib.Core.Bool.{cond}
-use mathlib.Core.List.{List, _++_}
+use mathlib.Core.List.{List, [], _∷_, _++_}
 use Prim.Native.Nat.{ℕ}
 use lib.Dec.{eqb}
 use lib.ListN.{length, drop}
-use Rattle.plan.specs.Questions.{long, read, refusal}
+use Rattle.plan.specs.Questions.{to-fill, nothing, read, refusal}
 use Rattle.plan.specs.declared.Record.{Record}
 use Rattle.plan.specs.declared.Refusal.{Refusal}
 use Rattle.planfile.specs.Format.{trailer-of, records-of, file-given}
@@ -14,7 +14,7 @@ use Rattle.engine.specs.declared.ReadAnswer.the-variants.{Plan, Refused}
 
 -- the refusal, for a table to fill of so many records
 abbrev pub read-refusal : List ℕ → (room : ℕ) → Refusal
-read-refusal f room = refusal read (file-given f (long room) 0)
+read-refusal f room = refusal read (file-given f (to-fill room ∷ []) nothing)
 
 -- document 01's values of the two answers: n and the allowance; number and cell of the refusal
 unfoldable pub answer : List ℕ → Refusal → ReadAnswer

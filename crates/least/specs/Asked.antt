@@ -17,7 +17,7 @@ use Rattle.plan.specs.Kinds.{about, known, allows}
 use Rattle.plan.specs.Fit.{Fit}
 use Rattle.plan.specs.StepLaws.{lower-read}
 use Rattle.plan.specs.Questions as asked
-use Rattle.plan.specs.Questions.{Lent, absent, long, lent, Call, Given, cells-counted, parent-lower, kind-known, box-sized, label-inside, label-fits, coordinates-near, cell-named, layout, check, number, puts, sequence, enough, in-file, lower, sized, near, none, refusal, layout-given, check-given}
+use Rattle.plan.specs.Questions.{Buffer, scratch, Lent, long, lent, Subject, nothing, Call, Given, cells-counted, parent-lower, kind-known, box-sized, label-inside, label-fits, coordinates-near, cell-named, layout, check, number, puts, sequence, roomy, all-roomy, enough, in-file, lower, sized, near, none, refusal, layout-given, check-given}
 use Rattle.plan.specs.declared.kinds.Lookup.{Lookup}
 use Rattle.plan.specs.declared.kinds.Lookup.the-variants.{Known, Unknown}
 use Rattle.rules.specs.Placement.{Inside}
@@ -69,14 +69,14 @@ record Lends (call : Call) : Type 0 where
   twelve : T (mem 12 (puts call))
   thirteen : T (mem 13 (puts call))
 
-module _ (call : Call) (t : Table) (al : ℕ) (s p : Lent) (ps : List ℤ) (cell : ℕ) where
+module _ (call : Call) (t : Table) (al : ℕ) (bs : List Buffer) (p : Lent) (ps : List ℤ) (s : Subject) where
   abbrev given : Given
-  given = record { source = lent; table = t; allowance = al; to-fill = absent; scratch = s; positions = p; coordinates = ps; named = cell }
+  given = record { source = lent; table = t; allowance = al; buffers = bs; positions = p; coordinates = ps; subject = s }
 
   -- each of them answered yes, and those of the others that the call puts
   record Granted : Type 0 where
     table : Asked t
-    scratch : T (enough s scratch-size)
+    buffers : T (all-roomy bs)
     positions : T (enough p (2 * length t))
     allowance : T (mem 14 (puts call)) → al ≤ most-allowance
     near-all : T (mem 15 (puts call)) → (c : ℕ) → Is t c → Inside (getD ps (2 * c) (pos 0)) × Inside (getD ps (2 * c + 1) (pos 0))
@@ -115,7 +115,7 @@ module _ (call : Call) (t : Table) (al : ℕ) (s p : Lent) (ps : List ℤ) (cell
           };
           root = says-eq _ _ .read (unfold lower in records 0 (count .0) .0 (l .six));
         };
-        scratch = y .0 .0 (l .one);
+        buffers = y .0 .0 (l .one);
         positions = after .0 .0 (l .one);
         allowance = λ h. says-le _ _ .read (more .1 .1 .1 .0 .0 h);
         near-all = λ h c i. says-inside c .read (more .1 .1 .1 .1 .0 c i .0 h);
@@ -137,7 +137,7 @@ module _ (call : Call) (t : Table) (al : ℕ) (s p : Lent) (ps : List ℤ) (cell
   yes g =
       let f = g .table .fit in
       let count = says-counted .show (f .some-cell, f .not-too-many) in
-      answered (g .scratch)
+      answered (g .buffers)
       and answered tt
       and answered tt
       and answered count
@@ -170,18 +170,22 @@ pub record LayoutAsked (t : Table) (al s p : ℕ) : Type 0 where
   pub scratch : scratch-size ≤ s
   pub positions : 2 * length t ≤ p
 
+says-roomy : (s : ℕ) → Says (all-roomy (scratch s ∷ [])) (scratch-size ≤ s)
+unfolding all-roomy roomy
+says-roomy s = that-is (both (says-le scratch-size s) (itself true)) (λ h. h .0) (λ h. (h, tt))
+
 pub layout-asks : (t : Table) (al s p : ℕ) → (refusal layout (layout-given t al s p) ≡ none) ↔ LayoutAsked t al s p
 unfolding layout-given puts mem some enough asked.holds
-layout-asks t al s p = (λ e. there (grants layout t al (long s) (long p) [] 0 layout-lends .0 e), λ a. grants layout t al (long s) (long p) [] 0 layout-lends .1 (back a))
+layout-asks t al s p = (λ e. there (grants layout t al (scratch s ∷ []) (long p) [] nothing layout-lends .0 e), λ a. grants layout t al (scratch s ∷ []) (long p) [] nothing layout-lends .1 (back a))
   where
-    there : Granted layout t al (long s) (long p) [] 0 → LayoutAsked t al s p
-    there g = record { table = g .table; allowance = g .allowance tt; scratch = says-le _ _ .read (g .scratch); positions = says-le _ _ .read (g .positions) }
+    there : Granted layout t al (scratch s ∷ []) (long p) [] nothing → LayoutAsked t al s p
+    there g = record { table = g .table; allowance = g .allowance tt; scratch = says-roomy s .read (g .buffers); positions = says-le _ _ .read (g .positions) }
 
-    back : LayoutAsked t al s p → Granted layout t al (long s) (long p) [] 0
+    back : LayoutAsked t al s p → Granted layout t al (scratch s ∷ []) (long p) [] nothing
     back a =
         record {
           table = a .table;
-          scratch = says-le _ _ .show (a .scratch);
+          buffers = says-roomy s .show (a .scratch);
           positions = says-le _ _ .show (a .positions);
           allowance = λ _. a .allowance;
           near-all = λ h. absurd h;
@@ -196,17 +200,17 @@ pub record CheckAsked (t : Table) (al : ℕ) (ps : List ℤ) : Type 0 where
   pub near-all : (c : ℕ) → Is t c → Inside (getD ps (2 * c) (pos 0)) × Inside (getD ps (2 * c + 1) (pos 0))
 
 pub check-asks : (t : Table) (al : ℕ) (ps : List ℤ) → (refusal check (check-given t al ps) ≡ none) ↔ CheckAsked t al ps
-unfolding check-given puts mem some enough asked.holds
-check-asks t al ps = (λ e. there (grants check t al absent (long (length ps)) ps 0 check-lends .0 e), λ a. grants check t al absent (long (length ps)) ps 0 check-lends .1 (back a))
+unfolding check-given puts mem some all-roomy enough asked.holds
+check-asks t al ps = (λ e. there (grants check t al [] (long (length ps)) ps nothing check-lends .0 e), λ a. grants check t al [] (long (length ps)) ps nothing check-lends .1 (back a))
   where
-    there : Granted check t al absent (long (length ps)) ps 0 → CheckAsked t al ps
+    there : Granted check t al [] (long (length ps)) ps nothing → CheckAsked t al ps
     there g = record { table = g .table; allowance = g .allowance tt; positions = says-le _ _ .read (g .positions); near-all = g .near-all tt }
 
-    back : CheckAsked t al ps → Granted check t al absent (long (length ps)) ps 0
+    back : CheckAsked t al ps → Granted check t al [] (long (length ps)) ps nothing
     back a =
         record {
           table = a .table;
-          scratch = tt;
+          buffers = tt;
           positions = says-le _ _ .show (a .positions);
           allowance = λ _. a .allowance;
           near-all = λ _. a .near-all;

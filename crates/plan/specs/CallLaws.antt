@@ -9,12 +9,12 @@ use lib.Dec.{leb, ltb}
 use lib.ListN.{length, getD}
 use lib.IntN.{ℤ, pos}
 use Rattle.plan.specs.declared.Refusal.{Refusal}
-use Rattle.plan.specs.Limits.{between, most-cells, scratch-size, most-allowance}
+use Rattle.plan.specs.Limits.{between, most-cells, scratch-size, listing-size, most-allowance}
 use Rattle.plan.specs.Lists.{from, some, mem}
 use Rattle.plan.specs.Plan.{Table, parent, kind, W, D}
 use Rattle.plan.specs.Kinds.{known}
-use Rattle.plan.specs.Questions.{Call, Given, Question, parent-lower, kind-known, box-sized, label-inside, label-fits, children-allowed, level-low, rows-few, buffers-long, file-sized, file-marked, cells-counted, positions-long, letters-printable, allowance-small, cell-named, root-too, coordinates-near, enough, in-file, once, each, sequence, take-steps, puts, number, holds, lower, ask, ask-all, take-step}
-use Rattle.plan.specs.Questions.{none, asked, or-else, at-each, near, refusal, layout, check, ends, layout-given, check-given, ends-given}
+use Rattle.plan.specs.Questions.{Call, Given, Question, parent-lower, kind-known, box-sized, label-inside, label-fits, children-allowed, level-low, rows-few, buffers-long, file-sized, file-marked, cells-counted, positions-long, letters-printable, allowance-small, cell-named, root-too, coordinates-near, roomy, all-roomy, enough, in-table, in-file, once, each, sequence, take-steps, puts, number, holds, lower, ask, ask-all, take-step}
+use Rattle.plan.specs.Questions.{none, asked, or-else, at-each, near, refusal, layout, check, ends, list, layout-given, check-given, ends-given, list-given}
 use Rattle.plan.specs.QuestionLaws.{first-none, first-some, each-same}
 use Rattle.plan.specs.Steps.{cell-refusal, cells-refusal, children-refusal, levels-refusal, rows-refusal, tree-refusal, table-refusal, lent-refusal, near-refusal}
 
@@ -146,11 +146,11 @@ module _ (t : Table) where
   layout-puts = record { p6 = refl; p7 = refl; p8 = refl; p9 = refl; p10 = refl; treed = record { p11 = refl; p12 = refl; p13 = refl } }
 
   pub layout-refusal : (al s p : ℕ) → refusal layout (layout-given t al s p) ≡ or-else (asked 1 (leb scratch-size s) 0) (or-else (lent-refusal t p) (asked 14 (leb al most-allowance) 0))
-  unfolding refusal sequence take-steps number puts mem some from holds enough in-file layout-given
+  unfolding refusal sequence take-steps number puts mem some from holds roomy all-roomy enough in-file layout-given
   layout-refusal al s p =
       let g = layout-given t al s p in
       simp (
-        once-put layout g buffers-long 0 (leb scratch-size s) refl refl refl,
+        once-put layout g buffers-long 0 (leb scratch-size s) refl (and-true _) refl,
         once-none layout g file-sized refl,
         once-none layout g file-marked refl,
         once-put layout g cells-counted 3 (between 1 most-cells (length t)) refl (and-true _) refl,
@@ -170,7 +170,7 @@ module _ (t : Table) where
   check-puts = record { p6 = refl; p7 = refl; p8 = refl; p9 = refl; p10 = refl; treed = record { p11 = refl; p12 = refl; p13 = refl } }
 
   pub check-refusal : (al : ℕ) (ps : List ℤ) → refusal check (check-given t al ps) ≡ or-else (lent-refusal t (length ps)) (or-else (asked 14 (leb al most-allowance) 0) (near-refusal ps (length t)))
-  unfolding refusal sequence take-steps number puts mem some from holds enough in-file check-given
+  unfolding refusal sequence take-steps number puts mem some from holds all-roomy enough in-file check-given
   check-refusal al ps =
       let g = check-given t al ps in
       simp (
@@ -196,7 +196,7 @@ module _ (t : Table) where
 
   pub ends-refusal : (ps : List ℤ) (c : ℕ) → refusal ends (ends-given t ps c)
       ≡ or-else (lent-refusal t (length ps)) (or-else (near-refusal ps (length t)) (asked 16 (ltb c (length t) && ltb 0 c) 0))
-  unfolding refusal sequence take-steps number puts mem some from holds enough in-file ends-given root-too
+  unfolding refusal sequence take-steps number puts mem some from holds all-roomy enough in-table in-file ends-given root-too
   ends-refusal ps c =
       let g = ends-given t ps c in
       simp (
@@ -215,3 +215,22 @@ module _ (t : Table) where
         asked-true 0 0,
         asked-last 15 (ltb c (length t) && ltb 0 c) 0,
       )
+
+-- the listing puts one question, and has no table to put the others to
+pub list-refusal : (room : ℕ) → refusal list (list-given room) ≡ asked 1 (leb listing-size room) 0
+unfolding refusal sequence take-steps take-step at-each number puts mem some holds roomy all-roomy enough list-given
+list-refusal room =
+    let g = list-given room in
+    simp (
+      once-put list g buffers-long 0 (leb listing-size room) refl (and-true _) refl,
+      once-none list g file-sized refl,
+      once-none list g file-marked refl,
+      once-none list g cells-counted refl,
+      once-put list g positions-long 0 true refl refl refl,
+      once-none list g letters-printable refl,
+      once-none list g allowance-small refl,
+      once-none list g cell-named refl,
+      none-first,
+      asked-true 0 0,
+      asked-last 0 (leb listing-size room) 0,
+    )

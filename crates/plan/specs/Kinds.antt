@@ -1,6 +1,7 @@
 -- The kinds: how many children each allows, and its border. Assumes nothing.
 use mathlib.Core.Bool.{Bool, true, false}
-use Prim.Native.Nat.{ℕ, zero, suc}
+use Prim.Native.Nat.{ℕ, zero, suc, _+_}
+use lib.Dec.{leb}
 use Rattle.plan.specs.Limits.{between, most-children}
 use Rattle.plan.specs.declared.kinds.Lookup.{Lookup}
 use Rattle.plan.specs.declared.kinds.Lookup.the-variants.{Known, Unknown}
@@ -23,6 +24,6 @@ known k = elim (about k) [ Known r ↦ true | Unknown ↦ false ]
 unfoldable pub allows : ℕ → ℕ → Bool
 allows k n = elim (about k) [ Known r ↦ between (r .fewest) (r .most) n | Unknown ↦ false ]
 
--- question 10: "border", the least units that the width must exceed the label by
-unfoldable pub border-of : ℕ → ℕ
-border-of k = elim (about k) [ Known r ↦ r .border | Unknown ↦ 0 ]
+-- question 10: a box of width w holds a label of n bytes and the kind's border, the least units that the width must exceed the label by
+unfoldable pub bordered : (kind n w : ℕ) → Bool
+bordered k n w = elim (about k) [ Known r ↦ leb (n + r .border) w | Unknown ↦ false ]

@@ -42,6 +42,10 @@ farthest = 65535
 abbrev pub scratch-size : ℕ
 scratch-size = 16384
 
+-- bytes of an output for a listing (question 1): more than the longest has
+abbrev pub listing-size : ℕ
+listing-size = 17408
+
 -- bytes of a file (question 2)
 abbrev pub least-file : ℕ
 least-file = 16

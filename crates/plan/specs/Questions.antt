@@ -7,17 +7,26 @@ use lib.ListN.{length, getD}
 use lib.Dec.{eqb, leb, ltb}
 use lib.IntN.{ℤ, pos}
 use Rattle.whole.specs.Range.{within}
-use Rattle.plan.specs.Limits.{between, most-cells, most-width, most-depth, most-level, last-row, most-allowance, farthest, scratch-size, least-file, most-file, file-mark, record-size, trailer-size, first-letter, last-letter, most-label, no-parent}
+use Rattle.plan.specs.Limits.{between, most-cells, most-width, most-depth, most-level, last-row, most-allowance, farthest, scratch-size, listing-size, least-file, most-file, file-mark, record-size, trailer-size, first-letter, last-letter, most-label, no-parent}
 use Rattle.plan.specs.Lists.{from, mem}
 use Rattle.plan.specs.Plan.{Table, parent, kind, W, D, children, level, row}
-use Rattle.plan.specs.Kinds.{known, allows, border-of}
+use Rattle.plan.specs.Kinds.{known, allows, bordered}
 use Rattle.plan.specs.declared.Refusal.{Refusal}
 
 -- ---- what a call is given
--- the length of a lent buffer, where the call has that buffer
+-- a lent buffer of a length that question 1 asks for, with the length that it has: a table to fill, Layout's scratch, the output of a listing
+pub data Buffer : Type 0 where
+  to-fill scratch output : ℕ → Buffer
+
+-- the length of the positions, where the call has them
 pub data Lent : Type 0 where
   absent : Lent
   long : ℕ → Lent
+
+-- what a call is asked about besides: a cell that is named
+pub data Subject : Type 0 where
+  nothing : Subject
+  named : ℕ → Subject
 
 -- the part of the file's label bytes that is a cell's label
 pub record Label : Type 0 where
@@ -43,12 +52,11 @@ pub record Given : Type 0 where
   pub source : Source
   pub table : Table
   pub allowance : ℕ
-  -- a table to fill, Layout's scratch, positions: their lengths; and the numbers in the positions
-  pub to-fill : Lent
-  pub scratch : Lent
+  pub buffers : List Buffer
+  -- the length of the positions, and the numbers in them
   pub positions : Lent
   pub coordinates : List ℤ
-  pub named : ℕ
+  pub subject : Subject
 
 -- ---- the sequence
 pub data Question : Type 0 where
@@ -100,7 +108,7 @@ sequence =
 
 -- ---- the calls
 pub data Call : Type 0 where
-  read label layout check ends : Call
+  read label layout check ends list : Call
 
 -- the numbers of the questions that a call puts
 unfoldable pub puts : Call → List ℕ
@@ -109,6 +117,8 @@ puts label = from 2 13 ++ 16 ∷ []
 puts layout = 1 ∷ 4 ∷ 6 ∷ 7 ∷ 8 ∷ 11 ∷ 12 ∷ 13 ∷ 14 ∷ []
 puts check = 1 ∷ 4 ∷ 6 ∷ 7 ∷ 8 ∷ 11 ∷ 12 ∷ 13 ∷ 14 ∷ 15 ∷ []
 puts ends = 1 ∷ 4 ∷ 6 ∷ 7 ∷ 8 ∷ 11 ∷ 12 ∷ 13 ∷ 15 ∷ 16 ∷ []
+-- what is wrong with the file it prints, as document 01 says
+puts list = 1 ∷ []
 
 -- whether the root may be named
 unfoldable pub root-too : Call → Bool
@@ -117,8 +127,18 @@ root-too read = true
 root-too label = true
 root-too layout = true
 root-too check = true
+root-too list = true
 
 -- ---- what each question asks
+unfoldable pub roomy : Buffer → Bool
+roomy (to-fill m) = leb most-cells m
+roomy (scratch m) = leb scratch-size m
+roomy (output m) = leb listing-size m
+
+unfoldable pub all-roomy : List Buffer → Bool
+all-roomy [] = true
+all-roomy (b ∷ bs) = roomy b && all-roomy bs
+
 unfoldable pub enough : Lent → ℕ → Bool
 enough absent n = true
 enough (long m) n = leb n m
@@ -150,10 +170,15 @@ sized w d = between 1 most-width w && between 1 most-depth d
 unfoldable pub near : ℤ → Bool
 near z = within farthest z
 
+-- question 16: is cell c one of n, and not the root where the root may not be named
+unfoldable pub in-table : (root : Bool) → (n : ℕ) → Subject → Bool
+in-table root n nothing = true
+in-table root n (named c) = ltb c n && cond root true (ltb 0 c)
+
 module _ (call : Call) (g : Given) where
   -- the answer, at cell c where the question is put to each cell
   unfoldable pub holds : Question → ℕ → Bool
-  holds buffers-long c = enough (g .to-fill) most-cells && enough (g .scratch) scratch-size
+  holds buffers-long c = all-roomy (g .buffers)
   holds file-sized c = in-file (g .source) (λ f. between least-file most-file (f .size))
   holds file-marked c = in-file (g .source) (λ f. eqb (f .mark) file-mark)
   holds cells-counted c =
@@ -166,13 +191,13 @@ module _ (call : Call) (g : Given) where
   holds box-sized c = sized (W (g .table) c) (D (g .table) c)
   holds label-inside c =
       in-file (g .source) (λ f. leb (label-of f c .size) most-label && leb (label-of f c .start + label-of f c .size) (f .begin))
-  holds label-fits c = in-file (g .source) (λ f. leb (label-of f c .size + border-of (kind (g .table) c)) (W (g .table) c))
+  holds label-fits c = in-file (g .source) (λ f. bordered (kind (g .table) c) (label-of f c .size) (W (g .table) c))
   holds children-allowed c = allows (kind (g .table) c) (length (children (g .table) c))
   holds level-low c = leb (level (g .table) c) most-level
   holds rows-few c = leb (row (g .table) c + D (g .table) c) last-row
   holds allowance-small c = leb (g .allowance) most-allowance
   holds coordinates-near c = near (getD (g .coordinates) (2 * c) (pos 0)) && near (getD (g .coordinates) (2 * c + 1) (pos 0))
-  holds cell-named c = ltb (g .named) (length (g .table)) && cond (root-too call) true (ltb 0 (g .named))
+  holds cell-named c = in-table (root-too call) (length (g .table)) (g .subject)
 
 -- ---- the first "no"
 -- nothing refused: 0 and 0
@@ -216,12 +241,16 @@ module _ (call : Call) (g : Given) where
 -- ---- what the calls on a lent table are given
 unfoldable pub layout-given : Table → (allowance scratch positions : ℕ) → Given
 layout-given t al s p =
-    record { source = lent; table = t; allowance = al; to-fill = absent; scratch = long s; positions = long p; coordinates = []; named = 0 }
+    record { source = lent; table = t; allowance = al; buffers = scratch s ∷ []; positions = long p; coordinates = []; subject = nothing }
 
 unfoldable pub check-given : Table → (allowance : ℕ) → (positions : List ℤ) → Given
 check-given t al ps =
-    record { source = lent; table = t; allowance = al; to-fill = absent; scratch = absent; positions = long (length ps); coordinates = ps; named = 0 }
+    record { source = lent; table = t; allowance = al; buffers = []; positions = long (length ps); coordinates = ps; subject = nothing }
 
 unfoldable pub ends-given : Table → (positions : List ℤ) → (named : ℕ) → Given
 ends-given t ps c =
-    record { source = lent; table = t; allowance = 0; to-fill = absent; scratch = absent; positions = long (length ps); coordinates = ps; named = c }
+    record { source = lent; table = t; allowance = 0; buffers = []; positions = long (length ps); coordinates = ps; subject = named c }
+
+-- what a listing is given, of which a question asks: an output of so many bytes
+unfoldable pub list-given : (output : ℕ) → Given
+list-given room = record { source = lent; table = []; allowance = 0; buffers = output room ∷ []; positions = absent; coordinates = []; subject = nothing }

@@ -4,7 +4,7 @@ use crate::limits::between;
 ghost use mathlib.Core.Path.{_≡_};
 ghost use Prim.Native.Nat.{ℕ, _^_, _<_};
 ghost use Rattle.plan.specs.Plan.{appointed};
-ghost use Rattle.plan.specs.Kinds.{about, known, allows, «border-of»};
+ghost use Rattle.plan.specs.Kinds.{about, known, allows, bordered};
 
 // What a kind allows: from how many children to how many; and its border.
 pub struct Kind {
@@ -61,13 +61,13 @@ pub fn allows(kind: u8, children: u16) -> bool
     }
 }
 
-// Question 10: the least units that the width must exceed the label by.
-pub fn border(kind: u8) -> u8
-    ensures { λ r. ⌜ r ≡ border-of kind ⌝ }
+// Question 10: whether a box of the kind holds a label of so many bytes and its border, the least units that the width must exceed the label by.
+pub fn bordered(kind: u8, size: u8, width: u16) -> bool
+    ensures { λ r. ⌜ r ≡ bordered kind size width ⌝ }
 {
     match about(kind) {
-        Lookup::Known(k) => k.border,
-        Lookup::Unknown => 0,
+        Lookup::Known(k) => (size as u16) + (k.border as u16) <= width,
+        Lookup::Unknown => false,
     }
 }
 

@@ -26,6 +26,9 @@ pub const FARTHEST: u32 = 65535;
 // Numbers of 32 bits in Layout's scratch (1).
 pub const SCRATCH_SIZE: usize = 16384;
 
+// Bytes of an output for a listing (1): more than the longest has.
+pub const LISTING_SIZE: usize = 17408;
+
 // The parent of the root (6).
 pub const NO_PARENT: u16 = 65535;
 

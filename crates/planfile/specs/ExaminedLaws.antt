@@ -26,7 +26,7 @@ use Rattle.planfile.specs.declared.Trailer.{Trailer}
 use Rattle.planfile.specs.Format.{trailer-of, record-at, entry, records-of}
 use Rattle.planfile.specs.Reading.{column, columns-of}
 use Rattle.planfile.specs.FormatLaws.{column-more}
-use Rattle.planfile.specs.FileSteps.{inside, fits, counted, record-refusal, entry-refusal, records-at, columns-refusal, blank-reading, header-refusal, body-refusal, file-refusal, examined}
+use Rattle.planfile.specs.FileSteps.{inside, counted, record-refusal, entry-refusal, records-at, columns-refusal, blank-reading, header-refusal, body-refusal, file-refusal, examined}
 
 pub zero-of : (r a : Refusal) → r ≡ a → r .number ≡ 0 → a .number ≡ 0
 zero-of r a e z = ap (λ (x : Refusal). x .number) (sym e) ∙ z

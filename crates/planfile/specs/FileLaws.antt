@@ -11,7 +11,7 @@ use Rattle.plan.specs.Limits.{between, most-cells, most-allowance, least-file, 
 use Rattle.plan.specs.Lists.{from, some, mem}
 use Rattle.plan.specs.Plan.{Cell, Table, blank, parent, kind, W, D}
 use Rattle.plan.specs.Records.{bare, cells-of}
-use Rattle.plan.specs.Questions.{Lent, long, absent, Call, read, label, Given, Label, no-label, buffers-long, file-sized, file-marked, cells-counted, positions-long, letters-printable, parent-lower, kind-known, box-sized, label-inside, label-fits, children-allowed, level-low, rows-few, allowance-small, coordinates-near, cell-named, once, each, sequence, puts, root-too, number, enough, in-file, holds, none, asked, or-else, at-each, every, ask, ask-all, take-step, take-steps, refusal}
+use Rattle.plan.specs.Questions.{Buffer, to-fill, Subject, nothing, named, Call, read, label, Given, Label, no-label, buffers-long, file-sized, file-marked, cells-counted, positions-long, letters-printable, parent-lower, kind-known, box-sized, label-inside, label-fits, children-allowed, level-low, rows-few, allowance-small, coordinates-near, cell-named, once, each, sequence, puts, root-too, number, enough, roomy, all-roomy, in-table, in-file, holds, none, asked, or-else, at-each, every, ask, ask-all, take-step, take-steps, refusal}
 use Rattle.plan.specs.ColumnLaws.{length-from, getD-from}
 use Rattle.plan.specs.QuestionLaws.{each-same}
 use Rattle.plan.specs.CallLaws.{Treed, asked-last, asked-true, none-first, and-true, or-assoc, once-put, once-none, step-none, tree-steps}
@@ -71,37 +71,37 @@ module _ (f : List ℕ) where
     depth-is = ap (λ (x : Cell). x .depth) cell-is
 
   -- ---- questions 6 to 10, which a call on a file puts
-  module _ (call : Call) (room : Lent) (named : ℕ) (p6 : mem 6 (puts call) ≡ true) (p7 : mem 7 (puts call) ≡ true) (p8 : mem 8 (puts call) ≡ true) (p9 : mem 9 (puts call) ≡ true) (p10 : mem 10 (puts call) ≡ true) where
-    at-record : (c : ℕ) → c < n → ask-all call (file-given f room named) (parent-lower ∷ kind-known ∷ box-sized ∷ label-inside ∷ label-fits ∷ []) c ≡ entry-refusal (trailer-of f .begin) c (entry f c)
+  module _ (call : Call) (bs : List Buffer) (s : Subject) (p6 : mem 6 (puts call) ≡ true) (p7 : mem 7 (puts call) ≡ true) (p8 : mem 8 (puts call) ≡ true) (p9 : mem 9 (puts call) ≡ true) (p10 : mem 10 (puts call) ≡ true) where
+    at-record : (c : ℕ) → c < n → ask-all call (file-given f bs s) (parent-lower ∷ kind-known ∷ box-sized ∷ label-inside ∷ label-fits ∷ []) c ≡ entry-refusal (trailer-of f .begin) c (entry f c)
     unfolding ask-all ask holds number in-file file-given cell-refusal record-refusal
     at-record c h =
         rw (p6, p7, p8, p9, p10, parent-is c h, kind-is c h, width-is c h, depth-is c h, label-is c h) (simp (or-assoc, asked-last 9))
 
-    records-step : take-step call (file-given f room named) (each (parent-lower ∷ kind-known ∷ box-sized ∷ label-inside ∷ label-fits ∷ []))
+    records-step : take-step call (file-given f bs s) (each (parent-lower ∷ kind-known ∷ box-sized ∷ label-inside ∷ label-fits ∷ []))
         ≡ at-each (λ c. entry-refusal (trailer-of f .begin) c (entry f c)) 0 n
     unfolding take-step file-given
     records-step = rw cells-length (each-same _ (λ c. entry-refusal (trailer-of f .begin) c (entry f c)) n (λ c h. at-record c h))
 
     -- questions 6 to 13, then the rest of the call's
     pub body-steps : Treed call → (rest : Refusal)
-        → or-else (take-step call (file-given f room named) (each (parent-lower ∷ kind-known ∷ box-sized ∷ label-inside ∷ label-fits ∷ [])))
-        (or-else (take-step call (file-given f room named) (each (children-allowed ∷ [])))
-        (or-else (take-step call (file-given f room named) (each (level-low ∷ [])))
-        (or-else (take-step call (file-given f room named) (each (rows-few ∷ []))) rest)))
+        → or-else (take-step call (file-given f bs s) (each (parent-lower ∷ kind-known ∷ box-sized ∷ label-inside ∷ label-fits ∷ [])))
+        (or-else (take-step call (file-given f bs s) (each (children-allowed ∷ [])))
+        (or-else (take-step call (file-given f bs s) (each (level-low ∷ [])))
+        (or-else (take-step call (file-given f bs s) (each (rows-few ∷ []))) rest)))
         ≡ or-else (at-each (λ c. entry-refusal (trailer-of f .begin) c (entry f c)) 0 n) (or-else (tree-refusal t) rest)
     body-steps h rest =
-        let e : file-given f room named .table ≡ t = unfold file-given in refl in
-        cc (records-step, tree-steps call (file-given f room named) h rest)
+        let e : file-given f bs s .table ≡ t = unfold file-given in refl in
+        cc (records-step, tree-steps call (file-given f bs s) h rest)
 
   -- ---- Read
   read-treed : Treed read
   unfolding puts mem some from
   read-treed = record { p11 = refl; p12 = refl; p13 = refl }
 
-  pub read-refusal : (room : ℕ) → refusal read (file-given f (long room) 0) ≡ or-else (asked 1 (leb most-cells room) 0) (file-refusal f)
-  unfolding refusal sequence take-steps number puts mem some from holds enough in-file file-given file-refusal header-refusal body-refusal
+  pub read-refusal : (room : ℕ) → refusal read (file-given f (to-fill room ∷ []) nothing) ≡ or-else (asked 1 (leb most-cells room) 0) (file-refusal f)
+  unfolding refusal sequence take-steps number puts mem some from holds roomy all-roomy enough in-file file-given file-refusal header-refusal body-refusal
   read-refusal room =
-      let g = file-given f (long room) 0 in
+      let g = file-given f (to-fill room ∷ []) nothing in
       simp (
         once-put read g buffers-long 0 (leb most-cells room) refl (and-true _) refl,
         once-put read g file-sized 1 (between least-file most-file (length f)) refl refl refl,
@@ -109,7 +109,7 @@ module _ (f : List ℕ) where
         once-put read g cells-counted 3 (counted (length f) (trailer-of f .begin) n) refl (rw cells-length) refl,
         once-put read g positions-long 0 true refl refl refl,
         once-put read g letters-printable 4 (every (between first-letter last-letter) (take (trailer-of f .begin) f)) refl refl refl,
-        body-steps read (long room) 0 refl refl refl refl refl read-treed,
+        body-steps read (to-fill room ∷ []) nothing refl refl refl refl refl read-treed,
         once-put read g allowance-small 13 (leb (trailer-of f .allowance) most-allowance) refl refl refl,
         step-none read g coordinates-near refl,
         once-none read g cell-named refl,
@@ -125,9 +125,9 @@ module _ (f : List ℕ) where
   label-treed = record { p11 = refl; p12 = refl; p13 = refl }
 
   pub label-refusal-is : (c : ℕ) → label-refusal f c ≡ or-else (file-refusal f) (asked 16 (ltb c n) 0)
-  unfolding label-refusal refusal sequence take-steps number puts mem some from holds enough in-file root-too file-given file-refusal header-refusal body-refusal
+  unfolding label-refusal refusal sequence take-steps number puts mem some from holds enough in-table in-file root-too file-given file-refusal header-refusal body-refusal
   label-refusal-is c =
-      let g = file-given f absent c in
+      let g = file-given f [] (named c) in
       simp (
         once-none label g buffers-long refl,
         once-put label g file-sized 1 (between least-file most-file (length f)) refl refl refl,
@@ -135,7 +135,7 @@ module _ (f : List ℕ) where
         once-put label g cells-counted 3 (counted (length f) (trailer-of f .begin) n) refl (rw cells-length) refl,
         once-none label g positions-long refl,
         once-put label g letters-printable 4 (every (between first-letter last-letter) (take (trailer-of f .begin) f)) refl refl refl,
-        body-steps label absent c refl refl refl refl refl label-treed,
+        body-steps label [] (named c) refl refl refl refl refl label-treed,
         once-put label g allowance-small 13 (leb (trailer-of f .allowance) most-allowance) refl refl refl,
         step-none label g coordinates-near refl,
         once-put label g cell-named 15 (ltb c n) refl (rw cells-length (and-true _)) refl,

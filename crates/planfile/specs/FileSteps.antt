@@ -8,7 +8,7 @@ use lib.ListN.{length, getD, take}
 use Rattle.plan.specs.Limits.{between, most-cells, most-allowance, least-file, most-file, file-mark, record-size, trailer-size, first-letter, last-letter, most-label}
 use Rattle.plan.specs.Records.{cells-of}
 use Rattle.plan.specs.Columns.{table-of}
-use Rattle.plan.specs.Kinds.{border-of}
+use Rattle.plan.specs.Kinds.{bordered}
 use Rattle.plan.specs.Questions.{none, asked, or-else, at-each, every}
 use Rattle.plan.specs.Steps.{cell-refusal, tree-refusal}
 use Rattle.plan.specs.declared.Record.{Record}
@@ -21,13 +21,9 @@ use Rattle.planfile.specs.Reading.{columns-of}
 abbrev pub inside : (begin size start : ℕ) → Bool
 inside begin l s = leb l most-label && leb (s + l) begin
 
--- question 10
-abbrev pub fits : (size kind width : ℕ) → Bool
-fits l k w = leb (l + border-of k) w
-
 -- questions 6 to 10 at one record
 unfoldable pub record-refusal : (begin c p k w d l s : ℕ) → Refusal
-record-refusal begin c p k w d l s = or-else (cell-refusal c p k w d) (or-else (asked 9 (inside begin l s) c) (asked 10 (fits l k w) c))
+record-refusal begin c p k w d l s = or-else (cell-refusal c p k w d) (or-else (asked 9 (inside begin l s) c) (asked 10 (bordered k l w) c))
 
 abbrev pub entry-refusal : ℕ → ℕ → Record → Refusal
 entry-refusal begin c r = record-refusal begin c (r .parent) (r .kind) (r .width) (r .depth) (r .«label_length») (r .«label_start»)

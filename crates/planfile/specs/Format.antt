@@ -5,7 +5,7 @@ use lib.ListN.{length, getD, take}
 use Rattle.plan.specs.Limits.{record-size, trailer-size}
 use Rattle.plan.specs.Lists.{from}
 use Rattle.plan.specs.Records.{cells-of}
-use Rattle.plan.specs.Questions.{Lent, absent, Label, File, file, Given}
+use Rattle.plan.specs.Questions.{Buffer, absent, Subject, Label, File, file, Given}
 use Rattle.plan.specs.declared.Record.{Record}
 use Rattle.planfile.specs.declared.Trailer.{Trailer}
 
@@ -41,9 +41,9 @@ records-of f = map (entry f) (from 0 (trailer-of f .count))
 abbrev pub label-in : Record → Label
 label-in r = record { start = r .«label_start»; size = r .«label_length» }
 
--- what a call on a file is given: the file, the length of the table to fill, if there is one, and the cell named
-unfoldable pub file-given : List ℕ → Lent → ℕ → Given
-file-given f room named =
+-- what a call on a file is given: the file, the table to fill, if there is one, and the cell named, if one is
+unfoldable pub file-given : List ℕ → List Buffer → Subject → Given
+file-given f buffers subject =
     record {
       source = file (record {
         size = length f;
@@ -54,9 +54,8 @@ file-given f room named =
       });
       table = cells-of (records-of f);
       allowance = trailer-of f .allowance;
-      to-fill = room;
-      scratch = absent;
+      buffers = buffers;
       positions = absent;
       coordinates = [];
-      named = named;
+      subject = subject;
     }

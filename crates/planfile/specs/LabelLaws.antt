@@ -1,6 +1,6 @@
 -- The answers of Read and Label from the plan examined; a label lies inside the file. Assumes nothing.
 use mathlib.Core.Path.{_≡_, refl, sym, ap, _∙_}
-use mathlib.Core.List.{List}
+use mathlib.Core.List.{List, [], _∷_}
 use mathlib.Core.Bool.{Bool}
 use Prim.Native.Nat.{ℕ, _+_, _*_, _≤_, _<_}
 use native.Mathlib.Omega.{arith}
@@ -9,7 +9,7 @@ use lib.Dec.{T, leb, ltb, leb→le, ltb→lt}
 use lib.ListN.{length}
 use borrow.Author.Tests.{eq-eqb, ne-eqb}
 use Rattle.plan.specs.Limits.{most-cells, most-label, record-size}
-use Rattle.plan.specs.Questions.{long, none, read, refusal, asked, or-else}
+use Rattle.plan.specs.Questions.{to-fill, nothing, none, read, refusal, asked, or-else}
 use Rattle.plan.specs.QuestionLaws.{first-none, first-some, both-none, asked-yes, each-none}
 use Rattle.plan.specs.Steps.{cell-refusal}
 use Rattle.plan.specs.StepLaws.{and-right}
@@ -20,14 +20,14 @@ use Rattle.planfile.specs.declared.Part.{Part}
 use Rattle.planfile.specs.declared.Trailer.{Trailer}
 use Rattle.planfile.specs.Format.{trailer-of, record-at, entry, file-given}
 use Rattle.planfile.specs.Reading.{column, columns-of, reading-of, label-refusal, label-part}
-use Rattle.planfile.specs.FileSteps.{inside, fits, record-refusal, entry-refusal, blank-reading, header-refusal, body-refusal, file-refusal, examined}
+use Rattle.planfile.specs.FileSteps.{inside, record-refusal, entry-refusal, blank-reading, header-refusal, body-refusal, file-refusal, examined}
 use Rattle.planfile.specs.FileLaws.{read-refusal, label-refusal-is}
 use Rattle.planfile.specs.ExaminedLaws.{zero-of, Headed, header-read}
 
 -- ---- Read
 module _ (f : List ℕ) (room : ℕ) (r : Refusal) (e : r ≡ asked 1 (leb most-cells room) 0) where
   abbrev whole : Refusal
-  whole = refusal read (file-given f (long room) 0)
+  whole = refusal read (file-given f (to-fill room ∷ []) nothing)
 
   pub read-short : ¬ (r .number ≡ 0) → blank-reading r ≡ reading-of f room
   unfolding reading-of columns-of column

@@ -1,7 +1,7 @@
 -- WHAT READ ACCEPTS, LABEL AND LAYOUT ACCEPT: no cell of it is refused its label, and the table is laid out where the buffers are long enough.
 -- Assumes nothing.
 use mathlib.Core.Path.{_≡_, refl, ap, _∙_}
-use mathlib.Core.List.{List}
+use mathlib.Core.List.{List, [], _∷_}
 use mathlib.Core.Bool.{Bool, true, false}
 use Prim.Native.Nat.{ℕ, _+_, _*_, _≤_, _<_}
 use native.Mathlib.Omega.{arith}
@@ -12,7 +12,7 @@ use Rattle.whole.specs.Says.{both, says-le}
 use Rattle.plan.specs.Limits.{between, most-cells, most-allowance, scratch-size}
 use Rattle.plan.specs.Plan.{Table, parent, kind}
 use Rattle.plan.specs.Records.{cells-of}
-use Rattle.plan.specs.Questions.{long, none, asked, or-else, at-each, read, layout, refusal, layout-given}
+use Rattle.plan.specs.Questions.{to-fill, nothing, none, asked, or-else, at-each, read, layout, refusal, layout-given}
 use Rattle.plan.specs.QuestionLaws.{first-none, both-none, asked-yes, each-none, each-same}
 use Rattle.plan.specs.Steps.{cell-refusal, cells-refusal, children-refusal, levels-refusal, rows-refusal, tree-refusal, table-refusal, lent-refusal}
 use Rattle.plan.specs.StepLaws.{Passed, cell-passed}
@@ -109,7 +109,7 @@ unfolding label-part
 part-of-record f c e = rw (eq-eqb (label-refusal f c .number) 0 (ap (λ (r : Refusal). r .number) e))
 
 -- ---- READ, THEN LABEL AND LAYOUT. A file that Read, with a table of so many records to fill, does not refuse
-module _ (f : List ℕ) (room : ℕ) (e : refusal read (file-given f (long room) 0) ≡ none) where
+module _ (f : List ℕ) (room : ℕ) (e : refusal read (file-given f (to-fill room ∷ []) nothing) ≡ none) where
   pub file-passes : file-refusal f .number ≡ 0
   file-passes = both-none (asked 1 (leb most-cells room) 0) (file-refusal f) (zero-of _ _ (read-refusal f room) (ap (λ (r : Refusal). r .number) e)) .1
 

@@ -1,11 +1,11 @@
 -- What Read and Label answer. Assumes nothing.
-use mathlib.Core.List.{List}
+use mathlib.Core.List.{List, [], _∷_}
 use mathlib.Core.Bool.{Bool, cond}
 use Prim.Native.Nat.{ℕ, zero, suc, _+_}
 use lib.Dec.{eqb}
 use lib.ListN.{getD, set, replicate}
 use Rattle.plan.specs.Limits.{most-cells}
-use Rattle.plan.specs.Questions.{long, absent, none, read, label, refusal}
+use Rattle.plan.specs.Questions.{to-fill, nothing, named, none, read, label, refusal}
 use Rattle.plan.specs.declared.Record.{Record}
 use Rattle.plan.specs.declared.Refusal.{Refusal}
 use Rattle.planfile.specs.declared.Reading.{Reading}
@@ -31,12 +31,12 @@ columns-of r al n e =
 -- Read, into a table of so many records: a refusal, and no record; or the allowance and the records
 unfoldable pub reading-of : List ℕ → (room : ℕ) → Reading
 reading-of f room =
-    let r = refusal read (file-given f (long room) 0) in
+    let r = refusal read (file-given f (to-fill room ∷ []) nothing) in
     cond (eqb (r .number) 0) (columns-of none (trailer-of f .allowance) (trailer-of f .count) (entry f)) (columns-of r 0 0 (entry f))
 
 -- Label's second call: the refusal, or 0 and 0
 unfoldable pub label-refusal : List ℕ → ℕ → Refusal
-label-refusal f c = refusal label (file-given f absent c)
+label-refusal f c = refusal label (file-given f [] (named c))
 
 -- Label: the part of the file that is the cell's label; refused, the empty part at byte 0
 unfoldable pub label-part : List ℕ → ℕ → Part

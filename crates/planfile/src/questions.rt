@@ -4,7 +4,7 @@ use crate::table::records;
 use crate::table::trailer;
 use plan::Columns;
 use plan::Refusal;
-use plan::kinds::border;
+use plan::kinds::bordered;
 use plan::limits::FILE_MARK;
 use plan::limits::FIRST_LETTER;
 use plan::limits::LAST_LETTER;
@@ -27,7 +27,7 @@ ghost use lib.Dec.{leb, eqb};
 ghost use lib.ListN.{length, getD, take};
 ghost use Rattle.plan.specs.Limits.{between, «first-letter», «last-letter», «least-file», «most-file»};
 ghost use Rattle.plan.specs.Questions.{every, «at-each»};
-ghost use Rattle.planfile.specs.FileSteps.{inside, fits, counted, «record-refusal», «records-at», «header-refusal», «columns-refusal», «blank-reading», examined};
+ghost use Rattle.planfile.specs.FileSteps.{inside, counted, «record-refusal», «records-at», «header-refusal», «columns-refusal», «blank-reading», examined};
 
 // Question 2.
 fn file_sized(size: usize) -> bool
@@ -87,13 +87,6 @@ fn inside(begin: usize, size: u8, start: u16) -> bool
     (start as usize) + (size as usize) <= begin
 }
 
-// Question 10.
-fn fits(size: u8, kind: u8, width: u16) -> bool
-    ensures { λ r. ⌜ r ≡ fits size kind width ⌝ }
-{
-    (size as u16) + (border(kind) as u16) <= width
-}
-
 // Questions 6 to 10 at one record.
 fn record_refusal(
     begin: usize,
@@ -109,7 +102,7 @@ fn record_refusal(
     ensures { λ r. ⌜ r ≡ record-refusal begin cell parent kind width depth size start ⌝ }
 {
     let label_inside = asked(9, inside(begin, size, start), cell);
-    let label_fits = asked(10, fits(size, kind, width), cell);
+    let label_fits = asked(10, bordered(kind, size, width), cell);
     or_else(
         cell_refusal(cell, parent, kind, width, depth),
         or_else(label_inside, label_fits),

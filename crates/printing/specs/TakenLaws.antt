@@ -1,7 +1,7 @@
 -- The plan that Read gives of a file: Layout does not refuse it, its labels stand in the file where its records say, a cell's line is short.
 -- Nothing that a reader must believe stands here. Assumes nothing.
 use mathlib.Core.Path.{_≡_, refl, sym, ap, _∙_}
-use mathlib.Core.List.{List, [], _++_, map, append-nil, append-assoc}
+use mathlib.Core.List.{List, [], _∷_, _++_, map, append-nil, append-assoc}
 use Prim.Native.Nat.{ℕ, zero, suc, _+_, _-_, _*_, _≤_, _<_}
 use native.Mathlib.Omega.{arith}
 use native.Mathlib.Decide.{ℕ-discrete}
@@ -18,7 +18,7 @@ use Rattle.plan.specs.Plan.{Is, W, D, row}
 use Rattle.plan.specs.Records.{cells-of}
 use Rattle.plan.specs.ColumnLaws.{table-length}
 use Rattle.plan.specs.Fit.{Fit}
-use Rattle.plan.specs.Questions.{long, none, read, layout, refusal, layout-given}
+use Rattle.plan.specs.Questions.{to-fill, nothing, none, read, layout, refusal, layout-given}
 use Rattle.plan.specs.QuestionLaws.{both-none}
 use Rattle.plan.specs.declared.Refusal.{Refusal}
 use Rattle.layout.specs.Sheet.{sheet}
@@ -67,7 +67,7 @@ line-short c x y w d l hc hx hy hw hd hl = rw (← cell-line-is c x y w d l) (si
 
 module _ (p : Reading) (f : Bytes) (h : Taken p f) where
   abbrev stop : Refusal
-  stop = refusal read (file-given f (long most-cells) 0)
+  stop = refusal read (file-given f (to-fill most-cells ∷ []) nothing)
 
   plan-cases : Dec (stop .number ≡ 0) → (stop .number ≡ 0) × (p ≡ columns-of none (trailer-of f .allowance) (trailer-of f .count) (entry f))
   unfolding reading-of columns-of

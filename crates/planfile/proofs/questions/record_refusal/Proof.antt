@@ -8,7 +8,7 @@ use Rattle.planfile.proofs.questions.record_refusal.Lts as lts
 use Rattle.plan.proofs.questions.asked.Reads as asked-reads
 use Rattle.plan.proofs.questions.cell_refusal.Reads as cell-refusal-reads
 use Rattle.plan.proofs.questions.or_else.Reads as or-else-reads
-use Rattle.planfile.proofs.questions.fits.Reads as fits-reads
+use Rattle.plan.proofs.kinds.bordered.Reads as bordered-reads
 use Rattle.planfile.proofs.questions.inside.Reads as inside-reads
 
 -- src/questions.rt:112:33
@@ -20,8 +20,8 @@ asked-requires : tie.Need-asked-requires
 asked-requires c κs = search needs
 
 -- src/questions.rt:113:32
-fits-requires : tie.Need-fits-requires
-fits-requires c κs = search needs
+bordered-requires : tie.Need-bordered-requires
+bordered-requires c κs = search needs
 
 -- src/questions.rt:113:9
 asked-requires-2 : tie.Need-asked-requires-2
@@ -44,7 +44,7 @@ returns : tie.Need-returns
 unfolding record-refusal
 returns c =
     c .or-else2 .ensures
-    ∙ rw (c .before .before .cell-refusal .ensures, c .before .or-else .ensures, c .before .before .before .before .before .asked .ensures, c .before .before .before .before .before .before .inside .ensures, c .before .before .before .asked2 .ensures, c .before .before .before .before .fits2 .ensures)
+    ∙ rw (c .before .before .cell-refusal .ensures, c .before .or-else .ensures, c .before .before .before .before .before .asked .ensures, c .before .before .before .before .before .before .inside .ensures, c .before .before .before .asked2 .ensures, c .before .before .before .before .bordered .ensures)
 
 pub record-refusal-spec : {M : Type 1} → statement M
 record-refusal-spec =
@@ -52,7 +52,7 @@ record-refusal-spec =
     (tie.spec
     inside-requires
     asked-requires
-    fits-requires
+    bordered-requires
     asked-requires-2
     cell-refusal-requires
     or-else-requires
