@@ -3,14 +3,16 @@ use mathlib.Core.Path.{_≡_}
 use mathlib.Core.Bool.{cond}
 use mathlib.Core.List.{List, [], _∷_, _++_, map}
 use Prim.Native.Nat.{ℕ, _-_, _*_, _≤_}
-use lib.Dec.{eqb, leb}
+use lib.Dec.{eqb}
 use lib.IntN.{ℤ}
 use lib.ListN.{length, take, drop}
 use Rattle.whole.specs.Whole.{plus}
-use Rattle.plan.specs.Limits.{most-cells}
+use Rattle.plan.specs.Limits.{most-cells, listing-size}
 use Rattle.plan.specs.Lists.{from}
 use Rattle.plan.specs.Plan.{Table, W, D}
 use Rattle.plan.specs.Columns.{table-of}
+use Rattle.plan.specs.Questions.{list, list-given, refusal}
+use Rattle.plan.specs.declared.Refusal.{Refusal}
 use Rattle.rules.specs.Placement.{Placement, placed, Agree, width, rows}
 use Rattle.layout.specs.Sheet.{sheet}
 use Rattle.planfile.specs.declared.Reading.{Reading}
@@ -58,23 +60,25 @@ unfoldable pub text-of : (file : Bytes) → Bytes
 text-of f = joined (listing-of f)
 
 -- ---- WHAT THE CALL ANSWERS, and what it leaves in the output lent to it, on every input
--- bytes that always suffice: 256 lines of 63, and a first one
-abbrev pub listing-size : ℕ
-listing-size = 16384
-
--- document 01's values of the two answers: the length of the listing; number and cell of the refusal, by question 1, of an output that is too short
-unfoldable pub answer : (file : Bytes) → (room : ℕ) → Listed
-answer f room = cond (leb listing-size room) (Text (length (text-of f))) (Refused 1 0)
+-- document 01's values of the two answers: the length of the listing; number and cell of the refusal, of an output that is too short
+unfoldable pub answer : (file : Bytes) → Refusal → Listed
+answer f r = cond (eqb (r .number) 0) (Text (length (text-of f))) (Refused (r .number) (r .cell))
 
 -- the lent output after it. Of a listing: the listing, the rest as it was. Of a refusal: as it was
 unfoldable pub out-after : Listed → (file out : Bytes) → Bytes
 out-after (Text n) f out = text-of f ++ drop n out
 out-after (Refused k c) f out = out
 
--- a call: the answer, and the output before and after it
+-- bytes of the listing that a call gives
+unfoldable pub size : Listed → ℕ
+size (Text n) = n
+size (Refused k c) = 0
+
+-- a call: the answer, and the output before and after it. The length that question 1 asks for suffices
 pub record Lists (f out out′ : Bytes) (r : Listed) : Type 0 where
-  pub answers : r ≡ answer f (length out)
+  pub answers : r ≡ answer f (refusal list (list-given (length out)))
   pub bytes : out′ ≡ out-after r f out
+  pub suffices : size r ≤ listing-size
 
 -- ---- what the functions ask of each other
 -- the plan that Read gives of a file

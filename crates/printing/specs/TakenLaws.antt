@@ -12,13 +12,14 @@ use lib.Seq.{take-append-seam, sets-eq}
 use Rattle.whole.specs.Whole.{whole}
 use Rattle.whole.specs.Range.{Within}
 use Rattle.whole.specs.Says.{is-true, is-false, says-le}
-use Rattle.plan.specs.Limits.{most-cells, farthest, scratch-size}
+use Rattle.plan.specs.Limits.{most-cells, farthest, scratch-size, listing-size}
 use Rattle.plan.specs.Lists.{from}
 use Rattle.plan.specs.Plan.{Is, W, D, row}
 use Rattle.plan.specs.Records.{cells-of}
 use Rattle.plan.specs.ColumnLaws.{table-length}
 use Rattle.plan.specs.Fit.{Fit}
-use Rattle.plan.specs.Questions.{to-fill, nothing, none, read, layout, refusal, layout-given}
+use Rattle.plan.specs.Questions.{to-fill, nothing, none, asked, read, layout, refusal, layout-given}
+use Rattle.plan.specs.CallLaws.{list-refusal}
 use Rattle.plan.specs.QuestionLaws.{both-none}
 use Rattle.plan.specs.declared.Refusal.{Refusal}
 use Rattle.layout.specs.Sheet.{sheet}
@@ -40,7 +41,7 @@ use Rattle.listing.specs.Line.{line-of}
 use Rattle.listing.specs.Put.{Put}
 use Rattle.listing.specs.declared.Line.{Line}
 use Rattle.listing.specs.PutLaws.{then, put-none}
-use Rattle.printing.specs.Printing.{listing-size, answer, out-after, Lists, label-of, cells, ours, first-of, cell-of, joined, listing-of, text-of, cells-text, cell-size, text, Taken}
+use Rattle.printing.specs.Printing.{answer, out-after, size, Lists, label-of, cells, ours, first-of, cell-of, joined, listing-of, text-of, cells-text, cell-size, text, Taken}
 use Rattle.printing.specs.PrintingLaws.{label-short}
 use Rattle.printing.specs.declared.Listed.the-variants.{Text, Refused}
 
@@ -225,15 +226,21 @@ refusal-done p f h n l e u =
 
 -- ---- the call
 pub listed-short : (f out : Bytes) → length out < listing-size → Lists f out out (Refused 1 0)
-unfolding answer out-after
-listed-short f out h = record { answers = rw (is-false (says-le listing-size (length out)) (λ k. absurd (omega arith))); bytes = refl }
+unfolding answer out-after size asked
+listed-short f out h =
+    record {
+      answers = rw (list-refusal (length out), is-false (says-le listing-size (length out)) (λ k. absurd (omega arith)));
+      bytes = refl;
+      suffices = omega arith;
+    }
 
 pub listed-text : (f out out′ : Bytes) (n : ℕ) → listing-size ≤ length out → Put out 0 (text-of f) out′ n → n ≤ listing-size → Lists f out out′ (Text n)
-unfolding answer out-after
+unfolding answer out-after size asked
 listed-text f out out′ n h u g =
     let z : 0 + length (text-of f) ≡ length (text-of f) = omega arith in
     let e : n ≡ length (text-of f) = u .place ∙ z in
     record {
-      answers = rw (is-true (says-le listing-size (length out)) h, e);
+      answers = rw (list-refusal (length out), is-true (says-le listing-size (length out)) h, e);
       bytes = u .bytes ∙ sets-eq (text-of f) out 0 (omega arith) ∙ ap (λ k. text-of f ++ drop k out) (z ∙ sym e);
+      suffices = g;
     }

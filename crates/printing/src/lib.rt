@@ -3,18 +3,17 @@ use listing::Line;
 use listing::cell_line;
 use listing::refused_line;
 use listing::sheet_line;
+use plan::limits::LISTING_SIZE;
 use plan::limits::MOST_CELLS;
 use plan::limits::SCRATCH_SIZE;
 use planfile::Reading;
 ghost use mathlib.Core.Path.{_≡_};
 ghost use Prim.Native.Nat.{_+_, _*_, _≤_, _<_};
 ghost use lib.ListN.{length};
+ghost use Rattle.plan.specs.Limits.{«listing-size»};
 ghost use Rattle.listing.specs.Line.{«line-size», «line-of»};
 ghost use Rattle.listing.specs.Put.{Put};
-ghost use Rattle.printing.specs.Printing.{Whole, Measured, Placed, Taken, Lists, text, «label-of», «first-of», «cell-of», «cells-text», «text-of», «cell-size», «listing-size»};
-
-// Bytes of an output that always suffices.
-pub const LISTING_SIZE: usize = 16384;
+ghost use Rattle.printing.specs.Printing.{Whole, Measured, Placed, Taken, Lists, text, «label-of», «first-of», «cell-of», «cells-text», «text-of», «cell-size»};
 
 // The length of the listing; or the refusal's number and cell.
 pub enum Listed {

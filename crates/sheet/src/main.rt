@@ -1,5 +1,5 @@
 // Prints the listing of the plan file on standard input, with one write. One byte more than a plan file may have is read, so that a longer one is refused.
-use printing::LISTING_SIZE;
+use plan::limits::LISTING_SIZE;
 
 fn main() {
     let mut file = [0u8; 16385];

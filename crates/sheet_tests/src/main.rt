@@ -1,5 +1,5 @@
 // Prints the sheet of each plan file on standard input. A file comes after its length, a number of two bytes, low byte first.
-use printing::LISTING_SIZE;
+use plan::limits::LISTING_SIZE;
 
 fn number(low: u8, high: u8) -> usize {
     (low as usize) + 256 * (high as usize)
