@@ -1,6 +1,6 @@
 -- THE THREE DEMANDS AT THE CALLS: statements only; each proof is one name. A reader needs the definitions of crate plan (sequence, puts, holds), of crate
--- rules (placement, S1 to S5, verdict), `sheet`, and what each call answers: Reads, Lays, checked-of, label-of. Every call's contract is one of these
--- four, so what is said of them is said of what the call answers and leaves in the lent buffers. Assumes nothing.
+-- rules (placement, S1 to S5, verdict), `sheet`, what each call answers (Reads, Lays, checked-of, ended-of, label-of, Lists) and Outcomes. Every call's
+-- contract is one of those six, so what is said of them is said of what the call answers and leaves in the lent buffers. Assumes nothing.
 use mathlib.Core.Path.{_≡_}
 use mathlib.Core.List.{List, [], _∷_, _++_, map}
 use mathlib.Core.Logic.{_↔_}
@@ -10,7 +10,7 @@ use lib.IntN.{ℤ, _-ℤ_}
 use Rattle.plan.specs.Limits.{scratch-size}
 use Rattle.plan.specs.Plan.{Table, Is}
 use Rattle.plan.specs.Records.{cells-of}
-use Rattle.plan.specs.Questions.{Call, Given, layout, check, none, sequence, refusal, layout-given, check-given}
+use Rattle.plan.specs.Questions.{Call, Given, layout, check, ends, list, none, sequence, refusal, layout-given, check-given, ends-given, list-given}
 use Rattle.plan.specs.declared.Record.{Record}
 use Rattle.rules.specs.Placement.{Placement, placed}
 use Rattle.rules.specs.Rules.{Keeps}
@@ -30,14 +30,20 @@ use Rattle.drawing.specs.declared.Laid.the-variants.{Sheet}
 use Rattle.drawing.specs.declared.Laid.the-variants as laid
 use Rattle.verdict.specs.Checked.{checked-of}
 use Rattle.verdict.specs.declared.Checked.the-variants.{Kept, Broken}
+use Rattle.verdict.specs.declared.Checked.the-variants as checked
+use Rattle.connectors.specs.Ended.{ended-of}
+use Rattle.connectors.specs.declared.Ended.the-variants as ended
+use Rattle.printing.specs.Printing.{Lists}
+use Rattle.printing.specs.declared.Listed.{Listed}
+use Rattle.printing.specs.declared.Listed.the-variants as listed
 use Rattle.engine.specs.declared.ReadAnswer.{ReadAnswer}
 use Rattle.engine.specs.declared.ReadAnswer.the-variants.{Plan, Refused}
 use Rattle.engine.specs.Read.{read-refusal, Reads}
 use Rattle.engine.specs.Label.{label-of}
-use Rattle.engine.specs.Decides as decides
-use Rattle.engine.specs.Decides.{Judged}
-use Rattle.engine.specs.Given as given
-use Rattle.engine.specs.Given.{Gives}
+use Rattle.engine.specs.Outcomes.{Gives, Judged, Listing}
+use Rattle.engine.specs.CheckLaws as checking
+use Rattle.engine.specs.LayoutLaws as laying
+use Rattle.engine.specs.ListLaws as listing
 use Rattle.engine.specs.ReadThen as then
 use Rattle.engine.specs.Demand as demand
 use Rattle.engine.specs.WorkedCalls as worked-calls
@@ -52,7 +58,7 @@ first-no = first.first-no
 pub no-no : (call : Call) (g : Given) → (refusal call g ≡ none) ↔ YesSteps call g sequence
 no-no = first.no-no
 
--- A refusal is answered by its number and cell, and leaves the lent buffers as they were. (Check, Ends and Label are lent nothing to write.)
+-- A refusal is answered by its number and cell, and leaves the lent buffers as they were.
 pub read-refuses : (f : List ℕ) (t t′ : List Record) (r : ReadAnswer) → Reads f t t′ r → ¬ (read-refusal f (length t) .number ≡ 0)
     → (r ≡ Refused (read-refusal f (length t) .number) (read-refusal f (length t) .cell)) × (t′ ≡ t)
 read-refuses = then.unchanged
@@ -60,7 +66,20 @@ read-refuses = then.unchanged
 pub layout-refuses : (t : Table) (al : ℕ) (s s′ : List ℕ) (ps ps′ : List ℤ) (r : Laid) → Lays t al s s′ ps ps′ r
     → ¬ (refusal layout (layout-given t al (length s) (length ps)) .number ≡ 0)
     → (r ≡ laid.Refused (refusal layout (layout-given t al (length s) (length ps)) .number) (refusal layout (layout-given t al (length s) (length ps)) .cell)) × (ps′ ≡ ps) × (s′ ≡ s)
-layout-refuses = given.unchanged
+layout-refuses = laying.unchanged
+
+pub list-refuses : (f out out′ : List ℕ) (r : Listed) → Lists f out out′ r → ¬ (refusal list (list-given (length out)) .number ≡ 0)
+    → (r ≡ listed.Refused (refusal list (list-given (length out)) .number) (refusal list (list-given (length out)) .cell)) × (out′ ≡ out)
+list-refuses = listing.unchanged
+
+-- (Check and Ends are lent nothing to write; nor is Label, whose second call returns the refusal itself, by its contract.)
+pub check-refuses : (t : Table) (al : ℕ) (ps : List ℤ) → ¬ (refusal check (check-given t al ps) .number ≡ 0)
+    → checked-of t ps al ≡ checked.Refused (refusal check (check-given t al ps) .number) (refusal check (check-given t al ps) .cell)
+check-refuses = checking.check-refused
+
+pub ends-refuses : (t : Table) (ps : List ℤ) (c : ℕ) → ¬ (refusal ends (ends-given t ps c) .number ≡ 0)
+    → ended-of t ps c ≡ ended.Refused (refusal ends (ends-given t ps c) .number) (refusal ends (ends-given t ps c) .cell)
+ends-refuses = checking.ends-refused
 
 -- ==== WHERE NO QUESTION REFUSES
 -- Read gives n and the allowance, and the file's records in the first n of the table, the rest as they were.
@@ -68,15 +87,19 @@ pub read-gives : (f : List ℕ) (t t′ : List Record) (r : ReadAnswer) → Read
     → (r ≡ Plan (trailer-of f .count) (trailer-of f .allowance)) × (t′ ≡ records-of f ++ drop (trailer-of f .count) t)
 read-gives = then.gives
 
+-- List gives every byte of the listing; the length that question 1 asks for suffices, whatever the file.
+pub list-gives : (f out out′ : List ℕ) (r : Listed) → Lists f out out′ r → refusal list (list-given (length out)) ≡ none → Listing f out out′ r
+list-gives = listing.gives
+
 -- Layout gives our sheet, its width and its rows.
 pub layout-gives : (t : Table) (al : ℕ) (s s′ : List ℕ) (ps ps′ : List ℤ) (r : Laid) → Lays t al s s′ ps ps′ r
     → refusal layout (layout-given t al (length s) (length ps)) ≡ none → Gives t al s s′ ps ps′ r
-layout-gives = given.gives
+layout-gives = laying.gives
 
 -- Check answers "kept" exactly where the placement keeps S1 to S5, with its width and rows; "broken" exactly where that is the lowest rule and pair broken.
 pub check-decides : (t : Table) (al : ℕ) (ps : List ℤ) → refusal check (check-given t al ps) ≡ none
     → ((w h : ℕ) → (checked-of t ps al ≡ Kept w h) ↔ Judged t (placed ps) al w h) × ((r a b : ℕ) → (checked-of t ps al ≡ Broken r a b) ↔ Breaks t (placed ps) al r a b)
-check-decides t al ps z = (decides.kept-iff t al ps z, decides.broken-iff t al ps z)
+check-decides t al ps z = (checking.kept-iff t al ps z, checking.broken-iff t al ps z)
 
 -- ---- one call after another
 -- What Read gives, Label refuses for no cell of it; the label is the part of the file that the cell's record says.
@@ -111,7 +134,7 @@ module _ (t : Table) (al : ℕ) (s s′ : List ℕ) (ps ps′ : List ℤ) (w h :
 pub layout-alike : (t u : Table) (al : ℕ) (s s′ v v′ : List ℕ) (ps ps′ qs qs′ : List ℤ) (w h y k : ℕ) → Lays t al s s′ ps ps′ (Sheet w h) → Lays u al v v′ qs qs′ (Sheet y k)
     → (a b : ℕ) → Is t a → Is u b → Alike t u (a ∷ []) (b ∷ []) → (c d : ℕ) → Twins t u (a ∷ []) (b ∷ []) c d
     → (placed ps′ .x c -ℤ placed ps′ .x a ≡ placed qs′ .x d -ℤ placed qs′ .x b) × (placed ps′ .y c -ℤ placed ps′ .y a ≡ placed qs′ .y d -ℤ placed qs′ .y b)
-layout-alike = given.alike-written
+layout-alike = laying.alike-written
 
 -- ==== THE WORKED SHEETS ◆A to ◆J, and five more, lent to Check with its questions: it answers what document 01 has.
 pub worked : map called sheets ≡ map due sheets

@@ -3,8 +3,10 @@ pub mod ReadLaws
 pub mod Label
 pub mod LentLaws
 pub mod Demand
-pub mod Decides
-pub mod Given
+pub mod Outcomes
+pub mod CheckLaws
+pub mod LayoutLaws
+pub mod ListLaws
 pub mod ReadThen
 pub mod Calls
 pub mod WorkedCalls

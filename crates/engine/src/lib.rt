@@ -4,6 +4,7 @@ use drawing::Laid;
 use plan::Record;
 use plan::Refusal;
 use planfile::Reading;
+use printing::Listed;
 use records::columns_of;
 use records::fill;
 use verdict::Checked;
@@ -13,6 +14,7 @@ ghost use Rattle.planfile.specs.Reading.{«label-refusal»};
 ghost use Rattle.drawing.specs.Laid.{Lays};
 ghost use Rattle.verdict.specs.Checked.{«checked-of»};
 ghost use Rattle.connectors.specs.Ended.{«ended-of»};
+ghost use Rattle.printing.specs.Printing.{Lists};
 ghost use Rattle.engine.specs.Read.{Reads};
 ghost use Rattle.engine.specs.ReadLaws.{«read-of»};
 ghost use Rattle.engine.specs.Label.{«label-of»};
@@ -93,4 +95,11 @@ pub fn ends(table: &[Record], positions: &[i32], cell: usize) -> Ended
 {
     let t = columns_of(table);
     connectors::ends(t, positions, cell)
+}
+
+// List: the listing of a plan file, or the line of its refusal, is written into the output; its length, or the refusal of an output that is too short.
+pub fn list(file: &[u8], out: &mut [u8]) -> Listed
+    ensures { λ r. ⌜ Lists (now (file .entry)) (now (out .entry)) (now (out .exit)) r ⌝ }
+{
+    printing::list(file, out)
 }

@@ -1,12 +1,11 @@
--- What Layout and Read answer where no question refuses, and where one does; sheets that are alike. Assumes nothing.
+-- What Layout answers where no question refuses, and where one does; sheets that are alike. Nothing that a reader must believe stands here. Assumes nothing.
 use mathlib.Core.Path.{_≡_, refl, _∙_}
-use mathlib.Core.List.{List, [], _∷_, _++_}
+use mathlib.Core.List.{List, [], _∷_}
 use Prim.Native.Nat.{ℕ, zero, suc}
 use borrow.Author.Tests.{ne-eqb}
-use lib.ListN.{length, drop, replicate}
-use lib.IntN.{ℤ, pos, _-ℤ_}
+use lib.ListN.{length}
+use lib.IntN.{ℤ, _-ℤ_}
 use Rattle.whole.specs.Whole.{plus}
-use Rattle.plan.specs.Limits.{scratch-size}
 use Rattle.plan.specs.Lists.{At}
 use Rattle.plan.specs.Plan.{Table, Is, Sound}
 use Rattle.plan.specs.Paths.{child-less}
@@ -16,22 +15,12 @@ use Rattle.rules.specs.Placement.{placed, Agree, width, rows}
 use Rattle.layout.specs.Sheet.{sheet}
 use Rattle.least.specs.Alike.{Alike, Twins}
 use Rattle.least.specs.Theorems.{alike}
-use Rattle.positions.specs.Written.{written}
 use Rattle.positions.specs.WrittenLaws.{written-agree}
 use Rattle.drawing.specs.Laid.{answer, positions-after, scratch-after, Lays}
 use Rattle.drawing.specs.LaidLaws.{sheet-asks, sheet-wide, sheet-deep}
 use Rattle.drawing.specs.declared.Laid.{Laid}
 use Rattle.drawing.specs.declared.Laid.the-variants.{Sheet, Refused}
-
--- a sheet of this width and these rows is given: ours, written into the positions, with the scratch cleared
-pub record Gives (t : Table) (al : ℕ) (s s′ : List ℕ) (ps ps′ : List ℤ) (r : Laid) : Type 0 where
-  pub w : ℕ
-  pub h : ℕ
-  pub answers : r ≡ Sheet w h
-  pub wide : pos w ≡ width t (sheet t al)
-  pub deep : pos h ≡ rows t (sheet t al)
-  pub positions : ps′ ≡ written ps (sheet t al) (length t)
-  pub scratch : s′ ≡ replicate scratch-size 0 ++ drop scratch-size s
+use Rattle.engine.specs.Outcomes.{Gives}
 
 module _ (t : Table) (al : ℕ) (s s′ : List ℕ) (ps ps′ : List ℤ) (r : Laid) (l : Lays t al s s′ ps ps′ r) where
   abbrev why : Refusal

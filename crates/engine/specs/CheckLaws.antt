@@ -1,28 +1,25 @@
--- What Check answers where no question refuses. Nothing that a reader must believe stands here but `Judged`. Assumes nothing.
+-- What Check answers where no question refuses, and where one does; so does Ends. Nothing that a reader must believe stands here. Assumes nothing.
 use mathlib.Core.Path.{_≡_, refl, sym, ap, _∙_}
 use mathlib.Core.List.{List}
 use mathlib.Core.Logic.{_↔_}
 use Prim.Native.Nat.{ℕ}
 use native.Mathlib.Omega.{arith}
+use borrow.Author.Tests.{ne-eqb}
 use lib.IntN.{ℤ, pos}
 use Rattle.whole.specs.Whole.{plus}
 use Rattle.plan.specs.Plan.{Table}
-use Rattle.plan.specs.Questions.{check, none, refusal, check-given}
+use Rattle.plan.specs.Questions.{check, ends, none, refusal, check-given, ends-given}
 use Rattle.plan.specs.declared.Refusal.{Refusal}
-use Rattle.rules.specs.Placement.{Placement, placed, width, rows}
-use Rattle.rules.specs.Rules.{Keeps}
+use Rattle.rules.specs.Placement.{placed, width, rows}
 use Rattle.rules.specs.Search.{Verdict, kept, broken}
 use Rattle.rules.specs.Verdict.{verdict, answer, Breaks}
 use Rattle.rules.specs.VerdictLaws.{kept-keeps, keeps-kept, verdict-broken, breaks-verdict, fine-answer, faulty-answer}
 use Rattle.verdict.specs.Checked.{answered, checked-of}
 use Rattle.verdict.specs.CheckedLaws.{Accepted, accepted, width-natural, rows-natural}
-use Rattle.verdict.specs.declared.Checked.the-variants.{Kept, Broken}
-
--- a placement keeps S1 to S5, and this is its width and these are its rows
-pub record Judged (t : Table) (p : Placement) (al w h : ℕ) : Type 0 where
-  pub keeps : Keeps t p al
-  pub wide : width t p ≡ pos w
-  pub deep : rows t p ≡ pos h
+use Rattle.verdict.specs.declared.Checked.the-variants.{Kept, Broken, Refused}
+use Rattle.connectors.specs.Ended.{ended-of}
+use Rattle.connectors.specs.declared.Ended.the-variants as ended
+use Rattle.engine.specs.Outcomes.{Judged}
 
 module _ (t : Table) (al : ℕ) (ps : List ℤ) (z : refusal check (check-given t al ps) ≡ none) where
   unrefused : checked-of t ps al ≡ answered (answer t (placed ps) al)
@@ -74,3 +71,14 @@ module _ (t : Table) (al : ℕ) (ps : List ℤ) (z : refusal check (check-given 
       there (broken r′ a′ b′) q e =
           let (x, y, z) = broken-same r′ a′ b′ r a b (sym (on-broken r′ a′ b′ q) ∙ e) in
           verdict-broken t (placed ps) al r a b (rw (x, y, z) at q)
+
+-- ---- a refusal
+pub check-refused : (t : Table) (al : ℕ) (ps : List ℤ) → ¬ (refusal check (check-given t al ps) .number ≡ 0)
+    → checked-of t ps al ≡ Refused (refusal check (check-given t al ps) .number) (refusal check (check-given t al ps) .cell)
+unfolding checked-of
+check-refused t al ps z = rw (ne-eqb (refusal check (check-given t al ps) .number) 0 z)
+
+pub ends-refused : (t : Table) (ps : List ℤ) (c : ℕ) → ¬ (refusal ends (ends-given t ps c) .number ≡ 0)
+    → ended-of t ps c ≡ ended.Refused (refusal ends (ends-given t ps c) .number) (refusal ends (ends-given t ps c) .cell)
+unfolding ended-of
+ends-refused t ps c z = rw (ne-eqb (refusal ends (ends-given t ps c) .number) 0 z)
