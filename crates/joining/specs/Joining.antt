@@ -33,6 +33,10 @@ noted ms c x = set ms (4 * c + 3) x
 abbrev pub height : List ℕ → ℕ → ℕ → ℕ
 height ms c d = d + 1 + mark ms c 0
 
+-- the rows below the box of f once its child c, of depth d, has joined: those of the deeper, of the children before and of c
+abbrev pub joined-rows : List ℕ → ℕ → ℕ → ℕ → ℕ
+joined-rows ms f c d = max (mark ms f 0) (height ms c d)
+
 -- the box is drawn over the joined rows. The marks: the middle, both extents, and 0 for the distance from the first sibling
 unfoldable pub completed : Memory → ℕ → ℕ → ℕ → ℕ → Memory
 completed m at c d w =

@@ -6,8 +6,8 @@ use Prim.Native.Nat.{ℕ, zero, suc, _+_, _-_, _*_, _/_, _%_, _≤_, _<_, min}
 use native.Mathlib.Nat.{div-add-mod', eq-or-lt-of-le, le-of-suc-le-suc}
 use native.Mathlib.Omega.{arith}
 use native.Mathlib.Decide.{ℕ-discrete, decLt}
-use lib.ListN.{length, getD, set, drop}
-use lib.Seq.{getD-set-same, getD-set-other, set-out, getD-drop}
+use lib.ListN.{length, getD, set}
+use lib.Seq.{getD-set-same, getD-set-other, set-out}
 use Rattle.plan.specs.Limits.{farthest}
 use Rattle.plan.specs.ListLaws.{at-getD}
 use Rattle.layout.specs.Contour.{greatest, clash}
@@ -31,9 +31,6 @@ set-low xs i v h l q = go (ℕ-discrete q i)
     go : Dec (q ≡ i) → getD (set xs i v) q 0 ≤ farthest
     go (yes e) = rw e (inside (decLt i (length xs)))
     go (no ne) = rw (getD-set-other xs i q v 0 ne) (h q)
-
-pub drop-low : (xs : List ℕ) (n : ℕ) → Low xs → Low (drop n xs)
-drop-low xs n h i = rw (getD-drop n xs i 0) (h (n + i))
 
 pub box-low : (xs : List ℕ) (k w n : ℕ) → w ≤ farthest → Low xs → Low (box-to xs k w n)
 unfolding box-to

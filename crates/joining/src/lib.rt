@@ -18,9 +18,9 @@ ghost use mathlib.Core.Path.{_≡_};
 ghost use mathlib.Core.Bool.{cond};
 ghost use Prim.Native.Nat.{_+_, _-_, _*_, _≤_, _<_, max, min};
 ghost use lib.ListN.{length};
-ghost use Rattle.plan.specs.Limits.{farthest};
+ghost use Rattle.plan.specs.Limits.{last-row, farthest};
 ghost use Rattle.rows.specs.Rows.{upto-rows, beyond-rows};
-ghost use Rattle.joining.specs.Joining.{mem, mark, four, noted, height, completed, apart, settled-first, settled-by, settled, Completing, Settling, Siding};
+ghost use Rattle.joining.specs.Joining.{mem, mark, four, noted, height, joined-rows, completed, apart, settled-first, settled-by, settled, Completing, Settling, Siding};
 
 fn wide32(x: u32) -> usize
     ensures { λ r. ⌜ r ≡ x ⌝ }
@@ -45,6 +45,17 @@ pub fn mark_of(marks: &[u32], c: usize, k: usize) -> u32
     ensures { λ r. ⌜ r ≡ mark (now (marks .entry)) c k ⌝ }
 {
     marks[4 * c + k]
+}
+
+// The rows below the box of f once its child c, of depth d, has joined.
+pub fn joined_rows(marks: &[u32], f: usize, c: usize, d: usize) -> usize
+    requires { ⌜ (4 * f + 4 ≤ length (now marks)) × (4 * c + 4 ≤ length (now marks)) × (height (now marks) c d ≤ last-row + 1) ⌝ }
+    ensures { λ r. ⌜ r ≡ joined-rows (now (marks .entry)) f c d ⌝ }
+{
+    taller(
+        wide32(mark_of(marks, f, 0)),
+        d + 1 + wide32(mark_of(marks, c, 0)),
+    )
 }
 
 fn put_marks(marks: &mut [u32], c: usize, m0: u32, m1: u32, m2: u32, m3: u32)

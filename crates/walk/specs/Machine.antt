@@ -4,9 +4,9 @@ use mathlib.Core.List.{List, [], _∷_, _++_}
 use Prim.Native.Nat.{ℕ, zero, suc, _+_, _-_, _*_, _≤_, _<_}
 use native.Mathlib.Omega.{arith}
 use lib.ListN.{length, getD, take, drop}
-use Rattle.plan.specs.Limits.{most-cells}
+use Rattle.plan.specs.Limits.{most-cells, last-row}
 use Rattle.rows.specs.Rows.{row-size, box-to}
-use Rattle.joining.specs.Joining.{Memory, mem, height, completed, Completing, Settling}
+use Rattle.joining.specs.Joining.{Memory, mem, height, joined-rows, completed, Completing, Settling}
 use Rattle.joining.specs.Settle.{finished}
 use Rattle.links.specs.Links.{link}
 
@@ -40,14 +40,28 @@ pub record State : Type 0 where
   pub next : ℕ
   pub memory : Memory
 
--- the part of the scratch from row y on, changed
-abbrev pub below-row : List ℕ → ℕ → Memory → Memory
-below-row xs y m = mem (take (row-size * y) xs ++ m .rows) (m .marks)
+-- a stretch of the scratch: n rows from row y on
+abbrev pub stretch : List ℕ → ℕ → ℕ → List ℕ
+stretch xs y n = take (row-size * n) (drop (row-size * y) xs)
 
--- the child c of f, at the level below, is closed: only the rows from its top row on change
+-- the scratch with zs in the place of that stretch: the rows above it, and those below it, are as they were
+abbrev pub with-stretch : List ℕ → ℕ → ℕ → List ℕ → List ℕ
+with-stretch xs y n zs = take (row-size * y) xs ++ (zs ++ drop (row-size * y + row-size * n) xs)
+
+-- how many rows the stretch below the box of f has once its child c is joined
+abbrev pub stretch-rows : Chart → ℕ → ℕ → List ℕ → ℕ
+stretch-rows b f c ms = joined-rows ms f c (deep b c)
+
+-- the child c of f is completed and joins it, in the rows xs of the stretch below the box of f: they begin with the top row of c
+abbrev pub joined-in : Chart → ℕ → ℕ → ℕ → List ℕ → List ℕ → Memory
+joined-in b level f c xs ms = finished (mem xs ms) (2 * level) f c (deep b c) (wide b c) (link (b .links) c 2) (apt b f) (b .allowance)
+
+-- the child c of f, at the level below, is closed: only the stretch below the box of f is written ("only that stretch is written while its sons are joined")
 unfoldable pub closed : Chart → ℕ → ℕ → ℕ → Memory → Memory
 closed b level f c m =
-    below-row (m .rows) (top b c) (finished (mem (drop (row-size * top b c) (m .rows)) (m .marks)) (2 * level) f c (deep b c) (wide b c) (link (b .links) c 2) (apt b f) (b .allowance))
+    let n = stretch-rows b f c (m .marks) in
+    let j = joined-in b level f c (stretch (m .rows) (top b c) n) (m .marks) in
+    mem (with-stretch (m .rows) (top b c) n (j .rows)) (j .marks)
 
 -- the root is closed, and its rows are cleared
 unfoldable pub root-closed : Memory → ℕ → ℕ → Memory
@@ -79,8 +93,11 @@ pub record Closing (b : Chart) (level f c : ℕ) (xs ms : List ℕ) : Type 0 whe
   pub depths : c < length (b .depths)
   pub tops : c < length (b .tops)
   pub shallow : level ≤ 30
-  pub start : row-size * top b c ≤ length xs
-  pub finishing : Finishing (mem (drop (row-size * top b c) xs) ms) (2 * level) f c (deep b c) (wide b c)
+  pub own : 4 * c + 4 ≤ length ms
+  pub theirs : 4 * f + 4 ≤ length ms
+  pub small : height ms c (deep b c) ≤ last-row + 1
+  pub fits : row-size * top b c + row-size * stretch-rows b f c ms ≤ length xs
+  pub finishing : Finishing (mem (stretch xs (top b c) (stretch-rows b f c ms)) ms) (2 * level) f c (deep b c) (wide b c)
 
 pub record Ending (b : Chart) (m : Memory) : Type 0 where
   pub widths : 0 < length (b .widths)

@@ -1,13 +1,12 @@
 -- What the scratch and the marks show while a cell is open, and how it changes when a child is opened and closed. Assumes nothing.
 use mathlib.Core.Path.{_≡_, refl, _∙_, ap, sym, subst}
 use mathlib.Core.Logic.{_≢_}
-use mathlib.Core.List.{List, _++_}
+use mathlib.Core.List.{List}
 use mathlib.Core.Bool.{Bool, true, false}
 use Prim.Native.Nat.{ℕ, suc, _+_, _-_, _*_, _≤_, _<_}
 use native.Mathlib.Omega.{arith}
 use native.Mathlib.Decide.{ℕ-discrete}
-use lib.ListN.{length, getD, take, drop, length-drop, length-append, List·getD-append}
-use lib.Seq.{getD-drop, getD-take, getD-append-add, length-take-le}
+use lib.ListN.{length, getD}
 use lib.Dec.{ltb}
 use borrow.Author.Tests.{ltb-true, ltb-false}
 use Rattle.plan.specs.Limits.{most-cells, most-level, last-row, scratch-size, farthest}
@@ -15,15 +14,16 @@ use Rattle.layout.specs.Contour.{Contour, greatest}
 use Rattle.rows.specs.Rows.{row-size, extent, Low}
 use Rattle.rows.specs.RowLaws.{Column, column, left, right, left-off, right-off, other}
 use Rattle.folding.specs.Fold.{Tally, fresh, add, boxed}
-use Rattle.folding.specs.Lists.{get-greatest, length-box}
+use Rattle.folding.specs.Lists.{get-greatest, get-past, length-box}
 use Rattle.folding.specs.Held.{Held, held-fresh, add-tall, box-fits}
 use Rattle.joining.specs.Joining.{Memory, mem, mark}
-use Rattle.joining.specs.Numbers.{low-rows, drop-low}
+use Rattle.joining.specs.Numbers.{low-rows}
 use Rattle.joining.specs.MarkLaws.{low-marks, low-four}
 use Rattle.joining.specs.Complete.{Under, completing}
 use Rattle.joining.specs.Settle.{finished, Given, Joined, Marked, Settled, settling, settle-adds, held-after}
 use Rattle.links.specs.Links.{link}
-use Rattle.walk.specs.Machine.{Chart, wide, deep, top, apt, closed, Closing}
+use Rattle.walk.specs.Machine.{Chart, wide, deep, top, apt, stretch, with-stretch, stretch-rows, joined-in, closed, Closing}
+use Rattle.walk.specs.Stretch.{stretch-length, stretch-at, put-length, put-above, put-at, put-below, row-past}
 
 -- the open cell f, at level v with its rows from u on and the appointed place m, has the children a joined, whose widths sum up to n
 pub record Shows (xs ms : List ℕ) (f v u m : ℕ) (a : Tally) (n : ℕ) : Type 0 where
@@ -102,30 +102,6 @@ open-shows b xs ms f v u m a n i c k h fine z =
       low-marked = h .low-marked;
     }
 
--- ---- the part of the scratch from row y on
-drop-at : (xs : List ℕ) (y j k : ℕ) → extent (drop (row-size * y) xs) j k ≡ extent xs (y + j) k
-drop-at xs y j k =
-    let e : row-size * y + (row-size * j + k) ≡ row-size * (y + j) + k = omega arith in
-    getD-drop (row-size * y) xs (row-size * j + k) 0 ∙ ap (λ (i : ℕ). getD xs i 0) e
-
-put-above : (xs zs : List ℕ) (y : ℕ) → row-size * y ≤ length xs → (i k : ℕ) → k < row-size → i < y → extent (take (row-size * y) xs ++ zs) i k ≡ extent xs i k
-put-above xs zs y fit i k b lt =
-    let short : row-size * i + k < row-size * y = omega arith in
-    let len : length (take (row-size * y) xs) ≡ row-size * y = length-take-le (row-size * y) xs fit in
-    List·getD-append (take (row-size * y) xs) zs 0 (row-size * i + k) (omega arith) ∙ getD-take (row-size * y) xs (row-size * i + k) 0 short
-
-put-at : (xs zs : List ℕ) (y : ℕ) → row-size * y ≤ length xs → (j k : ℕ) → extent (take (row-size * y) xs ++ zs) (y + j) k ≡ extent zs j k
-put-at xs zs y fit j k =
-    let len : length (take (row-size * y) xs) ≡ row-size * y = length-take-le (row-size * y) xs fit in
-    let e : row-size * (y + j) + k ≡ length (take (row-size * y) xs) + (row-size * j + k) = omega arith in
-    ap (λ (i : ℕ). getD (take (row-size * y) xs ++ zs) i 0) e ∙ getD-append-add (take (row-size * y) xs) zs (row-size * j + k) 0
-
-put-length : (xs zs : List ℕ) (y : ℕ) → row-size * y ≤ length xs → length zs ≡ length (drop (row-size * y) xs) → length (take (row-size * y) xs ++ zs) ≡ length xs
-put-length xs zs y fit e =
-    let len : length (take (row-size * y) xs) ≡ row-size * y = length-take-le (row-size * y) xs fit in
-    let d = length-drop (row-size * y) xs in
-    omega (arith, length-append (take (row-size * y) xs) zs)
-
 -- what is shown after the child c, with the children e and the contour p, is closed
 pub record Shut (xs ms ns : List ℕ) (f v u m : ℕ) (a : Tally) (n c : ℕ) (e : Tally) (p : Contour) (Outside : ℕ → Type 0) (M : Memory) : Type 0 where
   pub shows : Shows (M .rows) (M .marks) f v u m a n
@@ -141,22 +117,70 @@ module _ (b : Chart) (xs ms ys ns : List ℕ) (f v u m : ℕ) (a : Tally) (s i c
     (h : Shows xs ms f v u m a s) (fine : Fine b u (suc v) i c) (hc : Shows ys ns c (suc v) (u + deep b c + 1) k e n)
     (kept : Kept xs ms ys ns c (suc v) (u + deep b c + 1) Outside) (f≢c : f ≢ c) (f-small : f < most-cells) (out : Outside f)
     (light : s + ((wide b c + 1) + n) ≤ farthest) (place : a .done ≡ i) (appointed : apt b f ≡ m) (long : Long b) where
+  -- the rows of the stretch below the box of f: those of the deeper, of the children before and of c
+  abbrev N : ℕ
+  N = stretch-rows b f c ns
+
   abbrev zs : List ℕ
-  zs = drop (row-size * top b c) ys
+  zs = stretch ys (top b c) N
 
   row : top b c ≡ u
   row = fine .row
 
-  z-at : (j k : ℕ) → extent zs j k ≡ extent ys (u + j) k
-  z-at j k = drop-at ys (top b c) j k ∙ ap (λ (y : ℕ). extent ys (y + j) k) row
+  f-marks : SameMarks ms ns f
+  f-marks = kept .others f f≢c out
 
-  z-before : (j k : ℕ) → k < row-size → k < 2 * v + 2 → extent zs j k ≡ extent xs (u + j) k
-  z-before j k l lt = z-at j k ∙ kept .before (u + j) k l (omega arith)
+  f-tall : mark ns f 0 ≡ length (a .merge .left)
+  f-tall = f-marks 0 (omega arith) ∙ h .tall
 
-  z-below : (j k : ℕ) → extent zs (deep b c + 1 + j) k ≡ extent ys (u + deep b c + 1 + j) k
-  z-below j k =
-      let q : u + (deep b c + 1 + j) ≡ u + deep b c + 1 + j = omega arith in
-      z-at (deep b c + 1 + j) k ∙ ap (λ (y : ℕ). extent ys y k) q
+  parents-fit : length (a .merge .left) ≤ N
+  parents-fit = omega (arith, f-tall)
+
+  childs-fit : deep b c + 1 + length (e .merge .left) ≤ N
+  childs-fit = omega (arith, hc .tall)
+
+  few : u + N ≤ last-row + 1
+  few = omega (arith, f-tall, hc .tall, h .room, hc .room)
+
+  fits : row-size * top b c + row-size * N ≤ length ys
+  fits = omega (arith, few, row, hc .size)
+
+  z-length : length zs ≡ row-size * N
+  z-length = stretch-length ys (top b c) N fits
+
+  z-in : (j k : ℕ) → k < row-size → j < N → extent zs j k ≡ extent ys (u + j) k
+  z-in j k l lt = stretch-at ys (top b c) N fits j k l lt ∙ ap (λ (y : ℕ). extent ys (y + j) k) row
+
+  -- below the stretch the columns of f and of the levels under it are empty
+  y-below : (j k : ℕ) → extent ys (u + (deep b c + 1 + j)) k ≡ extent ys (u + deep b c + 1 + j) k
+  y-below j k = let q : u + (deep b c + 1 + j) ≡ u + deep b c + 1 + j = omega arith in ap (λ (y : ℕ). extent ys y k) q
+
+  y-past : (j k : ℕ) → 2 * v ≤ k → k < row-size → N ≤ j → extent ys (u + j) k ≡ 0
+  y-past j k p l le = go k (column (2 * v) k) p l
+    where
+      own : (k : ℕ) → (extent ys (u + deep b c + 1 + (j - (deep b c + 1))) k ≡ 0) → extent ys (u + j) k ≡ 0
+      own k g = let q : deep b c + 1 + (j - (deep b c + 1)) ≡ j = omega (arith, childs-fit) in rw q at (y-below (j - (deep b c + 1)) k ∙ g)
+
+      go : (k : ℕ) → Column (2 * v) k → 2 * v ≤ k → k < row-size → extent ys (u + j) k ≡ 0
+      go k left p l = kept .before (u + j) (2 * v) l (omega arith) ∙ h .left j ∙ get-past (a .merge .left) j (omega (arith, parents-fit))
+      go k right p l = kept .before (u + j) (2 * v + 1) l (omega arith) ∙ h .right j ∙ get-past (a .merge .right) j (omega (arith, parents-fit, h .held .even))
+      go k left-off p l = own (2 * v + 2) (let q : 2 * suc v ≡ 2 * v + 2 = omega arith in (rw q at (hc .left (j - (deep b c + 1)))) ∙ get-past (e .merge .left) (j - (deep b c + 1)) (omega (arith, childs-fit)))
+      go k right-off p l = own (2 * v + 3) (let q : 2 * suc v + 1 ≡ 2 * v + 3 = omega arith in (rw q at (hc .right (j - (deep b c + 1)))) ∙ get-past (e .merge .right) (j - (deep b c + 1)) (omega (arith, childs-fit, hc .held .even)))
+      go k (other n0 n1 n2 n3) p l = own k (hc .clear (j - (deep b c + 1)) k (omega arith) l)
+
+  -- so in these columns the stretch shows what the scratch does, in every row
+  z-at : (j k : ℕ) → 2 * v ≤ k → k < row-size → extent zs j k ≡ extent ys (u + j) k
+  z-at j k p l = go (ltb j N) refl
+    where
+      go : (z : Bool) → ltb j N ≡ z → extent zs j k ≡ extent ys (u + j) k
+      go true g = z-in j k l (ltb-true j N g)
+      go false g = let le = ltb-false j N g in row-past zs N j k z-length le ∙ sym (y-past j k p l le)
+
+  z-before : (j k : ℕ) → 2 * v ≤ k → k < row-size → k < 2 * v + 2 → extent zs j k ≡ extent xs (u + j) k
+  z-before j k p l lt = z-at j k p l ∙ kept .before (u + j) k l (omega arith)
+
+  z-below : (j k : ℕ) → 2 * v ≤ k → k < row-size → extent zs (deep b c + 1 + j) k ≡ extent ys (u + deep b c + 1 + j) k
+  z-below j k p l = z-at (deep b c + 1 + j) k p l ∙ y-below j k
 
   z-clear : (j k : ℕ) → 2 * v + 4 ≤ k → k < row-size → extent zs j k ≡ 0
   z-clear j k p q = go (ltb j (deep b c + 1)) refl
@@ -164,20 +188,18 @@ module _ (b : Chart) (xs ms ys ns : List ℕ) (f v u m : ℕ) (a : Tally) (s i c
       go : (z : Bool) → ltb j (deep b c + 1) ≡ z → extent zs j k ≡ 0
       go true g =
           let l : j < deep b c + 1 = ltb-true j (deep b c + 1) g in
-          z-at j k ∙ kept .above (u + j) k q (omega arith) ∙ h .clear j k (omega arith) q
+          z-at j k (omega arith) q ∙ kept .above (u + j) k q (omega arith) ∙ h .clear j k (omega arith) q
       go false g =
           let ge : deep b c + 1 ≤ j = ltb-false j (deep b c + 1) g in
           let q′ : deep b c + 1 + (j - (deep b c + 1)) ≡ j = omega arith in
-          (rw q′ at (z-below (j - (deep b c + 1)) k)) ∙ hc .clear (j - (deep b c + 1)) k (omega arith) q
+          (rw q′ at (z-below (j - (deep b c + 1)) k (omega arith) q)) ∙ hc .clear (j - (deep b c + 1)) k (omega arith) q
 
-  fits : row-size * top b c ≤ length ys
-  fits = omega (arith, row, fine .low, hc .size)
-
-  z-length : length zs ≡ length ys - row-size * top b c
-  z-length = length-drop (row-size * top b c) ys
-
-  f-marks : SameMarks ms ns f
-  f-marks = kept .others f f≢c out
+  z-low : Low zs
+  z-low = low-rows zs (λ q k l. go q k l (ltb q N) refl)
+    where
+      go : (q k : ℕ) → k < row-size → (z : Bool) → ltb q N ≡ z → extent zs q k ≤ farthest
+      go q k l true g = rw (z-in q k l (ltb-true q N g)) (hc .low (row-size * (u + q) + k))
+      go q k l false g = rw (row-past zs N q k z-length (ltb-false q N g)) (omega arith)
 
   under : Under zs ns (2 * v + 2) c (deep b c) k e n
   under =
@@ -185,9 +207,9 @@ module _ (b : Chart) (xs ms ys ns : List ℕ) (f v u m : ℕ) (a : Tally) (s i c
         column = omega (arith, fine .shallow);
         own = omega (arith, fine .small, hc .many);
         held = hc .held;
-        left = λ j. let q : 2 * suc v ≡ 2 * v + 2 = omega arith in z-below j (2 * v + 2) ∙ (rw q at (hc .left j));
-        right = λ j. let q : 2 * suc v + 1 ≡ 2 * v + 2 + 1 = omega arith in z-below j (2 * v + 2 + 1) ∙ (rw q at (hc .right j));
-        fit = omega (arith, z-length, hc .room, row, hc .size);
+        left = λ j. let q : 2 * suc v ≡ 2 * v + 2 = omega arith in z-below j (2 * v + 2) (omega arith) (omega (arith, fine .shallow)) ∙ (rw q at (hc .left j));
+        right = λ j. let q : 2 * suc v + 1 ≡ 2 * v + 2 + 1 = omega arith in z-below j (2 * v + 2 + 1) (omega arith) (omega (arith, fine .shallow)) ∙ (rw q at (hc .right j));
+        fit = omega (arith, z-length, childs-fit);
         tall = hc .tall;
         past = hc .past;
         far = hc .far;
@@ -202,16 +224,16 @@ module _ (b : Chart) (xs ms ys ns : List ℕ) (f v u m : ℕ) (a : Tally) (s i c
         under = under;
         held = h .held;
         light = light;
-        left = λ j. z-before j (2 * v) (omega (arith, fine .shallow)) (omega arith) ∙ h .left j;
-        right = λ j. z-before j (2 * v + 1) (omega (arith, fine .shallow)) (omega arith) ∙ h .right j;
-        fit = omega (arith, z-length, h .room, row, hc .size, fine .low);
+        left = λ j. z-before j (2 * v) (omega arith) (omega (arith, fine .shallow)) (omega arith) ∙ h .left j;
+        right = λ j. z-before j (2 * v + 1) (omega arith) (omega (arith, fine .shallow)) (omega arith) ∙ h .right j;
+        fit = omega (arith, z-length, parents-fit);
         small = omega (arith, hc .room);
         smallf = omega (arith, h .room);
-        tall = f-marks 0 (omega arith) ∙ h .tall;
+        tall = f-tall;
         edge = f-marks 1 (omega arith) ∙ h .edge;
         past = f-marks 2 (omega arith) ∙ h .past;
         far = f-marks 3 (omega arith) ∙ h .far;
-        low = drop-low ys (row-size * top b c) (hc .low);
+        low = z-low;
       }
 
   abbrev P : Contour
@@ -229,7 +251,10 @@ module _ (b : Chart) (xs ms ys ns : List ℕ) (f v u m : ℕ) (a : Tally) (s i c
         depths = omega (arith, fine .small, long .depths);
         tops = omega (arith, fine .small, long .tops);
         shallow = omega (arith, fine .shallow);
-        start = fits;
+        own = omega (arith, fine .small, hc .many);
+        theirs = omega (arith, hc .many);
+        small = omega (arith, hc .tall, hc .room);
+        fits = fits;
         finishing = record {
           completing = completing zs ns (2 * v + 2) c (deep b c) (wide b c) k e n under;
           settling = settling (b .allowance) zs ns (2 * v) f c (deep b c) (wide b c) m k a e s n given;
@@ -237,7 +262,7 @@ module _ (b : Chart) (xs ms ys ns : List ℕ) (f v u m : ℕ) (a : Tally) (s i c
       }
 
   M : Memory
-  M = finished (mem zs ns) (2 * v) f c (deep b c) (wide b c) (link (b .links) c 2) (apt b f) (b .allowance)
+  M = joined-in b v f c zs ns
 
   settled : Settled (b .allowance) zs ns (2 * v) f c (deep b c) (wide b c) m k a e s n given M A
   unfolding M
@@ -251,17 +276,45 @@ module _ (b : Chart) (xs ms ys ns : List ℕ) (f v u m : ℕ) (a : Tally) (s i c
   marked : Marked ns (M .marks) f c A e P
   marked = settled .marks
 
-  abbrev qs : List ℕ
-  qs = take (row-size * top b c) ys ++ M .rows
+  m-length : length (M .rows) ≡ row-size * N
+  m-length = joined .same ∙ z-length
 
-  q-at : (j k : ℕ) → extent qs (u + j) k ≡ extent (M .rows) j k
-  q-at j k = ap (λ (y : ℕ). extent qs (y + j) k) (sym row) ∙ put-at ys (M .rows) (top b c) fits j k
+  abbrev qs : List ℕ
+  qs = with-stretch ys (top b c) N (M .rows)
+
+  q-in : (j k : ℕ) → k < row-size → j < N → extent qs (u + j) k ≡ extent (M .rows) j k
+  q-in j k l lt = ap (λ (y : ℕ). extent qs (y + j) k) (sym row) ∙ put-at ys (top b c) N fits (M .rows) m-length j k l lt
+
+  q-below : (j k : ℕ) → N ≤ j → extent qs (u + j) k ≡ extent ys (u + j) k
+  q-below j k le = ap (λ (y : ℕ). extent qs (y + j) k) (sym row) ∙ put-below ys (top b c) N fits (M .rows) m-length j k le ∙ ap (λ (y : ℕ). extent ys (y + j) k) row
+
+  q-at : (j k : ℕ) → 2 * v ≤ k → k < row-size → extent qs (u + j) k ≡ extent (M .rows) j k
+  q-at j k p l = go (ltb j N) refl
+    where
+      go : (z : Bool) → ltb j N ≡ z → extent qs (u + j) k ≡ extent (M .rows) j k
+      go true g = q-in j k l (ltb-true j N g)
+      go false g = let le = ltb-false j N g in q-below j k le ∙ y-past j k p l le ∙ sym (row-past (M .rows) N j k m-length le)
 
   q-above : (q k : ℕ) → k < row-size → q < u → extent qs q k ≡ extent ys q k
-  q-above q k l lt = put-above ys (M .rows) (top b c) fits q k l (omega (arith, row))
+  q-above q k l lt = put-above ys (top b c) N fits (M .rows) m-length q k l (omega (arith, row))
 
   q-length : length qs ≡ length xs
-  q-length = put-length ys (M .rows) (top b c) fits (joined .same) ∙ kept .same
+  q-length = put-length ys (top b c) N fits (M .rows) m-length ∙ kept .same
+
+  -- a row above the stretch, one of it, or one below it
+  by-row : (P : ℕ → Type 0) → ((q : ℕ) → q < u → P q) → ((j : ℕ) → j < N → P (u + j)) → ((j : ℕ) → N ≤ j → P (u + j)) → (q : ℕ) → P q
+  by-row P above in-it below q = go (ltb q u) refl
+    where
+      on : (z : Bool) → ltb (q - u) N ≡ z → P (u + (q - u))
+      on true g = in-it (q - u) (ltb-true (q - u) N g)
+      on false g = below (q - u) (ltb-false (q - u) N g)
+
+      go : (z : Bool) → ltb q u ≡ z → P q
+      go true g = above q (ltb-true q u g)
+      go false g =
+          let ge : u ≤ q = ltb-false q u g in
+          let eq : u + (q - u) ≡ q = omega arith in
+          subst P eq (on (ltb (q - u) N) refl)
 
   held′ : Held m A (s + ((wide b c + 1) + n))
   held′ = held-after (b .allowance) zs ns (2 * v) f c (deep b c) (wide b c) m k a e s n given
@@ -277,16 +330,11 @@ module _ (b : Chart) (xs ms ys ns : List ℕ) (f v u m : ℕ) (a : Tally) (s i c
       go k (other n0 n1 n2 n3) p q = joined .else j k q n0 n1 n2 n3 ∙ z-clear j k (omega arith) q
 
   earlier : (q k : ℕ) → k < row-size → k < 2 * v → extent qs q k ≡ extent xs q k
-  earlier q k l lt = go (ltb q u) refl
-    where
-      go : (z : Bool) → ltb q u ≡ z → extent qs q k ≡ extent xs q k
-      go true g = q-above q k l (ltb-true q u g) ∙ kept .before q k l (omega arith)
-      go false g =
-          let ge : u ≤ q = ltb-false q u g in
-          let eq : u + (q - u) ≡ q = omega arith in
-          let all : extent qs (u + (q - u)) k ≡ extent xs (u + (q - u)) k =
-          q-at (q - u) k ∙ joined .else (q - u) k l (omega arith) (omega arith) (omega arith) (omega arith) ∙ z-before (q - u) k l (omega arith) in
-          rw eq at all
+  earlier q k l lt =
+      by-row (λ q. extent qs q k ≡ extent xs q k)
+      (λ q o. q-above q k l o ∙ kept .before q k l (omega arith))
+      (λ j o. q-in j k l o ∙ joined .else j k l (omega arith) (omega arith) (omega arith) (omega arith) ∙ z-in j k l o ∙ kept .before (u + j) k l (omega arith))
+      (λ j o. q-below j k o ∙ kept .before (u + j) k l (omega arith)) q
 
   part-low : (j k : ℕ) → k < row-size → extent (M .rows) j k ≤ farthest
   part-low j k l = go k (column (2 * v) k) l
@@ -296,18 +344,13 @@ module _ (b : Chart) (xs ms ys ns : List ℕ) (f v u m : ℕ) (a : Tally) (s i c
       go k right l = rw (joined .right j) (omega (arith, held′ .right j, held′ .wide, light))
       go k left-off l = rw (joined .left-off j) (omega arith)
       go k right-off l = rw (joined .right-off j) (omega arith)
-      go k (other n0 n1 n2 n3) l = rw (joined .else j k l n0 n1 n2 n3) (drop-low ys (row-size * top b c) (hc .low) (row-size * j + k))
+      go k (other n0 n1 n2 n3) l = rw (joined .else j k l n0 n1 n2 n3) (z-low (row-size * j + k))
 
   q-low : Low qs
-  q-low = low-rows qs (λ q k l. go q k l (ltb q u) refl)
-    where
-      go : (q k : ℕ) → k < row-size → (z : Bool) → ltb q u ≡ z → extent qs q k ≤ farthest
-      go q k l true g = rw (q-above q k l (ltb-true q u g)) (hc .low (row-size * q + k))
-      go q k l false g =
-          let ge : u ≤ q = ltb-false q u g in
-          let eq : u + (q - u) ≡ q = omega arith in
-          let here : extent qs (u + (q - u)) k ≤ farthest = rw (q-at (q - u) k) (part-low (q - u) k l) in
-          rw eq at here
+  q-low = low-rows qs (λ q k l. by-row (λ q. extent qs q k ≤ farthest)
+      (λ q o. rw (q-above q k l o) (hc .low (row-size * q + k)))
+      (λ j o. rw (q-in j k l o) (part-low j k l))
+      (λ j o. rw (q-below j k o) (hc .low (row-size * (u + j) + k))) q)
 
   rows-low : u + length (A .merge .left) ≤ last-row + 1
   rows-low = omega (arith, add-tall (b .allowance) m a P, length-box (deep b c + 1) 0 (e .merge .left), hc .room, h .room)
@@ -339,9 +382,9 @@ module _ (b : Chart) (xs ms ys ns : List ℕ) (f v u m : ℕ) (a : Tally) (s i c
           many = omega (arith, marked .same, kept .same-marks, h .many);
           held = held′;
           room = rows-low;
-          left = λ j. q-at j (2 * v) ∙ joined .left j;
-          right = λ j. q-at j (2 * v + 1) ∙ joined .right j;
-          clear = λ j k p q. q-at j k ∙ beside j k p q;
+          left = λ j. q-at j (2 * v) (omega arith) (omega (arith, fine .shallow)) ∙ joined .left j;
+          right = λ j. q-at j (2 * v + 1) (omega arith) (omega (arith, fine .shallow)) ∙ joined .right j;
+          clear = λ j k p q. q-at j k (omega arith) q ∙ beside j k p q;
           tall = marked .tall;
           edge = marked .edge;
           past = marked .past;

@@ -8,10 +8,10 @@ use native.Mathlib.Numerals.{add-one}
 use lib.ListN.{length, getD, set, take, drop}
 use lib.Seq.{getD-set-same, getD-set-other}
 use Rattle.rows.specs.Rows.{row-size, box-to}
-use Rattle.joining.specs.Joining.{Memory, mem, height, completed, settled, Settling}
+use Rattle.joining.specs.Joining.{Memory, mem, height, joined-rows, completed, settled, Settling}
 use Rattle.joining.specs.Settle.{finished}
 use Rattle.links.specs.Links.{link}
-use Rattle.walk.specs.Machine.{Chart, wide, deep, top, apt, State, closed, root-closed, step, step-open, step-close, step-end, Finishing, Closing, Ending, Turning}
+use Rattle.walk.specs.Machine.{Chart, wide, deep, top, apt, State, stretch, with-stretch, stretch-rows, joined-in, closed, root-closed, step, step-open, step-close, step-end, Finishing, Closing, Ending, Turning}
 
 -- ---- the chain: an array of 32 cells and a count. The stack has its last cell on top
 unfoldable pub stack-of : List ℕ → ℕ → List ℕ
@@ -90,13 +90,13 @@ pub root-found : (m : Memory) (d w : ℕ) {hs : ℕ} {xs ms xs′ : List ℕ} �
 unfolding root-closed
 root-found m d w e eh ex = cc (ap (λ (n : Memory). n .rows) e, ap (λ (n : Memory). n .marks) e)
 
-pub child-ready : (b : Chart) (level f c : ℕ) (xs ms : List ℕ) → Closing b level f c xs ms → {d w at : ℕ} {ys : List ℕ} → d ≡ deep b c → w ≡ wide b c → at ≡ 2 * level → ys ≡ drop (row-size * top b c) xs → Finishing (mem ys ms) at f c d w
-child-ready b level f c xs ms h ed ew ea ey = rw (ed, ew, ea, ey) (h .finishing)
+pub child-ready : (b : Chart) (level f c : ℕ) (xs ms : List ℕ) → Closing b level f c xs ms → {d w at y n : ℕ} {ys : List ℕ} → d ≡ deep b c → w ≡ wide b c → at ≡ 2 * level → y ≡ top b c → n ≡ joined-rows ms f c d → ys ≡ stretch xs y n → Finishing (mem ys ms) at f c d w
+child-ready b level f c xs ms h ed ew ea ey en eys = rw (eys, ey, en, ed, ew, ea) (h .finishing)
 
-pub close-found : (b : Chart) (level f c : ℕ) (xs ms : List ℕ) {d w y place a : ℕ} {ys ys′ ms′ zs : List ℕ} → d ≡ deep b c → w ≡ wide b c → y ≡ top b c → place ≡ link (b .links) c 2 → a ≡ apt b f
-    → ys ≡ drop (row-size * y) xs → mem ys′ ms′ ≡ finished (mem ys ms) (2 * level) f c d w place a (b .allowance) → zs ≡ take (row-size * y) xs ++ ys′ → mem zs ms′ ≡ closed b level f c (mem xs ms)
+pub close-found : (b : Chart) (level f c : ℕ) (xs ms : List ℕ) {d w y n place a : ℕ} {ys ys′ ms′ zs rest : List ℕ} → d ≡ deep b c → w ≡ wide b c → y ≡ top b c → n ≡ joined-rows ms f c d → place ≡ link (b .links) c 2 → a ≡ apt b f
+    → ys ≡ stretch xs y n → mem ys′ ms′ ≡ finished (mem ys ms) (2 * level) f c d w place a (b .allowance) → rest ≡ drop (row-size * y + row-size * n) xs → zs ≡ take (row-size * y) xs ++ (ys′ ++ rest) → mem zs ms′ ≡ closed b level f c (mem xs ms)
 unfolding closed
-close-found b level f c xs ms ed ew ey ep ea eys em ez =
-    let e = rw (ed, ew, ep, ea, eys, ey) at em in
-    let ez′ = rw ey at ez in
-    (λ i. mem (ez′ i) (e i .marks)) ∙ (λ i. mem (take (row-size * top b c) xs ++ e i .rows) (finished (mem (drop (row-size * top b c) xs) ms) (2 * level) f c (deep b c) (wide b c) (link (b .links) c 2) (apt b f) (b .allowance) .marks))
+close-found b level f c xs ms ed ew ey en ep ea eys em er ez =
+    let e = rw (eys, ey, en, ed, ew, ep, ea) at em in
+    let ez′ = rw (er, ey, en, ed) at ez in
+    (λ i. mem (ez′ i) (e i .marks)) ∙ (λ i. mem (with-stretch xs (top b c) (stretch-rows b f c ms) (e i .rows)) (joined-in b level f c (stretch xs (top b c) (stretch-rows b f c ms)) ms .marks))

@@ -1,6 +1,7 @@
 // The walk of the tree: a loop over the chain of open cells. Each cell is opened, its children are joined one after another, and it is closed.
 
 use joining::complete;
+use joining::joined_rows;
 use joining::settle;
 use links::link_of;
 use rows::ROW;
@@ -82,7 +83,7 @@ fn finish_root(rows: &mut [u32], marks: &mut [u32], d: usize, w: u32)
     box_rows(rows, 0, hs, 0);
 }
 
-// The finished cell c joins its parent f at the given level. Only the rows from its top row on are written.
+// The finished cell c joins its parent f at the given level. Only the stretch of rows below the box of f is lent on, and written.
 fn close(
     links: &[u16],
     widths: &[u16],
@@ -103,8 +104,9 @@ fn close(
     let place = link_of(links, c, 2);
     let apt = link_of(links, f, 3);
     let start = ROW * row_of(tops, c);
+    let end = start + ROW * joined_rows(marks, f, c, d);
     finish_child(
-        &mut rows[start..],
+        &mut rows[start..end],
         marks,
         2 * level,
         f,
