@@ -1,7 +1,7 @@
 #!/usr/bin/env bash
 # Prints the sheet of each plan file named, or of an example where none is: ./sheet.sh [PLAN...]
 # The first run proves the program and the crates that it stands on, which takes minutes, and says so on standard error;
-# later ones find it built. A listing is printed whole or not at all.
+# later ones find it built. A listing goes out with one write: whole or not at all, unless a device fills up half-way.
 # Status: 0 for a sheet, 1 for a refusal, 2 for trouble, which is told on standard error: a plan that cannot be read, a
 # program that is not proved, an output that cannot be written. Of several plans, the greatest.
 set -uo pipefail
