@@ -21,8 +21,9 @@
 extern "C" {
 #endif
 
-#define KUZPALEN_CELLS 256u      /* the most cells of a plan; the records that Read's table needs */
-#define KUZPALEN_SCRATCH 16384u  /* the numbers that Layout's scratch needs */
+#define KUZPALEN_CELLS 256u           /* the most cells of a plan; the records that Read's table needs */
+#define KUZPALEN_SCRATCH 16384u       /* the numbers that Layout's scratch needs */
+#define KUZPALEN_LISTING_SIZE 16384u  /* the bytes that List's output needs, whatever the file */
 #define KUZPALEN_NO_PARENT 65535u
 
 /* One record of a table, which has one for each cell: cell 0 is the root. */
@@ -78,6 +79,12 @@ typedef struct {
     int32_t to_y;
 } kuzpalen_ends_answer;
 
+typedef struct {
+    uint8_t number;
+    uint16_t cell;
+    size_t length;         /* of the listing, in bytes */
+} kuzpalen_list_answer;
+
 /* Read: a plan file into a table. `table_len` is at least KUZPALEN_CELLS, or question 1 refuses. The
  * first `count` records are written, and no other. */
 kuzpalen_read_answer kuzpalen_read(const uint8_t *file, size_t file_len,
@@ -105,6 +112,14 @@ kuzpalen_check_answer kuzpalen_check(const kuzpalen_record *table, size_t table_
 /* Ends: of the connector from a cell's parent to the cell, which is not the root. */
 kuzpalen_ends_answer kuzpalen_ends(const kuzpalen_record *table, size_t table_len,
                                    const int32_t *positions, size_t positions_len, size_t cell);
+
+/* List: the listing of a plan file, byte for byte what the program `sheet` prints: the lines of its sheet,
+ * or the line `refused`, number, cell of the refusal by Read, each ended by a line feed. `out_len` is at
+ * least KUZPALEN_LISTING_SIZE, or question 1 refuses, which is List's only refusal: that a plan is refused
+ * is told by the listing. The first `length` bytes of `out` are the listing, with no 0 after it; later
+ * ones stay as they were. */
+kuzpalen_list_answer kuzpalen_list(const uint8_t *file, size_t file_len,
+                                   uint8_t *out, size_t out_len);
 
 #ifdef __cplusplus
 }

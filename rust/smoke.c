@@ -1,6 +1,7 @@
 /* Worked sheet B of document 01 and its file with labels, through the C header. */
 #include "../include/kuzpalen.h"
 #include <stdio.h>
+#include <string.h>
 
 static const uint8_t file[38] = {
     'U', 'p', 'A', 'R', 'u', 'n',
@@ -21,6 +22,19 @@ static int file_good(void) {
         && kuzpalen_read(file, 15, table, KUZPALEN_CELLS).number == 2;
 }
 
+static int listing_good(void) {
+    static const char sheet[] = "sheet 3 0 9 4\n0 0 0 4 1 Up\n1 -4 2 3 1 A\n2 0 2 5 1 Run\n";
+    static uint8_t out[KUZPALEN_LISTING_SIZE + 1];
+    memset(out, '~', sizeof out);
+    kuzpalen_list_answer small = kuzpalen_list(file, sizeof file, out, KUZPALEN_LISTING_SIZE - 1);
+    int good = small.number == 1 && small.cell == 0 && small.length == 0 && out[0] == '~';
+    kuzpalen_list_answer refused = kuzpalen_list(file, 15, out, sizeof out);
+    good = good && refused.number == 0 && refused.length == 12 && memcmp(out, "refused 2 0\n~", 13) == 0;
+    kuzpalen_list_answer listed = kuzpalen_list(file, sizeof file, out, sizeof out);
+    return good && listed.number == 0 && listed.cell == 0 && listed.length == strlen(sheet)
+        && memcmp(out, sheet, listed.length) == 0 && out[listed.length] == '~';
+}
+
 int main(void) {
     static uint32_t scratch[KUZPALEN_SCRATCH];
     kuzpalen_record table[3] = {
@@ -39,7 +53,7 @@ int main(void) {
         && ends.number == 0 && ends.from_x == 2 && ends.from_y == 1 && ends.to_x == -3 && ends.to_y == 2
         && broken.number == 0 && broken.rule == 3 && broken.a == 1 && broken.b == 2
         && kuzpalen_ends(table, 3, p, 6, 0).number == 16 && kuzpalen_check(table, 3, p, 5, 0).number == 1;
-    good = good && file_good();
+    good = good && file_good() && listing_good();
     puts(good ? "sheet B from C: good" : "sheet B from C: DIFFERENCE");
     return good ? 0 : 1;
 }

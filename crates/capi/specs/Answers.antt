@@ -12,6 +12,9 @@ use Rattle.verdict.specs.declared.Checked.{Checked}
 use Rattle.verdict.specs.declared.Checked.the-variants.{Kept, Broken, Refused as Unchecked}
 use Rattle.connectors.specs.declared.Ended.{Ended}
 use Rattle.connectors.specs.declared.Ended.the-variants.{Joined, Refused as Unended}
+use Rattle.printing.specs.Printing.{Lists}
+use Rattle.printing.specs.declared.Listed.{Listed}
+use Rattle.printing.specs.declared.Listed.the-variants.{Text, Refused as Unlisted}
 use Rattle.engine.specs.Read.{Reads}
 use Rattle.engine.specs.declared.ReadAnswer.{ReadAnswer as Read}
 use Rattle.engine.specs.declared.ReadAnswer.the-variants.{Plan, Refused as Unread}
@@ -19,6 +22,7 @@ use Rattle.capi.specs.declared.ReadAnswer.{ReadAnswer}
 use Rattle.capi.specs.declared.LayoutAnswer.{LayoutAnswer}
 use Rattle.capi.specs.declared.CheckAnswer.{CheckAnswer}
 use Rattle.capi.specs.declared.EndsAnswer.{EndsAnswer}
+use Rattle.capi.specs.declared.ListAnswer.{ListAnswer}
 
 unfoldable pub read-answer : Read → ReadAnswer
 read-answer (Plan n al) = record { number = 0; cell = 0; allowance = al; count = n }
@@ -37,6 +41,10 @@ unfoldable pub ends-answer : Ended → EndsAnswer
 ends-answer (Joined x y x′ y′) = record { number = 0; cell = 0; «from_x» = x; «from_y» = y; «to_x» = x′; «to_y» = y′ }
 ends-answer (Unended k c) = record { number = k; cell = c; «from_x» = pos 0; «from_y» = pos 0; «to_x» = pos 0; «to_y» = pos 0 }
 
+unfoldable pub list-answer : Listed → ListAnswer
+list-answer (Text n) = record { number = 0; cell = 0; length = n }
+list-answer (Unlisted k c) = record { number = k; cell = c; length = 0 }
+
 -- a call of Read, as `Reads` has it, with the struct for its answer
 pub record Filling (f : List ℕ) (t t′ : List Record) (r : ReadAnswer) : Type 0 where
   pub read : Read
@@ -48,3 +56,9 @@ pub record Laying (t : Table) (al : ℕ) (s s′ : List ℕ) (ps ps′ : List �
   pub laid : Laid
   pub lays : Lays t al s s′ ps ps′ laid
   pub answers : r ≡ laid-answer laid
+
+-- a call of List, as `Lists` has it, with the struct for its answer
+pub record Listing (f out out′ : List ℕ) (r : ListAnswer) : Type 0 where
+  pub listed : Listed
+  pub lists : Lists f out out′ listed
+  pub answers : r ≡ list-answer listed

@@ -2,13 +2,14 @@
 use connectors::Ended;
 use drawing::Laid;
 use plan::Record;
+use printing::Listed;
 use verdict::Checked;
 ghost use mathlib.Core.Path.{_≡_};
 ghost use Rattle.plan.specs.Records.{«cells-of»};
 ghost use Rattle.planfile.specs.Reading.{«label-refusal», «label-part»};
 ghost use Rattle.verdict.specs.Checked.{«checked-of»};
 ghost use Rattle.connectors.specs.Ended.{«ended-of»};
-ghost use Rattle.capi.specs.Answers.{«read-answer», «laid-answer», «check-answer», «ends-answer», Filling, Laying};
+ghost use Rattle.capi.specs.Answers.{«read-answer», «laid-answer», «check-answer», «ends-answer», «list-answer», Filling, Laying, Listing};
 
 // Number and cell of the refusal, or 0 and 0; the number of cells and the allowance.
 #[repr(C)]
@@ -49,6 +50,14 @@ pub struct EndsAnswer {
     pub from_y: i32,
     pub to_x: i32,
     pub to_y: i32,
+}
+
+// Number and cell of the refusal, or 0 and 0; the length of the listing.
+#[repr(C)]
+pub struct ListAnswer {
+    pub number: u8,
+    pub cell: u16,
+    pub length: usize,
 }
 
 // Number and cell of the refusal, or 0 and 0.
@@ -164,6 +173,24 @@ fn told_ends(answer: Ended) -> EndsAnswer
     }
 }
 
+// The answer of List as a struct.
+fn told_list(answer: Listed) -> ListAnswer
+    ensures { λ r. ⌜ r ≡ list-answer answer ⌝ }
+{
+    match answer {
+        Listed::Text(length) => ListAnswer {
+            number: 0,
+            cell: 0,
+            length,
+        },
+        Listed::Refused(number, cell) => ListAnswer {
+            number,
+            cell,
+            length: 0,
+        },
+    }
+}
+
 #[no_mangle]
 pub extern "C" fn kuzpalen_read(file: &[u8], table: &mut [Record]) -> ReadAnswer
     ensures { λ r. ⌜ Filling (now (file .entry)) (now (table .entry)) (now (table .exit)) r ⌝ }
@@ -222,4 +249,12 @@ pub extern "C" fn kuzpalen_ends(table: &[Record], positions: &[i32], cell: usize
 {
     let answer = engine::ends(table, positions, cell);
     told_ends(answer)
+}
+
+#[no_mangle]
+pub extern "C" fn kuzpalen_list(file: &[u8], out: &mut [u8]) -> ListAnswer
+    ensures { λ r. ⌜ Listing (now (file .entry)) (now (out .entry)) (now (out .exit)) r ⌝ }
+{
+    let answer = printing::list(file, out);
+    told_list(answer)
 }

@@ -96,6 +96,13 @@ mod raw {
         pub to_y: i32,
     }
 
+    #[repr(C)]
+    pub struct ListAnswer {
+        pub number: u8,
+        pub cell: u16,
+        pub length: usize,
+    }
+
     extern "C" {
         pub fn kuzpalen_read(file: *const u8, file_len: usize, table: *mut Record, table_len: usize) -> ReadAnswer;
         pub fn kuzpalen_label(file: *const u8, file_len: usize, cell: usize) -> LabelPart;
@@ -123,6 +130,7 @@ mod raw {
             positions_len: usize,
             cell: usize,
         ) -> EndsAnswer;
+        pub fn kuzpalen_list(file: *const u8, file_len: usize, out: *mut u8, out_len: usize) -> ListAnswer;
     }
 }
 
@@ -191,4 +199,11 @@ pub fn ends(table: &[Record], positions: &[i32], cell: usize) -> Result<Ends, Re
     // SAFETY: the pointers are good for their lengths.
     let r = unsafe { raw::kuzpalen_ends(table.as_ptr(), table.len(), positions.as_ptr(), positions.len(), cell) };
     unless(r.number, r.cell, Ends { from: (r.from_x, r.from_y), to: (r.to_x, r.to_y) })
+}
+
+/// List: the listing of a file into the first bytes of the output, which needs room for 16,384; its length.
+pub fn list(file: &[u8], out: &mut [u8]) -> Result<usize, Refusal> {
+    // SAFETY: both pointers are good for their lengths, and no byte of the file is in the output.
+    let r = unsafe { raw::kuzpalen_list(file.as_ptr(), file.len(), out.as_mut_ptr(), out.len()) };
+    unless(r.number, r.cell, r.length)
 }

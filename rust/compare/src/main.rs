@@ -10,7 +10,7 @@ use bindings::Record;
 use compare::guard::Guarded;
 use reference::generate as make;
 use reference::rng::Rng;
-use reference::{Cell, Refusal, MAX_CELLS, SCRATCH};
+use reference::{Cell, Refusal, LISTING, MAX_CELLS, SCRATCH};
 use std::collections::BTreeMap;
 use std::mem::size_of;
 use std::process::exit;
@@ -43,6 +43,7 @@ struct Rooms {
     table: Guarded,
     positions: Guarded,
     scratch: Guarded,
+    out: Guarded,
 }
 
 struct Run {
@@ -102,6 +103,26 @@ impl Run {
             self.same("Label's part of the file", &part, &place_of(reference::label(file, cell), file), &(cell, file));
             self.count("Label", if expected.number == 0 { "accepted".into() } else { format!("refused {:2}", expected.number) });
         }
+    }
+
+    fn list(&mut self, rng: &mut Rng, file: &[u8]) {
+        let room = match rng.index(40) {
+            0 => rng.pick(&[0, 1, LISTING - 1]),
+            1 => rng.index(LISTING),
+            2..=20 => LISTING,
+            _ => LISTING + 1 + rng.index(100),
+        };
+        let mut theirs = vec![rng.next() as u8; room];
+        let at_end = rng.once_in(2);
+        let lent = self.rooms.file.lend(file, at_end);
+        let ours = self.rooms.out.lend(&theirs, at_end);
+        let got = bindings::list(lent, ours).map_err(|r| Refusal { number: r.number as u32, cell: r.cell as u32 });
+        let (lent, ours) = (lent.to_vec(), ours.to_vec());
+        let expected = reference::list(file, &mut theirs);
+        self.same("List's answer", &got, &expected, &(room, file));
+        self.same("the output after List", &ours, &theirs, &(room, file));
+        self.same("the file after List", &lent.as_slice(), &file, &file);
+        self.count("List", expected.map_or_else(|r| named(&Err(r)), |length| printed(&theirs[..length])));
     }
 
     fn layout(&mut self, rng: &mut Rng, cells: &[Cell], allowance: u32) -> Vec<i32> {
@@ -165,7 +186,7 @@ impl Run {
         self.count("Ends", named(&expected.map(|_| ())));
     }
 
-    /// A file, valid or damaged, through Read and Label.
+    /// A file, valid or damaged, through Read, Label and List.
     fn a_file(&mut self, rng: &mut Rng) {
         let mut cells = if rng.once_in(10) { make::too_tall(rng) } else { some_table(rng) };
         let labels = make::labels(rng, &mut cells);
@@ -200,6 +221,7 @@ impl Run {
         }
         self.read(rng, &file);
         self.labels(rng, &file);
+        self.list(rng, &file);
     }
 
     /// A table, valid or damaged, through Layout, Check and Ends.
@@ -252,6 +274,16 @@ fn named(r: &Result<(), Refusal>) -> String {
     }
 }
 
+/// What a listing says: a sheet, or the number of a refusal.
+fn printed(listing: &[u8]) -> String {
+    let text = String::from_utf8_lossy(listing);
+    let mut words = text.split_whitespace();
+    match (words.next(), words.next()) {
+        (Some("refused"), Some(number)) => format!("prints {number:>4}"),
+        _ => "prints sheet".into(),
+    }
+}
+
 /// Mostly small plans; now and then one of up to 256 cells.
 fn some_table(rng: &mut Rng) -> Vec<Cell> {
     let most = match rng.index(400) {
@@ -266,22 +298,25 @@ fn some_table(rng: &mut Rng) -> Vec<Cell> {
 
 /// The answers that each call can give: all must have been seen in a long run.
 fn unseen(seen: &Seen) -> Vec<String> {
-    let refusals: [(&str, &[u32]); 5] = [
+    let refusals: [(&str, &[u32]); 6] = [
         ("Read", &[1, 2, 3, 4, 5, 6, 7, 8, 9, 10, 11, 12, 13]),
         ("Label", &[2, 3, 4, 5, 6, 7, 8, 9, 10, 11, 12, 13, 16]),
         ("Layout", &[1, 4, 6, 7, 8, 11, 12, 13, 14]),
         ("Check", &[1, 4, 6, 7, 8, 11, 12, 13, 14, 15]),
         ("Ends", &[1, 4, 6, 7, 8, 11, 12, 13, 15, 16]),
+        ("List", &[1]),
     ];
     let mut all: Vec<(&str, String)> = Vec::new();
     for (call, numbers) in refusals {
         all.extend(numbers.iter().map(|n| (call, format!("refused {n:2}"))));
-        if call != "Check" {
+        if call != "Check" && call != "List" {
             all.push((call, "accepted".into()));
         }
     }
     all.push(("Check", "kept".into()));
     all.extend((1..=5).map(|s| ("Check", format!("broken S{s}"))));
+    all.push(("List", "prints sheet".into()));
+    all.extend((2..=13).map(|n| ("List", format!("prints {n:>4}"))));
     all.into_iter().filter(|(c, a)| !seen.contains_key(&(*c, a.clone()))).map(|(c, a)| format!("{c} {a}")).collect()
 }
 
@@ -296,6 +331,7 @@ fn main() {
         table: Guarded::new(400 * size_of::<Record>()),
         positions: Guarded::new(4 * 1_000),
         scratch: Guarded::new(4 * (SCRATCH + 200)),
+        out: Guarded::new(LISTING + 200),
     };
     let mut run = Run { seed, number: 0, seen: Seen::new(), calls: 0, rooms };
     for number in first..first + inputs {
@@ -308,7 +344,7 @@ fn main() {
         }
     }
     for ((call, answer), times) in &run.seen {
-        println!("{call:7} {answer:11} {times:8}");
+        println!("{call:7} {answer:12} {times:8}");
     }
     println!("{inputs} inputs, {} calls, seed {seed}, {:.1} s: no difference", run.calls, began.elapsed().as_secs_f64());
     let missing = unseen(&run.seen);

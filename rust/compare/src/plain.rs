@@ -7,6 +7,7 @@ use bindings::{Ends, Plan, Record, Refusal, Sheet, Verdict};
 const CELLS: usize = 256;
 const ROW: usize = 64;
 const SCRATCH: usize = 16_384;
+const LISTING: usize = 16_384;
 const FARTHEST: i32 = 65_535;
 
 fn refuse<T>(number: u8, cell: usize) -> Result<T, Refusal> {
@@ -267,9 +268,13 @@ pub fn layout(table: &[Record], allowance: u32, scratch: &mut [u32], positions: 
     }
     let top = ask_table(table, positions.len())?;
     ask_allowance(allowance)?;
-    let rows = &mut scratch[..SCRATCH];
-    rows.fill(0);
-    let marks = walk(table, &top, allowance, rows);
+    scratch[..SCRATCH].fill(0);
+    Ok(draw(table, &top, allowance, &mut scratch[..SCRATCH], positions))
+}
+
+/// The sheet of a table that no question refuses, in rows that are zero.
+fn draw(table: &[Record], top: &[u16; CELLS], allowance: u32, rows: &mut [u32], positions: &mut [i32]) -> Sheet {
+    let marks = walk(table, top, allowance, rows);
     let (mut least, mut most, mut last) = (0, 0, 0);
     for (c, cell) in table.iter().enumerate() {
         let x = if c == 0 {
@@ -284,7 +289,7 @@ pub fn layout(table: &[Record], allowance: u32, scratch: &mut [u32], positions: 
         most = most.max(x + cell.width as i32);
         last = last.max(top[c] + cell.depth as u16);
     }
-    Ok(Sheet { width: (most - least) as u32, rows: last as u32 + 1 })
+    Sheet { width: (most - least) as u32, rows: last as u32 + 1 }
 }
 
 /// A cell as Check sees it.
@@ -392,4 +397,73 @@ pub fn ends(table: &[Record], positions: &[i32], cell: usize) -> Result<Ends, Re
         from: (positions[2 * p] + half(p), positions[2 * p + 1] + table[p].depth as i32),
         to: (positions[2 * cell] + half(cell), positions[2 * cell + 1]),
     })
+}
+
+/// What is printed so far.
+struct Text<'a> {
+    out: &'a mut [u8],
+    at: usize,
+}
+
+impl Text<'_> {
+    fn put(&mut self, text: &[u8]) {
+        self.out[self.at..self.at + text.len()].copy_from_slice(text);
+        self.at += text.len();
+    }
+
+    fn number(&mut self, n: i32) {
+        let mut text = [0; 11];
+        let (mut from, mut left) = (text.len(), n.unsigned_abs());
+        while from == text.len() || left > 0 {
+            from -= 1;
+            text[from] = b'0' + (left % 10) as u8;
+            left /= 10;
+        }
+        if n < 0 {
+            self.put(b"-");
+        }
+        self.put(&text[from..]);
+    }
+
+    fn fields(&mut self, numbers: &[i32]) {
+        for n in numbers {
+            self.put(b" ");
+            self.number(*n);
+        }
+    }
+}
+
+pub fn list(file: &[u8], out: &mut [u8]) -> Result<usize, Refusal> {
+    if out.len() < LISTING {
+        return refuse(1, 0);
+    }
+    let mut text = Text { out, at: 0 };
+    let mut table = [Record::default(); CELLS];
+    let plan = match read(file, &mut table) {
+        Ok(plan) => plan,
+        Err(r) => {
+            text.put(b"refused");
+            text.fields(&[r.number as i32, r.cell as i32]);
+            text.put(b"\n");
+            return Ok(text.at);
+        }
+    };
+    let table = &table[..plan.count];
+    let (mut rows, mut positions) = ([0; SCRATCH], [0; 2 * CELLS]);
+    let sheet = draw(table, &ask_tree(table)?, plan.allowance as u32, &mut rows, &mut positions);
+    text.put(b"sheet");
+    text.fields(&[plan.count as i32, plan.allowance as i32, sheet.width as i32, sheet.rows as i32]);
+    text.put(b"\n");
+    for (c, cell) in table.iter().enumerate() {
+        text.number(c as i32);
+        text.fields(&[positions[2 * c], positions[2 * c + 1], cell.width as i32, cell.depth as i32]);
+        let start = cell.label_start as usize;
+        let label = &file[start..start + cell.label_length as usize];
+        if !label.is_empty() {
+            text.put(b" ");
+            text.put(label);
+        }
+        text.put(b"\n");
+    }
+    Ok(text.at)
 }

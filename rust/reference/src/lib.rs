@@ -13,7 +13,7 @@ pub mod rng;
 mod rules;
 
 pub use layout::{distances_by_pairs, distances_by_paths, layout, place, SCRATCH};
-pub use listing::listing;
+pub use listing::{list, listing, LISTING};
 pub use plan::{Cell, Plan, Refusal, MAX_CELLS, ROOT};
 pub use plan_file::{label, label_refusal, read};
 pub use rules::{check, ends, measure, Ends, Measure, Verdict};

@@ -1,8 +1,21 @@
-//! The printed listing of a file.
+//! The printed listing of a file, and List, which writes it into a lent output.
 
 use crate::layout::{layout, SCRATCH};
-use crate::plan::{Cell, MAX_CELLS};
+use crate::plan::{refuse, Cell, Refusal, MAX_CELLS};
 use crate::plan_file::{label, read};
+
+/// The bytes that an output must have, whatever the file.
+pub const LISTING: usize = 16_384;
+
+/// List: the listing into the first bytes of the output; its length. A file that is refused has a listing too.
+pub fn list(file: &[u8], out: &mut [u8]) -> Result<usize, Refusal> {
+    if out.len() < LISTING {
+        return refuse(1, 0);
+    }
+    let text = listing(file);
+    out[..text.len()].copy_from_slice(&text);
+    Ok(text.len())
+}
 
 pub fn listing(file: &[u8]) -> Vec<u8> {
     let mut table = [Cell::default(); MAX_CELLS];

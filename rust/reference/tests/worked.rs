@@ -111,6 +111,20 @@ fn printed() {
 }
 
 #[test]
+fn listed() {
+    let mut out = vec![b'~'; LISTING + 1];
+    for short in [0, LISTING - 1] {
+        assert_eq!(list(FILE, &mut out[..short]), Err(Refusal { number: 1, cell: 0 }));
+    }
+    assert!(out.iter().all(|b| *b == b'~'));
+    for (file, length) in [(&FILE[..15], 12), (&FILE[..], 54)] {
+        assert_eq!(list(file, &mut out[..LISTING]), Ok(length));
+        assert_eq!(out[..length], listing(file));
+        assert!(out[length..].iter().all(|b| *b == b'~'));
+    }
+}
+
+#[test]
 fn labels_of_the_file() {
     let labels: Vec<&[u8]> = (0..3).map(|c| label(FILE, c)).collect();
     assert_eq!(labels, [&b"Up"[..], b"A", b"Run"]);

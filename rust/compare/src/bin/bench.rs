@@ -1,15 +1,21 @@
 //! The engine's time for each call against the same algorithm in plain Rust, in one run: the least of
 //! many short batches of each, taken in turns, so that a busy machine slows both alike.
+//!
+//!     bench                          the calls
+//!     bench PLAN PROGRAM...          programs that print a plan's listing, such as `sheet`: microseconds a run
 
 use bindings::Record;
 use compare::plain;
 use reference::generate::{file, labels, table, Shape, Sizes};
 use reference::rng::Rng;
+use std::fs::File;
 use std::hint::black_box;
+use std::process::Command;
 use std::time::Instant;
 
 const SEED: u64 = 20_261_115;
 const BATCHES: usize = 60;
+const RUNS: usize = 2_000;
 
 /// The least time of one call, in nanoseconds: the engine's, and plain Rust's.
 fn race(mut engine: impl FnMut(), mut rust: impl FnMut()) -> (f64, f64) {
@@ -29,7 +35,42 @@ fn race(mut engine: impl FnMut(), mut rust: impl FnMut()) -> (f64, f64) {
     best
 }
 
+/// One run of a program from its start to its end, in microseconds, with its output in a file.
+fn run(program: &str, plan: &str, output: &str) -> f64 {
+    let (input, output) = (File::open(plan).expect("a plan"), File::create(output).expect("a file to write"));
+    let began = Instant::now();
+    let status = Command::new(program).stdin(input).stdout(output).status().expect("the program runs");
+    assert!(status.success());
+    began.elapsed().as_nanos() as f64 / 1_000.0
+}
+
+/// The programs in turns: the least time of each, and the one that half of its runs did not pass.
+fn programs(plan: &str, programs: &[String]) {
+    let output = std::env::temp_dir().join(format!("listing.{}", std::process::id()));
+    let output = output.to_str().expect("a path");
+    let mut times = vec![Vec::new(); programs.len()];
+    for _ in 0..RUNS {
+        for (k, program) in programs.iter().enumerate() {
+            times[k].push(run(program, plan, output));
+        }
+    }
+    let _ = std::fs::remove_file(output);
+    println!("| program | least µs | median µs |\n|---|---|---|");
+    for (program, times) in programs.iter().zip(&mut times) {
+        times.sort_by(f64::total_cmp);
+        println!("| {program} | {:.0} | {:.0} |", times[0], times[RUNS / 2]);
+    }
+}
+
 fn main() {
+    let args: Vec<String> = std::env::args().skip(1).collect();
+    match args.split_first() {
+        Some((plan, named)) => programs(plan, named),
+        None => calls(),
+    }
+}
+
+fn calls() {
     println!("| call | shape | cells | rows | engine ns | Rust ns | ratio |\n|---|---|---|---|---|---|---|");
     for shape in [Shape::Bushy, Shape::Chain, Shape::Deep, Shape::Wide] {
         for n in [16, 64, 256] {
@@ -56,6 +97,9 @@ fn main() {
             let (mut t, mut u) = (vec![Record::default(); 256], vec![Record::default(); 256]);
             assert_eq!(bindings::read(&bytes, &mut t), plain::read(&bytes, &mut u));
             assert_eq!(t, u);
+            let (mut out, mut text) = (vec![0; 16_384], vec![0; 16_384]);
+            assert_eq!(bindings::list(&bytes, &mut out), plain::list(&bytes, &mut text));
+            assert_eq!(out, text);
             assert_eq!(bindings::check(&records, &positions, 10), plain::check(&records, &positions, 10));
             let last = records.len() - 1;
             assert_eq!(bindings::ends(&records, &positions, last), plain::ends(&records, &positions, last));
@@ -79,6 +123,10 @@ fn main() {
             line("Ends", race(
                 || { let _ = black_box(bindings::ends(black_box(&records), &positions, last)); },
                 || { let _ = black_box(plain::ends(black_box(&records), &positions, last)); },
+            ));
+            line("List", race(
+                || { let _ = black_box(bindings::list(black_box(&bytes), &mut out)); },
+                || { let _ = black_box(plain::list(black_box(&bytes), &mut text)); },
             ));
         }
     }

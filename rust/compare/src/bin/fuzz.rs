@@ -14,6 +14,7 @@ use std::process::{exit, Command, Stdio};
 use std::time::{Duration, Instant};
 
 const SCRATCH: usize = 16_384;
+const LISTING: usize = 16_384;
 
 fn fault(what: &str, seed: u64, number: u64) -> ! {
     println!("FAULT: seed {seed} input {number}: {what}");
@@ -97,6 +98,29 @@ fn file_calls(rng: &mut Rng) -> Result<(), &'static str> {
     Ok(())
 }
 
+/// List, and Read, which says whether a sheet is listed or a refusal.
+fn list_call(rng: &mut Rng) -> Result<(), &'static str> {
+    let file = lent(&some_file(rng));
+    let fill = rng.next() as u8;
+    let mut out = lent(&vec![fill; if rng.once_in(10) { rng.index(LISTING) } else { LISTING + rng.index(3) }]);
+    let listed = bindings::list(&file, &mut out);
+    let (text, rest) = out.split_at(listed.unwrap_or(0));
+    if rest.iter().any(|b| *b != fill) {
+        return Err("List wrote past the listing");
+    }
+    if listed.is_ok() != (out.len() >= LISTING) {
+        return Err("List refuses otherwise than by the length of its output");
+    }
+    let line = match bindings::read(&file, &mut lent(&[Record::default(); 256])) {
+        Ok(plan) => format!("sheet {} {} ", plan.count, plan.allowance),
+        Err(r) => format!("refused {} {}\n", r.number, r.cell),
+    };
+    if listed.is_ok() && !(text.starts_with(line.as_bytes()) && text.ends_with(b"\n")) {
+        return Err("List disagrees with Read");
+    }
+    Ok(())
+}
+
 /// Layout, Check and Ends.
 fn table_calls(rng: &mut Rng) -> Result<(), &'static str> {
     let table = lent(&some_table(rng));
@@ -130,7 +154,11 @@ fn library(end: Instant, seed: u64) -> u64 {
     let mut number = 0;
     while Instant::now() < end {
         let mut rng = Rng::new(seed, number);
-        let done = if number % 2 == 0 { table_calls(&mut rng) } else { file_calls(&mut rng) };
+        let done = match number % 4 {
+            0 | 2 => table_calls(&mut rng),
+            1 => file_calls(&mut rng),
+            _ => list_call(&mut rng),
+        };
         done.unwrap_or_else(|what| fault(what, seed, number));
         number += 1;
     }

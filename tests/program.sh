@@ -1,0 +1,136 @@
+#!/usr/bin/env bash
+# The program `sheet` and the script sheet.sh from outside: what they print, where, and with which status; and what they
+# do when the output cannot be written. Needs target/bin/sheet. The gate runs it after `rt ci`.
+set -u
+cd "$(dirname "$0")/.."
+sheet=target/bin/sheet
+line="sheet: the listing could not be written whole"
+work="$(mktemp -d)"
+trap 'rm -rf "$work"' EXIT
+checks=0
+
+# same WHAT EXPECTED GOT
+same() {
+    checks=$((checks + 1))
+    [ "$2" = "$3" ] && return
+    printf 'tests/program.sh: %s\n  expected: %s\n  got:      %s\n' "$1" "$2" "$3"
+    exit 1
+}
+
+# same_files WHAT EXPECTED GOT
+same_files() {
+    checks=$((checks + 1))
+    cmp "$2" "$3" && return
+    echo "tests/program.sh: $1"
+    exit 1
+}
+
+[ -x "$sheet" ] || { echo "tests/program.sh: $sheet is not built: rt check sheet"; exit 1; }
+
+# ---- the program
+: > "$work/empty"
+for plan in plans/*.plan; do
+    "$sheet" < "$plan" > "$work/out" 2> "$work/err"
+    same "status for $plan" 0 $?
+    same_files "the listing of $plan" "${plan%.plan}.txt" "$work/out"
+    same_files "standard error for $plan" "$work/empty" "$work/err"
+done
+
+head -c 15 plans/printed.plan > "$work/short.plan"     # question 2
+printf 'x%s' "$(printf 'y%.0s' {1..16400})" > "$work/long.plan"
+{ head -c 6 plans/printed.plan; printf '\377\377\6'; tail -c 29 plans/printed.plan; } > "$work/kind.plan"     # cell 0's kind
+{ head -c 16 plans/printed.plan; printf '\11'; tail -c 21 plans/printed.plan; } > "$work/child.plan"     # cell 1's kind
+for case in "short 2 0" "long 2 0" "kind 7 0" "child 7 1"; do
+    set -- $case
+    "$sheet" < "$work/$1.plan" > "$work/out" 2> "$work/err"
+    same "status for the plan $1" 0 $?
+    same "the listing of the plan $1" "refused $2 $3" "$(cat "$work/out")"
+    same_files "standard error for the plan $1" "$work/empty" "$work/err"
+done
+
+# ---- an output that cannot be written: one line on standard error, and nothing else
+one_line() {
+    same "standard error, $1" "$line" "$(cat "$work/err")"
+    same "lines on standard error, $1" 1 "$(wc -l < "$work/err")"
+}
+for plan in plans/full.plan plans/A.plan "$work/short.plan"; do
+    "$sheet" < "$plan" > /dev/full 2> "$work/err"
+    one_line "$plan to a full device"
+    "$sheet" < "$plan" >&- 2> "$work/err"
+    one_line "$plan to a closed output"
+    # A pipe that nobody reads any more; the signal for it is ignored, so that the write fails.
+    rm -f "$work/pipe"
+    mkfifo "$work/pipe"
+    (trap '' PIPE; exec 3<> "$work/pipe" 4> "$work/pipe" 3>&-; exec "$sheet" < "$plan" >&4 2> "$work/err")
+    one_line "$plan to a pipe that is closed"
+done
+
+# ---- one write for the whole listing
+if strace -o "$work/trace" true 2> "$work/err"; then
+    for plan in plans/full.plan plans/A.plan "$work/short.plan"; do
+        strace -o "$work/trace" -e trace=write,writev,pwrite64,sendto "$sheet" < "$plan" > "$work/out"
+        same "writes of the listing of $plan" 1 "$(grep -c '^[a-z0-9]*(' "$work/trace")"
+        same "what is written of $plan" "$(wc -c < "$work/out")" "$(sed -n 's/^write(1,.* = //p' "$work/trace")"
+    done
+else
+    echo "tests/program.sh: strace is not installed, or may not trace: how often the program writes is not looked at"
+fi
+
+# ---- the script: 0 for a sheet, 1 for a refusal, 2 for trouble; of several plans, the greatest
+# status EXPECTED OUTPUT PLAN...: runs the script, with its output in a file that ends as OUTPUT
+status() {
+    expected=$1
+    wanted=$2
+    shift 2
+    ./sheet.sh "$@" > "$work/out" 2> "$work/err"
+    same "status of sheet.sh $*" "$expected" $?
+    same_files "output of sheet.sh $*" "$wanted" "$work/out"
+    [ "$expected" -eq 2 ] || same_files "standard error of sheet.sh $*" "$work/empty" "$work/err"
+    [ "$expected" -ne 2 ] || same "lines on standard error of sheet.sh $*" 1 "$(wc -l < "$work/err")"
+}
+echo "refused 2 0" > "$work/refused"
+cat plans/A.txt "$work/refused" plans/B.txt > "$work/three"
+cat plans/A.txt plans/B.txt > "$work/two"
+status 0 plans/pond.txt
+status 0 "$work/two" plans/A.plan plans/B.plan
+status 1 "$work/refused" "$work/short.plan"
+status 1 "$work/three" plans/A.plan "$work/short.plan" plans/B.plan
+status 2 "$work/empty" "$work/none.plan"
+status 2 "$work/empty" "$work"
+status 2 "$work/three" plans/A.plan "$work/short.plan" "$work/none.plan" plans/B.plan
+for full in plans/full.plan "$work/short.plan"; do
+    ./sheet.sh "$full" > /dev/full 2> "$work/err"
+    same "status of sheet.sh $full to a full device" 2 $?
+    same "lines on standard error of sheet.sh to a full device" 1 "$(wc -l < "$work/err")"
+    ./sheet.sh "$full" >&- 2> "$work/err"
+    same "status of sheet.sh $full to a closed output" 2 $?
+done
+
+# the script beside an `rt` and a program of the test's own: fake RT PROGRAM, the lines of each, no program where there are none
+fake() {
+    rm -rf "$work/fake"
+    mkdir -p "$work/fake/bin" "$work/fake/target/bin"
+    cp sheet.sh "$work/fake"
+    printf '#!/bin/sh\n%s\n' "$1" > "$work/fake/bin/rt"
+    chmod +x "$work/fake/bin/rt"
+    [ -z "$2" ] || printf '#!/bin/sh\n%s\n' "$2" > "$work/fake/target/bin/sheet"
+    [ -z "$2" ] || chmod +x "$work/fake/target/bin/sheet"
+    PATH="$work/fake/bin:$PATH" "$work/fake/sheet.sh" plans/A.plan > "$work/out" 2> "$work/err"
+    got=$?
+}
+fake 'echo "rt: plan is not proved"; exit 1' 'echo sheet 1'
+same "status where the program is not proved" 2 $got
+same_files "output where the program is not proved" "$work/empty" "$work/out"
+same "what is said where the program is not proved" "rt: plan is not proved" "$(head -n 1 "$work/err")"
+fake 'exit 0' 'echo sheet 1 0; echo "no room" >&2'
+same "status where the program has trouble" 2 $got
+same_files "output where the program has trouble" "$work/empty" "$work/out"
+same "what is said where the program has trouble" "sheet.sh: plans/A.plan: no listing: no room" "$(cat "$work/err")"
+fake 'exit 0' 'exit 0'
+same "status where the program prints nothing" 2 $got
+fake 'echo "rt: plan proved (7 s)"; echo "rt: io proved (unchanged since it was last proved)"; echo "echo sheet 1" > target/bin/sheet; chmod +x target/bin/sheet' ''
+same "status of a first run" 0 $got
+same "first line of what a first run says" "sheet.sh: proving the program and the crates that it stands on, once; this takes some minutes" "$(head -n 1 "$work/err")"
+same "the rest of what a first run says" "rt: plan proved (7 s)" "$(tail -n +2 "$work/err")"
+
+echo "the program and sheet.sh: $checks checks, no difference"
