@@ -23,7 +23,7 @@ extern "C" {
 
 #define KUZPALEN_CELLS 256u           /* the most cells of a plan; the records that Read's table needs */
 #define KUZPALEN_SCRATCH 16384u       /* the numbers that Layout's scratch needs */
-#define KUZPALEN_LISTING_SIZE 16384u  /* the bytes that List's output needs, whatever the file */
+#define KUZPALEN_LISTING_SIZE 17408u  /* the bytes that List's output needs, whatever the file */
 #define KUZPALEN_NO_PARENT 65535u
 
 /* One record of a table, which has one for each cell: cell 0 is the root. */

@@ -255,6 +255,6 @@ pub extern "C" fn kuzpalen_ends(table: &[Record], positions: &[i32], cell: usize
 pub extern "C" fn kuzpalen_list(file: &[u8], out: &mut [u8]) -> ListAnswer
     ensures { λ r. ⌜ Listing (now (file .entry)) (now (out .entry)) (now (out .exit)) r ⌝ }
 {
-    let answer = printing::list(file, out);
+    let answer = engine::list(file, out);
     told_list(answer)
 }

@@ -201,7 +201,7 @@ pub fn ends(table: &[Record], positions: &[i32], cell: usize) -> Result<Ends, Re
     unless(r.number, r.cell, Ends { from: (r.from_x, r.from_y), to: (r.to_x, r.to_y) })
 }
 
-/// List: the listing of a file into the first bytes of the output, which needs room for 16,384; its length.
+/// List: the listing of a file into the first bytes of the output, which needs room for 17,408; its length.
 pub fn list(file: &[u8], out: &mut [u8]) -> Result<usize, Refusal> {
     // SAFETY: both pointers are good for their lengths, and no byte of the file is in the output.
     let r = unsafe { raw::kuzpalen_list(file.as_ptr(), file.len(), out.as_mut_ptr(), out.len()) };

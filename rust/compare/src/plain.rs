@@ -7,7 +7,7 @@ use bindings::{Ends, Plan, Record, Refusal, Sheet, Verdict};
 const CELLS: usize = 256;
 const ROW: usize = 64;
 const SCRATCH: usize = 16_384;
-const LISTING: usize = 16_384;
+const LISTING: usize = 17_408;
 const FARTHEST: i32 = 65_535;
 
 fn refuse<T>(number: u8, cell: usize) -> Result<T, Refusal> {

@@ -5,7 +5,7 @@ use crate::plan::{refuse, Cell, Refusal, MAX_CELLS};
 use crate::plan_file::{label, read};
 
 /// The bytes that an output must have, whatever the file.
-pub const LISTING: usize = 16_384;
+pub const LISTING: usize = 17_408;
 
 /// List: the listing into the first bytes of the output; its length. A file that is refused has a listing too.
 pub fn list(file: &[u8], out: &mut [u8]) -> Result<usize, Refusal> {

@@ -97,7 +97,7 @@ fn calls() {
             let (mut t, mut u) = (vec![Record::default(); 256], vec![Record::default(); 256]);
             assert_eq!(bindings::read(&bytes, &mut t), plain::read(&bytes, &mut u));
             assert_eq!(t, u);
-            let (mut out, mut text) = (vec![0; 16_384], vec![0; 16_384]);
+            let (mut out, mut text) = (vec![0; 17_408], vec![0; 17_408]);
             assert_eq!(bindings::list(&bytes, &mut out), plain::list(&bytes, &mut text));
             assert_eq!(out, text);
             assert_eq!(bindings::check(&records, &positions, 10), plain::check(&records, &positions, 10));

@@ -14,7 +14,7 @@ use std::process::{exit, Command, Stdio};
 use std::time::{Duration, Instant};
 
 const SCRATCH: usize = 16_384;
-const LISTING: usize = 16_384;
+const LISTING: usize = 17_408;
 
 fn fault(what: &str, seed: u64, number: u64) -> ! {
     println!("FAULT: seed {seed} input {number}: {what}");
