@@ -27,6 +27,9 @@ DROP_JOIN = [("layout/specs/Lib.antt", "pub mod Join\n", ""), ("layout/specs/Joi
 DROP_HALF = [(PLAN_LAWS, "pub appointed-half : (kind k : ℕ) → (k + 1 ≤ appointed kind k + appointed kind k) × (appointed kind k + appointed kind k ≤ k + 1 + 1)\n"
               "unfolding appointed\nappointed-half kind k = (omega arith, omega arith)\n", "")]
 
+# the code of the appointed child, which `least` does not stand on
+DROP_CODE = [("plan/src/kinds.rt", re.compile(r"\n// THE appointed child.*", re.S), ""), ("plan/proofs/kinds/appointed/Proof.antt", None, None)]
+
 MUTATIONS = {
     "S3's first half not strict": [
         (RULES, "T (within t u a) → right t p a <ℤ p .x v", "T (within t u a) → right t p a ≤ℤ p .x v"),
@@ -88,10 +91,9 @@ MUTATIONS = {
         (SPAN_LAWS, "        overlap = omega arith;\n", ""),
     ],
     "the appointed child (k+1)/2 rounded down": [
-        (PLAN, "appointed kind k = (k + 1 + 1) / 2", "appointed kind k = (k + 1 + 0) / 2"),
-        ("plan/src/kinds.rt", "(k + 1 + 1) / 2", "(k + 1 + 0) / 2"),
-        (PLAN_LAWS, "pred ((n + 1 + 1) / 2) < n", "pred ((n + 1 + 0) / 2) < n"),
-    ] + DROP_HALF,
+        (PLAN, "_/_, _≤_, _<_}", "_-_, _/_, _≤_, _<_}"),
+        (PLAN, "appointed kind k = (k + 1 + 1) / 2", "appointed kind k = (k - 1) / 2 + 1"),
+    ] + DROP_CODE + DROP_HALF,
     "left children to the right": [
         (SHEET, "pos (offset al 0 os (index (suc m) (children t c))) -ℤ pos (middle c os)", "pos (middle c os) -ℤ pos (offset al 0 os (index (suc m) (children t c)))"),
         (SHEET_LAWS, "(pos (offset al 0 (contours t al f) i) -ℤ pos (middle t al f (contours t al f)))", "(pos (middle t al f (contours t al f)) -ℤ pos (offset al 0 (contours t al f) i))"),
