@@ -41,11 +41,11 @@ pub record Drawable (t : Table) (s p : ℕ) : Type 0 where
   pub room : 2 * length t ≤ p
   pub scratch : s ≡ scratch-size
 
--- a table that no question refuses, with its rows
-pub record Placeable (t : Columns) (tops : List ℕ) (s : ℕ) : Type 0 where
+-- a table that no question refuses, with its rows, and a scratch of zeros
+pub record Placeable (t : Columns) (tops s : List ℕ) : Type 0 where
   pub fit : Fit (table-of t)
   pub rows : Column tops (t .count) (row (table-of t))
-  pub scratch : s ≡ scratch-size
+  pub scratch : s ≡ replicate scratch-size 0
 
 -- our sheet is drawn
 pub record Drawn (t : Table) (al : ℕ) (s′ : List ℕ) (ps ps′ : List ℤ) (r : Measures) : Type 0 where

@@ -59,20 +59,24 @@ fn layout_refusal(t: Columns, allowance: u32, scratch: usize, positions: usize) 
     allowance_refusal(allowance)
 }
 
-// The x of each cell, from the marks of a walk over the cleared scratch.
+// The x of each cell, from the marks of a walk over a scratch of zeros.
 fn place(t: Columns, tops: &[u16; 256], allowance: u32, scratch: &mut [u32]) -> [u32; 256]
-    requires { ⌜ Placeable t (now tops) (length (now scratch)) ⌝ }
+    requires { ⌜ Placeable t (now tops) (now scratch) ⌝ }
     ensures { λ r. ⌜ Raised r (t .count) (sheet (table-of t) allowance .x) × (now (scratch .exit) ≡ replicate scratch-size 0) ⌝ }
 {
-    clear(scratch);
     let mut marks = [0u32; 1024];
     marks_of(t, tops, allowance, scratch, &mut marks);
     raised(t, &marks)
 }
 
-// A table that no question refuses is laid out over a scratch of 16,384 numbers.
-pub fn draw(t: Columns, allowance: u32, scratch: &mut [u32], positions: &mut [i32]) -> Measures
-    requires { ⌜ Drawable (table-of t) (length (now scratch)) (length (now positions)) ⌝ }
+// A table that no question refuses is laid out over a scratch of 16,384 zeros.
+pub fn draw_over_zeros(
+    t: Columns,
+    allowance: u32,
+    scratch: &mut [u32],
+    positions: &mut [i32],
+) -> Measures
+    requires { ⌜ Drawable (table-of t) (length (now scratch)) (length (now positions)) × (now scratch ≡ replicate scratch-size 0) ⌝ }
     ensures { λ r. ⌜ Drawn (table-of t) allowance (now (scratch .exit)) (now (positions .entry)) (now (positions .exit)) r ⌝ }
 {
     let n = t.count;
@@ -86,6 +90,15 @@ pub fn draw(t: Columns, allowance: u32, scratch: &mut [u32], positions: &mut [i3
         width: sheet_width(&xs, &t.width, n),
         rows: sheet_rows(&tops, &t.depth, n),
     }
+}
+
+// The same over a scratch of 16,384 numbers, whatever they are.
+fn draw(t: Columns, allowance: u32, scratch: &mut [u32], positions: &mut [i32]) -> Measures
+    requires { ⌜ Drawable (table-of t) (length (now scratch)) (length (now positions)) ⌝ }
+    ensures { λ r. ⌜ Drawn (table-of t) allowance (now (scratch .exit)) (now (positions .entry)) (now (positions .exit)) r ⌝ }
+{
+    clear(scratch);
+    draw_over_zeros(t, allowance, scratch, positions)
 }
 
 // Layout: the questions, then our sheet.

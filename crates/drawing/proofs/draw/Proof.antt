@@ -1,39 +1,23 @@
-use mathlib.Core.Path.{refl}
-use native.Mathlib.Omega.{arith}
-use Rattle.plan.specs.Columns.{table-of}
-use Rattle.layout.specs.Sheet.{sheet}
-use Rattle.drawing.specs.LaidLaws.{size, fit-lower, fit-flat, high, drawn}
+use mathlib.Core.Path.{_≡_, ap, _∙_}
+use mathlib.Core.List.{List}
+use Prim.Native.Nat.{ℕ}
+use lib.ListN.{length, replicate, length-replicate}
+use Rattle.plan.specs.Limits.{scratch-size}
 use borrow.Author.Needs.{needs}
 use Rattle.drawing.proofs.draw.Statement.{statement}
 use Rattle.drawing.proofs.draw.Tie as tie
 
-survey-requires : tie.Need-survey-requires
-survey-requires c κs =
-    let st = c .before .before .before .before .before .before .before in
-    (fit-lower (st .args .t1) (st .pre .fit), (fit-flat (st .args .t1) (st .pre .fit), (refl, refl, refl)))
+cleared : (c : tie.After-clear) → c .clear .last .0 ≡ replicate scratch-size 0
+cleared c = c .clear .ensures ∙ ap (λ (k : ℕ). replicate k 0) (c .before .before .before .pre .scratch)
 
-place-requires : tie.Need-place-requires
-place-requires c κs =
-    let st = c .before .before .before .before .before .before .before .before .before .before in
-    record { fit = st .pre .fit; rows = c .before .before .survey .ensures _ _ .2; scratch = st .pre .scratch }
+clear-requires : tie.Need-clear-requires
+clear-requires c κs = search needs
 
-write-positions-requires : tie.Need-write-positions-requires
-write-positions-requires c κs =
-    let st = c .before .before .before .before .before .before .before .before .before .before .before .before .before .before .before .before in
-    let f = st .pre .fit in
-    (high (st .args .t1) f _ _ (c .before .before .before .before .before .place .ensures .0), omega (arith, st .pre .room, size (st .args .t1) f))
-
-sheet-width-requires : tie.Need-sheet-width-requires
-sheet-width-requires c κs =
-    let st = c .before .before .before .before .before .before .before .before .before .before .before .before .before .before .before .before .before .before .before .before .before in
-    let f = st .pre .fit in
-    (high (st .args .t1) f _ _ (c .before .before .before .before .before .before .before .before .before .before .place .ensures .0), fit-lower (st .args .t1) f .some)
-
-sheet-rows-requires : tie.Need-sheet-rows-requires
-sheet-rows-requires c κs =
-    let st = c .before .before .before .before .before .before .before .before .before .before .before .before .before .before .before .before .before .before .before .before .before .before .before .before .before in
-    let l = fit-lower (st .args .t1) (st .pre .fit) in
-    (l .some, l .few)
+draw-over-zeros-requires : tie.Need-draw-over-zeros-requires
+draw-over-zeros-requires c κs =
+    let z = cleared (c .before .before .before .before) in
+    let h = c .before .before .before .before .before .before .before .pre in
+    (record { fit = h .fit; room = h .room; scratch = ap (λ (s : List ℕ). length s) z ∙ length-replicate {A = ℕ} scratch-size 0 }, z)
 
 same-length : tie.Need-same-length
 same-length c = search needs
@@ -42,25 +26,8 @@ same-length-2 : tie.Need-same-length-2
 same-length-2 c = search needs
 
 returns : tie.Need-returns
-returns c =
-    let st = c .before .before .before .before .before .before .before .before .before .before .before .before .before .before .before .before .before .before .before .before .before .before .before .before .before .before in
-    let t = st .args .t1 in
-    let f = st .pre .fit in
-    let tops = c .before .before .before .before .before .before .before .before .before .before .before .before .before .before .before .before .before .before .survey .ensures (t .kind) (t .width) .2 in
-    let p = c .before .before .before .before .before .before .before .before .before .before .before .before .before .before .before .place .ensures in
-    drawn t f _ tops (st .args .allowance) _ (p .0) _ (p .1) (st .args .positions .now) _ (c .before .before .before .before .before .before .before .before .before .write-positions .ensures) _ _
-    (c .before .before .before .before .sheet-width .ensures (sheet (table-of t) (st .args .allowance)) (t .parent) (t .kind) (t .depth) (p .0))
-    (c .sheet-rows .ensures (t .parent) (t .kind) (t .width) (f .sound) tops)
+returns c = search needs
 
 pub draw-spec : {M : Type 1} → statement M
 draw-spec =
-    tie.close
-    (tie.spec
-    survey-requires
-    place-requires
-    write-positions-requires
-    sheet-width-requires
-    sheet-rows-requires
-    same-length
-    same-length-2
-    returns)
+    tie.close (tie.spec clear-requires draw-over-zeros-requires same-length same-length-2 returns)

@@ -6,7 +6,7 @@ use Rattle.printing.proofs.write_sheet.Statement.{statement}
 use Rattle.printing.proofs.write_sheet.Tie as tie
 use Rattle.printing.proofs.write_sheet.Reads as reads
 use Rattle.printing.proofs.write_sheet.Lts as lts
-use Rattle.drawing.proofs.draw.Reads as draw-reads
+use Rattle.drawing.proofs.draw_over_zeros.Reads as draw-over-zeros-reads
 use Rattle.printing.proofs.first_line.Reads as first-line-reads
 use Rattle.printing.proofs.put_cells.Reads as put-cells-reads
 use Rattle.printing.proofs.put_line.Reads as put-line-reads
@@ -16,20 +16,20 @@ cast-allowance : tie.Need-cast-allowance
 cast-allowance c = search needs
 
 -- src/lib.rt:103:51
-slice-aggregate-draw : tie.Need-slice-aggregate-draw
-slice-aggregate-draw c = search needs
+slice-aggregate-draw-over-zeros : tie.Need-slice-aggregate-draw-over-zeros
+slice-aggregate-draw-over-zeros c = search needs
 
 -- src/lib.rt:103:65
-slice-aggregate-draw-2 : tie.Need-slice-aggregate-draw-2
-slice-aggregate-draw-2 c = search needs
+slice-aggregate-draw-over-zeros-2 : tie.Need-slice-aggregate-draw-over-zeros-2
+slice-aggregate-draw-over-zeros-2 c = search needs
 
 -- src/lib.rt:103:9
-draw-requires : tie.Need-draw-requires
-draw-requires c κs = taken-drawable _ _ (c .before .before .before .before .before .before .pre .0) _ _ (search needs) (omega arith)
+draw-over-zeros-requires : tie.Need-draw-over-zeros-requires
+draw-over-zeros-requires c κs = (taken-drawable _ _ (c .before .before .before .before .before .before .pre .0) _ _ (search needs) (omega arith), search needs)
 
 -- src/lib.rt:104:9
 first-line-requires : tie.Need-first-line-requires
-first-line-requires c κs = drawn-measured _ (taken-few _ _ (c .before .before .before .before .before .before .before .before .before .pre .0)) (c .before .before .draw .ensures)
+first-line-requires c κs = drawn-measured _ (taken-few _ _ (c .before .before .before .before .before .before .before .before .before .pre .0)) (c .before .before .draw-over-zeros .ensures)
 
 -- src/lib.rt:105:9
 put-line-requires : tie.Need-put-line-requires
@@ -45,7 +45,7 @@ put-cells-requires c κs =
     let h = c .before .before .before .before .before .before .before .before .before .before .before .before .before .before .before .before .pre in
     let n = taken-few _ _ (h .0) in
     let k = put-short _ (c .before .before .before .before .put-line .ensures) (c .before .before .before .before .before .before .first-line .ensures .1) in
-    (h .0, drawn-placed _ n (c .before .before .before .before .before .before .before .before .before .draw .ensures) (omega (arith, c .before .before .before .before .before .before .before .before .before .draw .kept)), omega (arith, h .1, n, k))
+    (h .0, drawn-placed _ n (c .before .before .before .before .before .before .before .before .before .draw-over-zeros .ensures) (omega (arith, c .before .before .before .before .before .before .before .before .before .draw-over-zeros .kept)), omega (arith, h .1, n, k))
 
 -- src/lib.rt:95:1
 same-length : tie.Need-same-length
@@ -65,9 +65,9 @@ write-sheet-spec =
     tie.close
     (tie.spec
     cast-allowance
-    slice-aggregate-draw
-    slice-aggregate-draw-2
-    draw-requires
+    slice-aggregate-draw-over-zeros
+    slice-aggregate-draw-over-zeros-2
+    draw-over-zeros-requires
     first-line-requires
     put-line-requires
     slice-aggregate-put-cells

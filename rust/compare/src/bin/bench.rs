@@ -14,7 +14,7 @@ use std::process::Command;
 use std::time::Instant;
 
 const SEED: u64 = 20_261_115;
-const BATCHES: usize = 60;
+const BATCHES: usize = 240;
 const RUNS: usize = 2_000;
 
 /// The least time of one call, in nanoseconds: the engine's, and plain Rust's.
