@@ -97,15 +97,17 @@ kuzpalen_label_part kuzpalen_label(const uint8_t *file, size_t file_len, size_t 
 /* Why Label refuses, or 0 and 0. */
 kuzpalen_label_answer kuzpalen_label_refusal(const uint8_t *file, size_t file_len, size_t cell);
 
-/* Layout: a table to positions, x then y of each cell. `positions_len` is at least twice `table_len`, and
- * `scratch_len` at least KUZPALEN_SCRATCH, or question 1 refuses. Positions past those of the cells stay
- * as they were; the first KUZPALEN_SCRATCH numbers of the scratch become 0, later ones stay. */
+/* Layout: a table to positions, x then y of each cell, by S1 to S5 and as narrow as they permit. By S2 a
+ * choice (kind 4) has the x of its first child, any other cell with k children that of number (k+1)/2,
+ * rounded up. `positions_len` is at least twice `table_len`, and `scratch_len` at least KUZPALEN_SCRATCH,
+ * or question 1 refuses. Positions past those of the cells stay as they were; the first KUZPALEN_SCRATCH
+ * numbers of the scratch become 0, later ones stay. */
 kuzpalen_layout_answer kuzpalen_layout(const kuzpalen_record *table, size_t table_len, uint32_t allowance,
                                        uint32_t *scratch, size_t scratch_len,
                                        int32_t *positions, size_t positions_len);
 
-/* Check: whether positions keep S1 to S5. `positions_len` is at least twice `table_len`, or question 1
- * refuses; numbers past those of the cells are not looked at. */
+/* Check: whether positions keep S1 to S5, with S2 as Layout has it. `positions_len` is at least twice
+ * `table_len`, or question 1 refuses; numbers past those of the cells are not looked at. */
 kuzpalen_check_answer kuzpalen_check(const kuzpalen_record *table, size_t table_len,
                                      const int32_t *positions, size_t positions_len, uint32_t allowance);
 

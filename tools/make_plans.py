@@ -1,10 +1,10 @@
 #!/usr/bin/env python3
 """Writes plans/*.plan with the expected listings beside them, and what the programs sheet and sheet_tests are run on.
 
-Nothing here calls the engine. The expectations of document 01's sheets A to F, of its printed example and of every
-refusal are written by hand, from document 01. Those of the larger plans come from `placement` below, a layout of its own:
-it takes the rules S3 to S5 as lower bounds on the distances of brothers, cell by cell and row by row, and goes the longest
-path through them (the engine keeps contours instead). The two are compared on A to F first.
+Nothing here calls the engine. The expectations of document 01's sheets A to F, of its printed example, of the small plans with
+choices (N to Q) and of every refusal are written by hand, from documents 01 and 02. Those of the larger plans come from
+`placement` below, a layout of its own: it takes the rules S3 to S5 as lower bounds on the distances of brothers, cell by cell
+and row by row, and goes the longest path through them (the engine keeps contours instead). The two are compared on A to Q first.
 
 Run it in the repository's root: python3 tools/make_plans.py
 """
@@ -106,7 +106,7 @@ def placement(cells, allowance):
             x = [0]
             for s, t in zip(sons[c], sons[c][1:]):
                 x.append(x[-1] + apart(s, t))
-            middle = x[(len(x) + 2) // 2 - 1]                                                        # S2
+            middle = x[0 if cells[c].kind == KINDS['choice'] else (len(x) + 2) // 2 - 1]             # S2, with E6
             for s, xs in zip(sons[c], x):
                 at[c].update({d: xs - middle + xd for d, xd in at[s].items()})
     x = [at[0][c] for c in range(n)]
@@ -163,6 +163,38 @@ F = table('''
 10 step 8
 10 step 2
 ''')
+# ---- sheets of document 02's E6, with choices: the rows N to Q of crate least's worked sheets
+
+N = table('''
+- choice 4
+0 step 3
+0 step 5
+''')
+O = table('''
+- run 2
+0 choice 4
+0 step 3
+1 step 3
+1 step 5
+''')
+P = table('''
+- run 2
+0 step 3
+0 choice 4
+2 step 3
+2 step 5
+''')
+Q = table('''
+- choice 4
+0 step 9
+0 run 2
+0 run 2
+2 step 3
+2 step 2
+3 run 2
+6 step 7
+6 step 2
+''')
 PRINTED = table('''
 - run 4 1 Up
 0 step 3 1 A
@@ -180,6 +212,10 @@ WORKED = [
     ('E-200', E, 200, [0, 2 - 9, 0, -4, 0], 9, 6),
     ('F-3', F, 3, [0, -20, -23, -20, -10, -13, -10, -13, 0, 0, 0, -9, 0], 25, 10),
     ('printed', PRINTED, 0, [0, -4, 0], 9, 4),
+    ('N', N, 0, [0, 0, 4], 9, 4),
+    ('O', O, 0, [0, -10, 0, -10, -6], 13, 6),
+    ('P', P, 0, [0, -4, 0, 0, 4], 13, 6),
+    ('Q-200', Q, 200, [0, 0, 10, 19, 6, 10, 19, 11, 19], 21, 8),
 ]
 
 # ---- a season of a salt works
@@ -322,6 +358,8 @@ def main():
         lists.append(text)
 
     def store(name, cells, allowance, text):
+        border = {KINDS[k]: b for k, b in BORDER.items()}
+        assert all(c.w >= len(c.label) + border[c.kind] for c in cells), name                        # question 10
         (plans / (name + '.plan')).write_bytes(plan_file(cells, allowance))
         (plans / (name + '.txt')).write_text(text)
         keep(plan_file(cells, allowance), text)

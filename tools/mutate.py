@@ -24,8 +24,23 @@ PARTS = "max (max s3-ends s3-starts) (max s4 s5)"
 
 # a file, what stands there (text, or a pattern), what is put in its place; None: the file is removed
 DROP_JOIN = [("layout/specs/Lib.antt", "pub mod Join\n", ""), ("layout/specs/Join.antt", None, None)]
-DROP_HALF = [(PLAN_LAWS, "pub appointed-half : (kind k : ℕ) → (k + 1 ≤ appointed kind k + appointed kind k) × (appointed kind k + appointed kind k ≤ k + 1 + 1)\n"
-              "unfolding appointed\nappointed-half kind k = (omega arith, omega arith)\n", "")]
+
+
+def appoint(choice, rest):
+    """Another appointed child: kind `choice` hangs from its first, all others from number `rest`. The code of it goes, since `least` does not stand on it."""
+    law = ("pub appointed-within : (kind k : ℕ) → (1 ≤ appointed kind k) × (appointed kind k ≤ max 1 k)\nunfolding appointed\n"
+           f"appointed-within kind k = go (eqb kind {choice})\n  where\n    go : (b : Bool) → (1 ≤ cond b 1 ({rest})) × (cond b 1 ({rest}) ≤ max 1 k)\n"
+           "    go true = (omega arith, omega arith)\n    go false = (omega arith, omega arith)\n\n")
+    return [
+        (PLAN, "_/_, _≤_, _<_}", "_-_, _/_, _≤_, _<_}"),
+        (PLAN, "cond (eqb kind 4) 1 ((k + 1 + 1) / 2)", f"cond (eqb kind {choice}) 1 ({rest})"),
+        (PLAN_LAWS, "use native.Mathlib.Decide.{ℕ-discrete}\n", "use mathlib.Core.Bool.{Bool, true, false, cond}\n"),
+        (PLAN_LAWS, "pred, _+_, max", "pred, _+_, _-_, _/_, max"),
+        (PLAN_LAWS, re.compile(r"pub appointed-choice : .*?(?=-- its place, from 0)", re.S), law),
+        ("plan/src/kinds.rt", re.compile(r"\n// THE appointed child.*", re.S), ""),
+        ("plan/proofs/kinds/appointed/Proof.antt", None, None),
+    ]
+
 
 MUTATIONS = {
     "S3's first half not strict": [
@@ -87,11 +102,8 @@ MUTATIONS = {
         (CONTOUR_LAWS, "      overlap = omega arith;\n", ""),
         (SPAN_LAWS, "        overlap = omega arith;\n", ""),
     ],
-    "the appointed child (k+1)/2 rounded down": [
-        (PLAN, "appointed kind k = (k + 1 + 1) / 2", "appointed kind k = (k + 1 + 0) / 2"),
-        ("plan/src/kinds.rt", "(k + 1 + 1) / 2", "(k + 1 + 0) / 2"),
-        (PLAN_LAWS, "pred ((n + 1 + 1) / 2) < n", "pred ((n + 1 + 0) / 2) < n"),
-    ] + DROP_HALF,
+    "the appointed child (k+1)/2 rounded down": appoint(4, "(k - 1) / 2 + 1"),
+    "a choice hangs as the others do": appoint(6, "(k + 1 + 1) / 2"),
     "left children to the right": [
         (SHEET, "pos (offset al 0 os (index (suc m) (children t c))) -ℤ pos (middle c os)", "pos (middle c os) -ℤ pos (offset al 0 os (index (suc m) (children t c)))"),
         (SHEET_LAWS, "(pos (offset al 0 (contours t al f) i) -ℤ pos (middle t al f (contours t al f)))", "(pos (middle t al f (contours t al f)) -ℤ pos (offset al 0 (contours t al f) i))"),

@@ -130,12 +130,12 @@ module _ (t : Table) (al : ℕ) (s s′ : List ℕ) (ps ps′ : List ℤ) (w h :
   pub none-narrower : (qs : List ℤ) (v k : ℕ) → checked-of t qs al ≡ Kept v k → (w ≤ v) × (k ≡ h)
   none-narrower = demand.none-narrower t al s s′ ps ps′ w h l
 
--- Two Layouts under one allowance: subtrees of equal shape, widths and depths, of one table or of two, differ by a shift only (000's Bd5).
+-- Two Layouts under one allowance: subtrees of equal shape, kinds, widths and depths, of one table or of two, differ by a shift only (000's Bd5).
 pub layout-alike : (t u : Table) (al : ℕ) (s s′ v v′ : List ℕ) (ps ps′ qs qs′ : List ℤ) (w h y k : ℕ) → Lays t al s s′ ps ps′ (Sheet w h) → Lays u al v v′ qs qs′ (Sheet y k)
     → (a b : ℕ) → Is t a → Is u b → Alike t u (a ∷ []) (b ∷ []) → (c d : ℕ) → Twins t u (a ∷ []) (b ∷ []) c d
     → (placed ps′ .x c -ℤ placed ps′ .x a ≡ placed qs′ .x d -ℤ placed qs′ .x b) × (placed ps′ .y c -ℤ placed ps′ .y a ≡ placed qs′ .y d -ℤ placed qs′ .y b)
 layout-alike = laying.alike-written
 
--- ==== THE WORKED SHEETS ◆A to ◆J, and five more, lent to Check with its questions: it answers what document 01 has.
+-- ==== THE WORKED SHEETS ◆A to ◆J, five more, and nine with choices, lent to Check with its questions: it answers what documents 01 and 02 have.
 pub worked : map called sheets ≡ map due sheets
 worked = worked-calls.worked-calls

@@ -96,7 +96,7 @@ VP t a = row t a + D t a
 
 -- ---- a placement that keeps S1 to S5
 module _ (t : Table) (sound : Sound t) (p : Placement) (al : ℕ) (k : Keeps t p al) where
-  -- Bd2. "If a cell p has k sons q₁ .. q_k, then x(p) = x(q of number (k+1)/2, rounded up)": S2 itself
+  -- Bd2. "If a cell p has k sons q₁ .. q_k, then x(p) = x(q of number (k+1)/2, rounded up)": S2 itself, so of a choice the first (document 02, E6)
   pub bd2 : (c : ℕ) → Is t c → 1 ≤ length (children t c) → p .x c ≡ p .x (child t c (appointed (kind t c) (length (children t c))))
   bd2 = k .s2 .flush
 

@@ -60,7 +60,7 @@ module _ (t : Table) (some-cell : 1 ≤ length t) (sound : Sound t) (al : ℕ) w
     y-row t p sound (k .s1) c i ∙ sym (y-row t (sheet t al) sound (sheet-keeps .s1) c i),
   )
 
--- 4. Subtrees of equal shape, widths and depths, of one table or of two, differ by a shift only under one allowance (000's Bd5):
+-- 4. Subtrees of equal shape, kinds, widths and depths, of one table or of two, differ by a shift only under one allowance (000's Bd5):
 -- c stands to a as d, in the same place of the other subtree, to b.
 pub alike : (t u : Table) → Sound t → Sound u → (al a b : ℕ) → Alike t u (a ∷ []) (b ∷ []) → (c d : ℕ) → Twins t u (a ∷ []) (b ∷ []) c d
     → (sheet t al .x c -ℤ sheet t al .x a ≡ sheet u al .x d -ℤ sheet u al .x b) × (sheet t al .y c -ℤ sheet t al .y a ≡ sheet u al .y d -ℤ sheet u al .y b)
@@ -96,6 +96,6 @@ sheet-accepted t al scratch ps e h =
       answer-same t (placed ps) (sheet t al) h (f .some-cell) (f .sound) al ∙ fine-answer t (sheet t al) al k,
     )
 
--- 8. The worked sheets ◆A to ◆J come out as document 01 has them, and so do five more, which S3 and S5 decide.
+-- 8. The worked sheets ◆A to ◆J come out as document 01 has them, and so do five more, which S3 and S5 decide, and nine with choices (E6).
 pub worked : map computed sheets ≡ sheets
 worked = computes

@@ -10,7 +10,7 @@ use lib.ListN.{length, getD, set, length-set}
 use lib.Seq.{getD-set-same, getD-set-other}
 use Rattle.plan.specs.Limits.{most-cells}
 use Rattle.plan.specs.Plan.{appointed}
-use Rattle.plan.specs.PlanLaws.{appointed-half}
+use Rattle.plan.specs.PlanLaws.{appointed-within}
 use Rattle.links.specs.Links.{link}
 
 -- the parent, in a column
@@ -152,7 +152,7 @@ pub placed-small : (ks ls : List ℕ) (n c : ℕ) {ms : List ℕ} {q : ℕ} → 
 placed-small ks ls n c h e eq = rw (eq, e, placed-later ks ls c c (omega arith)) (h .low c)
 
 pub appointed-small : (kind k : ℕ) → k ≤ most-cells → (1 ≤ appointed kind k) × (appointed kind k ≤ most-cells)
-appointed-small kind k l = let h = appointed-half kind k in (omega arith, omega arith)
+appointed-small kind k l = let h = appointed-within kind k in (omega arith, omega arith)
 
 pub count-fits : (fs ls : List ℕ) (n c p : ℕ) {ms : List ℕ} → Building fs n ls → 0 < c → c < n → ms ≡ counted fs ls (c - 1) → getD ms (4 * p + 3) 0 ≤ 256
 count-fits fs ls n c p h l lt e =

@@ -71,10 +71,13 @@ pub fn bordered(kind: u8, size: u8, width: u16) -> bool
     }
 }
 
-// THE appointed child of a parent of this kind with k children: its number, counted from 1.
+// THE appointed child of a parent of this kind with k children, counted from 1: the first of a choice.
 pub fn appointed(kind: u8, k: u32) -> u32
     requires { ⌜ k < 2 ^ 31 ⌝ }
     ensures { λ r. ⌜ r ≡ appointed kind k ⌝ }
 {
-    (k + 1 + 1) / 2
+    match kind {
+        4 => 1,
+        _ => (k + 1 + 1) / 2,
+    }
 }

@@ -11,7 +11,7 @@ use Rattle.whole.specs.Says.{Says, that-is, both, says-le, says-eq, same-test}
 use Rattle.plan.specs.Lists.{At}
 use Rattle.plan.specs.ListLaws.{at-less, at-getD, at-same}
 use Rattle.plan.specs.Plan.{Table, Is, kind, parent, children, child, appointed}
-use Rattle.plan.specs.PlanLaws.{Child, child-read, child-show, child-place, appointed-at, appointed-half}
+use Rattle.plan.specs.PlanLaws.{Child, child-read, child-show, child-place, appointed-at, appointed-within}
 use Rattle.rules.specs.Tests.{flush}
 use Rattle.spans.specs.Columns.{Put}
 use Rattle.spans.specs.Order.{children-rise}
@@ -150,7 +150,7 @@ module _ (t : Table) where
       many-is = ap (appointed (kind t a)) (h .all a ia)
 
       first : 1 ≤ appointed (kind t a) k
-      first = omega (arith, appointed-half (kind t a) k .0)
+      first = appointed-within (kind t a) k .0
 
       Flush : ℕ → Type 0
       Flush b = (1 ≤ k) × (child t a (appointed (kind t a) k) ≡ b)

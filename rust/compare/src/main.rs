@@ -18,6 +18,7 @@ use std::time::Instant;
 
 const SEED: u64 = 20_261_115;
 const INPUTS: u64 = 120_000;
+const CHOICE: u8 = 4;
 
 /// How often each call gave each answer.
 type Seen = BTreeMap<(&'static str, String), u64>;
@@ -66,6 +67,11 @@ impl Run {
     fn count(&mut self, call: &'static str, answer: String) {
         self.calls += 1;
         *self.seen.entry((call, answer)).or_insert(0) += 1;
+    }
+
+    /// An answer to a plan with a choice, for which another child is appointed.
+    fn count_choice(&mut self, call: &'static str, answer: &str) {
+        *self.seen.entry((call, format!("choice {answer}"))).or_insert(0) += 1;
     }
 
     fn read(&mut self, rng: &mut Rng, file: &[u8]) {
@@ -148,6 +154,9 @@ impl Run {
         self.same("the positions after Layout", &ours, &theirs, &input);
         self.same("the scratch after Layout", &our_scratch, &their_scratch, &input);
         self.same("the table after Layout", &table, &records(cells), &input);
+        if expected.is_ok() && cells.iter().any(|c| c.kind == CHOICE) {
+            self.count_choice("Layout", "laid");
+        }
         self.count("Layout", named(&expected.map(|_| ())));
         ours
     }
@@ -165,6 +174,11 @@ impl Run {
         let (table, lent) = (table.to_vec(), lent.to_vec());
         self.same("Check's answer", &got, &expected, &(allowance, positions, cells));
         self.same("the buffers after Check", &(lent.as_slice(), table), &(positions, records(cells)), &cells);
+        match expected {
+            Ok(reference::Verdict::Kept(_)) if cells.iter().any(|c| c.kind == CHOICE) => self.count_choice("Check", "kept"),
+            Ok(reference::Verdict::Broken { rule: 2, a, .. }) if cells[a as usize].kind == CHOICE => self.count_choice("Check", "S2"),
+            _ => {}
+        }
         let answer = match expected {
             Ok(reference::Verdict::Kept(_)) => "kept".into(),
             Ok(reference::Verdict::Broken { rule, .. }) => format!("broken S{rule}"),
@@ -317,6 +331,7 @@ fn unseen(seen: &Seen) -> Vec<String> {
     all.extend((1..=5).map(|s| ("Check", format!("broken S{s}"))));
     all.push(("List", "prints sheet".into()));
     all.extend((2..=13).map(|n| ("List", format!("prints {n:>4}"))));
+    all.extend([("Layout", "laid"), ("Check", "kept"), ("Check", "S2")].map(|(call, answer)| (call, format!("choice {answer}"))));
     all.into_iter().filter(|(c, a)| !seen.contains_key(&(*c, a.clone()))).map(|(c, a)| format!("{c} {a}")).collect()
 }
 

@@ -33,6 +33,14 @@ fn allows(kind: u8, sons: u16) -> bool {
     }
 }
 
+/// The number of the child that a parent of this kind with k children hangs from.
+fn appointed(kind: u8, k: u16) -> u16 {
+    match kind {
+        4 => 1,
+        _ => (k + 2) / 2,
+    }
+}
+
 fn ask_record(i: usize, c: &Record) -> Result<(), Refusal> {
     let parent_ok = if i == 0 { c.parent == 65_535 } else { (c.parent as usize) < i };
     if !parent_ok {
@@ -166,8 +174,8 @@ fn links(table: &[Record]) -> [[u16; 4]; CELLS] {
         links[c][2] = links[p][3];
         links[p][3] += 1;
     }
-    for link in &mut links[..table.len()] {
-        link[3] = (link[3] + 2) / 2 - 1;
+    for (link, cell) in links.iter_mut().zip(table) {
+        link[3] = appointed(cell.kind, link[3]) - 1;
     }
     links
 }
@@ -343,7 +351,7 @@ fn look(table: &[Record], positions: &[i32]) -> [View; CELLS] {
         v[c].nth = sons[f];
     }
     for c in 0..n {
-        v[c].middle = (sons[c] + 2) / 2;
+        v[c].middle = appointed(table[c].kind, sons[c]);
     }
     v
 }

@@ -246,8 +246,19 @@ pub fn foreign(rng: &mut Rng, cells: &[Cell], allowance: u32) -> Vec<i32> {
         }
     }
     let mut p: Vec<i32> = place(&plan, &distances).iter().flat_map(|&(x, y)| [x as i32, y as i32]).collect();
-    match rng.index(11) {
+    match rng.index(12) {
         0..=4 => {}
+        10 => {
+            // All children of a cell aside, so that another than the appointed one may stand under it.
+            let families: Vec<usize> = (0..n).filter(|&f| plan.sons[f].len() > 1).collect();
+            if !families.is_empty() {
+                let f = rng.pick(&families);
+                let by = p[2 * f] - p[2 * rng.pick(&plan.sons[f])];
+                for c in plan.sub_diagram(f).into_iter().skip(1) {
+                    p[2 * c] += by;
+                }
+            }
+        }
         5 => {
             // A sub-diagram aside.
             let (top, by) = (rng.index(n), rng.pick(&[-2, -1, 1, 2, 50]));

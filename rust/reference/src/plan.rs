@@ -108,14 +108,12 @@ impl Plan {
         (0..self.len()).filter(|&c| self.under(top, c)).collect()
     }
 
-    /// The son whose x the father has: number (k+1)/2 rounded up, counted from 1.
+    /// The son whose x the father has, counted from 1: number 1 of a choice (document 02, E6), else
+    /// number (k+1)/2 rounded up.
     pub fn appointed(&self, father: usize) -> Option<usize> {
-        let k = self.sons[father].len();
-        if k == 0 {
-            None
-        } else {
-            Some(self.sons[father][(k + 2) / 2 - 1])
-        }
+        let sons = &self.sons[father];
+        let number = if self.cells[father].kind == 4 { 1 } else { (sons.len() + 1).div_ceil(2) };
+        sons.get(number - 1).copied()
     }
 
     /// All (earlier, later) brothers.

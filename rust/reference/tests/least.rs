@@ -14,7 +14,7 @@ fn reaches(plan: &Plan, p: &[(i64, i64)], top: usize) -> (i64, i64) {
     (p[top].0 - least, most - p[top].0)
 }
 
-/// Tries every placement that keeps S1 and S2 with each x from -window to window; the number that is kept.
+/// Tries every placement that keeps S1 and S2 with each x at most `window` from the middle of our sheet; the number that is kept.
 /// (A cell that its father appoints has its father's x, by S2; all others are free.)
 fn search(t: &[Cell], allowance: u32, window: i64) -> usize {
     let plan = Plan::new(t);
@@ -24,7 +24,9 @@ fn search(t: &[Cell], allowance: u32, window: i64) -> usize {
     let least: Vec<(i64, i64)> = (0..n).map(|c| reaches(&plan, &ours, c)).collect();
     let appointed = |c: usize| c > 0 && plan.appointed(plan.father[c].unwrap()) == Some(c);
     let free: Vec<usize> = (1..n).filter(|&c| !appointed(c)).collect();
-    let mut p: Vec<i32> = (0..n).flat_map(|c| [if c == 0 { 0 } else { -window as i32 }, plan.row[c] as i32]).collect();
+    let middle = (ours.iter().map(|p| p.0).min().unwrap() + ours.iter().map(|p| p.0).max().unwrap()) / 2;
+    let (first, last) = (middle - window, middle + window);
+    let mut p: Vec<i32> = (0..n).flat_map(|c| [if c == 0 { 0 } else { first as i32 }, plan.row[c] as i32]).collect();
     let mut kept = 0;
     let mut ours_found = false;
     loop {
@@ -42,22 +44,26 @@ fn search(t: &[Cell], allowance: u32, window: i64) -> usize {
             }
         }
         // The next placement, as a counter.
-        let Some(i) = free.iter().position(|&c| (p[2 * c] as i64) < window) else { break };
+        let Some(i) = free.iter().position(|&c| (p[2 * c] as i64) < last) else { break };
         p[2 * free[i]] += 1;
         for &d in &free[..i] {
-            p[2 * d] = -window as i32;
+            p[2 * d] = first as i32;
         }
     }
     assert!(ours_found, "our sheet is outside the window: {t:?} {allowance}");
     kept
 }
 
-/// The kind that suits each cell's number of sons.
-fn with_kinds(fathers: &[usize], widths: &[u16], depths: &[u8]) -> Vec<Cell> {
+/// A kind that suits each cell's number of sons: of two or more, a run or a choice.
+fn with_kinds(rng: &mut Rng, fathers: &[usize], widths: &[u16], depths: &[u8]) -> Vec<Cell> {
     (0..widths.len())
         .map(|i| Cell {
             parent: if i == 0 { ROOT } else { fathers[i - 1] as u16 },
-            kind: if fathers.contains(&i) { 2 } else { 1 },
+            kind: match fathers.iter().filter(|&&f| f == i).count() {
+                0 => 1,
+                1 => 2,
+                _ => rng.pick(&[2, 4]),
+            },
             width: widths[i],
             depth: depths[i],
             ..Cell::default()
@@ -79,7 +85,7 @@ fn nothing_kept_is_narrower() {
             for &allowance in allowances {
                 let widths: Vec<u16> = (0..n).map(|_| rng.between(1, if n < 6 { 3 } else { 2 }) as u16).collect();
                 let depths: Vec<u8> = (0..n).map(|_| rng.between(1, 3) as u8).collect();
-                kept += search(&with_kinds(&fathers, &widths, &depths), allowance, if n < 6 { 10 } else { 9 });
+                kept += search(&with_kinds(&mut rng, &fathers, &widths, &depths), allowance, if n < 6 { 10 } else { 9 });
                 plans += 1;
             }
         }

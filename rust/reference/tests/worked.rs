@@ -1,4 +1,4 @@
-//! The worked sheets of document 01, its edges, and cases that they miss.
+//! The worked sheets of document 01, its edges, cases that they miss, and sheets with choices (document 02, E6).
 
 use reference::*;
 
@@ -13,6 +13,13 @@ fn table(fathers: &[u16], widths: &[u16]) -> Vec<Cell> {
             ..Cell::default()
         })
         .collect()
+}
+
+/// The same with these cells choices.
+fn with_choices(choices: &[usize], fathers: &[u16], widths: &[u16]) -> Vec<Cell> {
+    let mut t = table(fathers, widths);
+    choices.iter().for_each(|&c| t[c].kind = 4);
+    t
 }
 
 fn laid(t: &[Cell], allowance: u32) -> (Vec<i32>, Measure) {
@@ -88,6 +95,23 @@ fn s3_broken_in_both_halves() {
     let t = table(&[0, 0, 1, 2, 2], &[2, 1, 1, 9, 9, 1]);
     let p = with_xs(&laid(&t, 200).0, &[0, -3, 0, -3, -10, 0]);
     assert_eq!(check(&t, &p, 200), Ok(Verdict::Broken { rule: 3, a: 1, b: 4 }));
+}
+
+#[test]
+fn choices_hang_from_the_first() {
+    let n = with_choices(&[0], &[0, 0], &[4, 3, 5]);
+    let (p, m) = laid(&n, 0);
+    assert_eq!((xs(&p), m), (vec![0, 0, 4], Measure { width: 9, rows: 4 }));
+    let (o, m) = laid(&with_choices(&[1], &[0, 0, 1, 1], &[2, 4, 3, 3, 5]), 0);
+    assert_eq!((xs(&o), m), (vec![0, -10, 0, -10, -6], Measure { width: 13, rows: 6 }));
+    let (o, m) = laid(&with_choices(&[2], &[0, 0, 2, 2], &[2, 3, 4, 3, 5]), 0);
+    assert_eq!((xs(&o), m), (vec![0, -4, 0, 0, 4], Measure { width: 13, rows: 6 }));
+    let (q, m) = laid(&with_choices(&[0], &[0, 0, 0, 2, 2, 3, 6, 6], &[4, 9, 2, 2, 3, 2, 2, 7, 2]), 200);
+    assert_eq!((xs(&q), m), (vec![0, 0, 10, 19, 6, 10, 19, 11, 19], Measure { width: 21, rows: 8 }));
+    // A run's placement under a choice, and a choice's under a run.
+    assert_eq!(check(&n, &with_xs(&p, &[0, -4, 0]), 0), Ok(Verdict::Broken { rule: 2, a: 0, b: 1 }));
+    let b = table(&[0, 0], &[4, 3, 5]);
+    assert_eq!(check(&b, &p, 0), Ok(Verdict::Broken { rule: 2, a: 0, b: 2 }));
 }
 
 #[test]
