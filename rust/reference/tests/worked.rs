@@ -135,7 +135,9 @@ fn connector() {
 fn half_squares() {
     for (width, half) in [(1, 0), (3, 2), (5, 2), (7, 4), (6, 3), (255, 128)] {
         let t = table(&[0], &[width, width]);
-        assert_eq!(ends(&t, &[10, 0, -20, 2], 1), Ok(Ends { from: (10 + half, 1), to: (half - 20, 2) }));
+        for x in [10, 11] {
+            assert_eq!(ends(&t, &[x, 0, -x, 2], 1), Ok(Ends { from: (x + half, 1), to: (half - x, 2) }));
+        }
     }
 }
 
