@@ -111,7 +111,10 @@ kuzpalen_layout_answer kuzpalen_layout(const kuzpalen_record *table, size_t tabl
 kuzpalen_check_answer kuzpalen_check(const kuzpalen_record *table, size_t table_len,
                                      const int32_t *positions, size_t positions_len, uint32_t allowance);
 
-/* Ends: of the connector from a cell's parent to the cell, which is not the root. */
+/* Ends: of the connector from a cell's parent to the cell, which is not the root. It begins at the parent's
+ * x plus half the parent's width, y plus depth, and ends at the cell's x plus half the cell's width, y. Half
+ * a width is the nearer whole number, a tie going to the even one (1 gives 0, 3 and 5 give 2, 7 gives 4);
+ * it is rounded before it is added. `positions_len` is at least twice `table_len`, or question 1 refuses. */
 kuzpalen_ends_answer kuzpalen_ends(const kuzpalen_record *table, size_t table_len,
                                    const int32_t *positions, size_t positions_len, size_t cell);
 

@@ -50,7 +50,7 @@ int main(void) {
     kuzpalen_check_answer broken = kuzpalen_check(table, 3, p, 6, 0);
     int good = laid.number == 0 && laid.width == 9 && laid.rows == 4 && p[0] == 0 && p[1] == 0 && p[3] == 2
         && p[4] == 0 && p[5] == 2 && kept.number == 0 && kept.rule == 0 && kept.width == 9 && kept.rows == 4
-        && ends.number == 0 && ends.from_x == 2 && ends.from_y == 1 && ends.to_x == -3 && ends.to_y == 2
+        && ends.number == 0 && ends.from_x == 2 && ends.from_y == 1 && ends.to_x == -2 && ends.to_y == 2
         && broken.number == 0 && broken.rule == 3 && broken.a == 1 && broken.b == 2
         && kuzpalen_ends(table, 3, p, 6, 0).number == 16 && kuzpalen_check(table, 3, p, 5, 0).number == 1;
     good = good && file_good() && listing_good();

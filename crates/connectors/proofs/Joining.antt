@@ -27,6 +27,7 @@ use Rattle.connectors.specs.declared.Ended.{Ended}
 use Rattle.connectors.specs.declared.Ended.the-variants.{Joined, Refused}
 use Rattle.connectors.specs.Ended.{half, joined, unless}
 use Rattle.connectors.specs.EndedLaws.{accepted}
+use Rattle.connectors.specs.HalfLaws.{half-close}
 
 -- moved up, moved on, and moved back
 module _ (z : ℤ) (w : Within farthest z) (by : ℕ) where
@@ -50,7 +51,7 @@ module _ (z : ℤ) (w : Within farthest z) (by : ℕ) where
 
 module _ (t : Columns) (fit : Fit (table-of t)) where
   pub width-low : (c : ℕ) → c < t .count → half (getD (t .width) c 0) ≤ 255
-  width-low c l = omega (arith, width-is t c l, fit .wide c (omega (arith, length-is t)) .1)
+  width-low c l = omega (arith, half-close (getD (t .width) c 0) .low, width-is t c l, fit .wide c (omega (arith, length-is t)) .1)
 
   pub depth-low : (c : ℕ) → c < t .count → getD (t .depth) c 0 ≤ 255
   depth-low c l = omega (arith, depth-is t c l, fit .deep c (omega (arith, length-is t)) .1)

@@ -1,7 +1,7 @@
--- Ends' answer: document 01's numbers and values for each case. Assumes nothing.
+-- Ends' answer: document 01's numbers and values for each case, half a width by document 02. Assumes nothing.
 use mathlib.Core.List.{List}
-use mathlib.Core.Bool.{cond}
-use Prim.Native.Nat.{ℕ, _/_}
+use mathlib.Core.Bool.{Bool, cond}
+use Prim.Native.Nat.{ℕ, _+_, _/_, _%_}
 use lib.Dec.{eqb}
 use lib.IntN.{ℤ, pos, _+ℤ_}
 use Rattle.plan.specs.Plan.{Table, parent, W, D}
@@ -11,9 +11,13 @@ use Rattle.rules.specs.Placement.{Placement, placed}
 use Rattle.connectors.specs.declared.Ended.{Ended}
 use Rattle.connectors.specs.declared.Ended.the-variants.{Joined, Refused}
 
--- THE half of a width, "rounded down before adding"
-abbrev pub half : ℕ → ℕ
-half w = w / 2
+abbrev pub even : ℕ → Bool
+even n = eqb (n % 2) 0
+
+-- THE half of a width (document 02, E3): "the nearer whole number, a tie going to the even one".
+-- An odd width is the tie: its half lies midway between w / 2, which is rounded down, and the next number.
+unfoldable pub half : ℕ → ℕ
+half w = cond (even w) (w / 2) (cond (even (w / 2)) (w / 2) (w / 2 + 1))
 
 -- "for a son, (father x + W/2, father y + D) and (son x + W/2, son y)"
 unfoldable pub joined : Table → Placement → ℕ → Ended

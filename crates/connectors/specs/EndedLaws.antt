@@ -2,7 +2,7 @@
 use mathlib.Core.Path.{_≡_, refl, sym, _∙_, ap, subst}
 use mathlib.Core.List.{List}
 use mathlib.Core.Bool.{_&&_}
-use Prim.Native.Nat.{ℕ, _+_, _*_, _/_, _≤_, _<_}
+use Prim.Native.Nat.{ℕ, _<_}
 use native.Mathlib.Omega.{arith}
 use lib.Dec.{T, ltb, ltb→lt, lt→ltb}
 use lib.ListN.{length}
@@ -18,11 +18,6 @@ use Rattle.plan.specs.Questions.{refusal, ends, ends-given}
 use Rattle.plan.specs.QuestionLaws.{asked-yes, both-none}
 use Rattle.plan.specs.CallLaws.{ends-refusal}
 use Rattle.plan.specs.FitLaws.{lent-fit}
-use Rattle.connectors.specs.Ended.{half}
-
--- half a width, twice, is the width or one less
-pub half-down : (w : ℕ) → (half w + half w ≤ w) × (w ≤ half w + half w + 1)
-half-down w = (omega arith, omega arith)
 
 says-lt : (a b : ℕ) → Says (ltb a b) (a < b)
 says-lt a b = record { read = ltb→lt a b; show = lt→ltb a b }

@@ -26,11 +26,18 @@ pub enum Ended {
     Refused(u8, u16),
 }
 
-// Half a width, rounded down.
+// Half a width: the nearer whole number, a tie to the even one.
 fn half(width: u16) -> u32
     ensures { λ r. ⌜ r ≡ half width ⌝ }
 {
-    (width as u32) / 2
+    let down = (width as u32) / 2;
+    if width % 2 == 0 {
+        return down;
+    }
+    if down % 2 == 0 {
+        return down;
+    }
+    down + 1
 }
 
 fn wide8(x: u8) -> u32

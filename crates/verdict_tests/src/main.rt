@@ -262,9 +262,24 @@ fn connected() {
     show_ends(b"ends short", ends(b, &[0, 0, -4, 2, 0], 1));
 }
 
+// A parent and a child of these widths, both at x 0: their halves are the x of the ends.
+fn half_of(name: &[u8], parent: u16, child: u16) {
+    let t = table(2, &[65535, 0], &[2, 1], &[parent, child]);
+    show_ends(name, ends(t, &[0, 0, 0, 2], 1));
+}
+
+// Document 02's half squares: its four widths, even ones, the greatest.
+fn half_squares() {
+    half_of(b"half of 1 and 3", 1, 3);
+    half_of(b"half of 5 and 7", 5, 7);
+    half_of(b"half of 4 and 6", 4, 6);
+    half_of(b"half of 255 and 254", 255, 254);
+}
+
 fn main() {
     worked();
     alone();
     far();
     connected();
+    half_squares();
 }

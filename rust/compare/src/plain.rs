@@ -393,6 +393,12 @@ pub fn check(table: &[Record], positions: &[i32], allowance: u32) -> Result<Verd
     Ok(Verdict::Kept(Sheet { width: (most - least) as u32, rows: (v[0].bottom - v[0].y + 1) as u32 }))
 }
 
+/// The nearer whole number, a tie to the even one.
+fn half(width: u16) -> i32 {
+    let down = width / 2;
+    (if width % 2 == 1 && down % 2 == 1 { down + 1 } else { down }) as i32
+}
+
 pub fn ends(table: &[Record], positions: &[i32], cell: usize) -> Result<Ends, Refusal> {
     ask_table(table, positions.len())?;
     ask_positions(positions, table.len())?;
@@ -400,10 +406,9 @@ pub fn ends(table: &[Record], positions: &[i32], cell: usize) -> Result<Ends, Re
         return refuse(16, 0);
     }
     let p = table[cell].parent as usize;
-    let half = |c: usize| (table[c].width / 2) as i32;
     Ok(Ends {
-        from: (positions[2 * p] + half(p), positions[2 * p + 1] + table[p].depth as i32),
-        to: (positions[2 * cell] + half(cell), positions[2 * cell + 1]),
+        from: (positions[2 * p] + half(table[p].width), positions[2 * p + 1] + table[p].depth as i32),
+        to: (positions[2 * cell] + half(table[cell].width), positions[2 * cell + 1]),
     })
 }
 

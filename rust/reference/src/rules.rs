@@ -134,6 +134,11 @@ pub fn check(table: &[Cell], positions: &[i32], allowance: u32) -> Result<Verdic
     })
 }
 
+/// Half a width (document 02, E3): to the nearer whole number, a tie going to the even one.
+fn half(width: u16) -> i64 {
+    (f64::from(width) / 2.0).round_ties_even() as i64
+}
+
 /// Ends: of the connector from a son's father to the son.
 pub fn ends(table: &[Cell], positions: &[i32], son: usize) -> Result<Ends, Refusal> {
     let plan = ask_table(table, positions.len())?;
@@ -142,9 +147,8 @@ pub fn ends(table: &[Cell], positions: &[i32], son: usize) -> Result<Ends, Refus
         return refuse(16, 0);
     }
     let f = plan.father[son].unwrap();
-    let half = |c: usize| (table[c].width / 2) as i64;
     Ok(Ends {
-        from: ((p[f].0 + half(f)) as i32, (p[f].1 + table[f].depth as i64) as i32),
-        to: ((p[son].0 + half(son)) as i32, p[son].1 as i32),
+        from: ((p[f].0 + half(table[f].width)) as i32, (p[f].1 + table[f].depth as i64) as i32),
+        to: ((p[son].0 + half(table[son].width)) as i32, p[son].1 as i32),
     })
 }

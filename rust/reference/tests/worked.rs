@@ -161,10 +161,21 @@ fn labels_of_the_file() {
 fn connector() {
     let t = table(&[0, 0], &[4, 3, 5]);
     let p = laid(&t, 0).0;
-    assert_eq!(ends(&t, &p, 1), Ok(Ends { from: (2, 1), to: (-3, 2) }));
+    assert_eq!(ends(&t, &p, 1), Ok(Ends { from: (2, 1), to: (-2, 2) }));
     assert_eq!(ends(&t, &p, 2), Ok(Ends { from: (2, 1), to: (2, 2) }));
     for no_son in [0, 3, 4000] {
         assert_eq!(ends(&t, &p, no_son), Err(Refusal { number: 16, cell: 0 }));
+    }
+}
+
+/// Document 02, E3: the four widths that it gives, an even one and the greatest.
+#[test]
+fn half_squares() {
+    for (width, half) in [(1, 0), (3, 2), (5, 2), (7, 4), (6, 3), (255, 128)] {
+        let t = table(&[0], &[width, width]);
+        for x in [10, 11] {
+            assert_eq!(ends(&t, &[x, 0, -x, 2], 1), Ok(Ends { from: (x + half, 1), to: (half - x, 2) }));
+        }
     }
 }
 
