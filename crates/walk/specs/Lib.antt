@@ -5,3 +5,6 @@ pub mod Tree
 pub mod Shows
 pub mod Claim
 pub mod Walked
+pub mod Preorder
+pub mod Visits
+pub mod Falls
