@@ -11,7 +11,8 @@ use Rattle.links.specs.Links.{link}
 use Rattle.walk.specs.Machine.{Chart, State, closed, step, step-open, step-close, Turning, Closing, most-turns, turns}
 use Rattle.walk.specs.Turns.{stack-of, stack-of-length, stack-of-push, stack-of-top, state-of}
 use Rattle.walk.specs.Walked.{Keeps, keeps-turning, keeps-turn, keeps-less}
-use Rattle.walk.specs.Visits.{run, begin, Visiting, visiting}
+use Rattle.walk.specs.Opened.{run, begin, Visiting}
+use Rattle.walk.specs.VisitLaws.{visiting}
 
 -- the stack when n, its first child and so on down are opened, d cells at most
 unfoldable pub fallen : List ℕ → ℕ → ℕ → List ℕ → List ℕ
@@ -49,15 +50,6 @@ falling-on ls k n cells whole h l len e = go (h .left) n l (h .falls) (h .same) 
     go zero n l f s e p = absurd (omega arith)
     go (suc d) zero l f s e p = absurd (omega arith)
     go (suc d) (suc n) l f s e p = rw (p, e, add-one) (record { left = d; falls = f l .3; same = s })
-
-pub falling-done : {ls : List ℕ} {k n : ℕ} {cs whole : List ℕ} → Falling ls k n cs whole → n ≡ 0 → cs ≡ whole
-unfolding fallen
-falling-done {ls} {k} {n} {cs} {whole} h e = go (h .left) n e (h .same)
-  where
-    go : (d n : ℕ) → n ≡ 0 → fallen ls d n cs ≡ whole → cs ≡ whole
-    go zero n e s = s
-    go (suc d) zero e s = s
-    go (suc d) (suc n) e s = absurd (omega arith)
 
 -- ---- a cell with no children stays out of the chain
 unfoldable pub first-of : List ℕ → ℕ → ℕ

@@ -12,6 +12,7 @@ ghost use lib.ListN.{length, getD};
 ghost use Rattle.joining.specs.Joining.{mem};
 ghost use Rattle.joining.specs.Settle.{finished};
 ghost use Rattle.walk.specs.Walked.{Walking, Walked};
+ghost use Rattle.walk.specs.Opened.{Visited};
 ghost use Rattle.walk.specs.Machine.{Finishing, Rooting, root-closed, chart, step, Closing, closed, Turning};
 ghost use Rattle.walk.specs.Turns.{stack-of, state-of};
 ghost use Rattle.walk.specs.Falls.{Falls, fallen, down, first-of, with-leaf, Linked};
@@ -265,7 +266,9 @@ fn turn(
     }
 }
 
-// The walk of the tree below cell 0.
+// The walk of the tree below cell 0: a loop in which the chain of open cells travels from turn to turn.
+// `Visited`: at every turn its numbers up to the count are the open cells from the root down, and the cells are opened in preorder, each once
+// (specs/Visits: `open-cells`, `opened-in-order`, `opened-once`). The loop keeps `Visiting`, of the chain itself.
 pub fn walk<'a>(
     links: &[u16],
     widths: &'a [u16],
@@ -277,6 +280,7 @@ pub fn walk<'a>(
 )
     requires { ⌜ Walking (chart (now links) (now widths) (now depths) (now tops) allowance) (now rows) (now marks) ⌝ }
     ensures { λ _. ⌜ Walked (chart (now (links .entry)) (now (widths .entry)) (now (depths .entry)) (now (tops .entry)) allowance) (now (rows .entry)) (now (rows .exit)) (now (marks .exit)) ⌝ }
+    ensures { λ _. ⌜ Visited (chart (now (links .entry)) (now (widths .entry)) (now (depths .entry)) (now (tops .entry)) allowance) (mem (now (rows .entry)) (now (marks .entry))) (mem (now (rows .exit)) (now (marks .exit))) ⌝ }
 {
     let root = Chain {
         cells: [0u16; 32],

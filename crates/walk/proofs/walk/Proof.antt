@@ -1,5 +1,6 @@
 use Rattle.walk.specs.Falls.{Falls, fallen, Fell, fall, visiting-fall}
-use Rattle.walk.specs.Visits.{Visiting, visiting-start}
+use Rattle.walk.specs.Opened.{Visiting}
+use Rattle.walk.specs.VisitLaws.{visiting-start, visited}
 use Rattle.walk.specs.Walked.{Keeps, keeps-start, keeps-turning, keeps-turn, keeps-less, keeps-end}
 use Rattle.walk.specs.Turns.{stack-of, state-of, stack-of-length}
 use Rattle.walk.specs.Machine.{Chart, chart, State, most-turns, turns}
@@ -69,7 +70,8 @@ returns : tie.Need-returns Inv-loop μ-loop
 returns c =
     let l = c .before .before .loop in
     let none : l .at .open_cells .count ≡ 0 = omega (arith, c .if1 .left) in
-    keeps-end (board (c .before .before .before .before .before .before .before .before .before .before)) (c .before .before .before .before .before .before .before .before .before .before .args .rows .now) (state (c .before .before)) (l .inv .0) (stack-of-length (l .at .open_cells .cells) (l .at .open_cells .count) ∙ none)
+    let s = c .before .before .before .before .before .before .before .before .before .before in
+    (keeps-end (board s) (s .args .rows .now) (state (c .before .before)) (l .inv .0) (stack-of-length (l .at .open_cells .cells) (l .at .open_cells .count) ∙ none), visited (board s) (mem (s .args .rows .now) (s .args .marks .now)) (l .inv .1) none)
 
 pub walk-spec : {M : Type 1} → statement M
 walk-spec =
