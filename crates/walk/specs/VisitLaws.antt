@@ -195,9 +195,9 @@ module _ (b : Chart) (m : Memory) where
   visiting cells count next xs ms n e =
       record { turns = n; there = e; open-now = λ t su. open-cells t (su .fit) b (su .links) m n cells count (ap (λ (st : State). st .stack) e) }
 
-pub visiting-start : (b : Chart) (cells : List ℕ) (n : ℕ) (xs ms : List ℕ) → getD cells 0 0 ≡ 0 → n ≡ link (b .links) 0 0 → Visiting b (mem xs ms) cells 1 n xs ms
-unfolding run stack-of
-visiting-start b cells n xs ms e en = visiting b (mem xs ms) cells 1 n xs ms 0 (λ i. record { stack = e i ∷ []; next = en i; memory = mem xs ms })
+pub visiting-start : (b : Chart) (cells : List ℕ) (count n : ℕ) (xs ms : List ℕ) → stack-of cells count ≡ 0 ∷ [] → n ≡ link (b .links) 0 0 → Visiting b (mem xs ms) cells count n xs ms
+unfolding run
+visiting-start b cells count n xs ms e en = visiting b (mem xs ms) cells count n xs ms 0 (λ i. record { stack = e i; next = en i; memory = mem xs ms })
 
 -- ---- OPENED ONCE
 -- the cells of a forest, each before its children

@@ -9,6 +9,8 @@ use rows::box_rows;
 ghost use mathlib.Core.Path.{_≡_};
 ghost use Prim.Native.Nat.{_+_, _<_, _≤_};
 ghost use lib.ListN.{length, getD};
+ghost use mathlib.Core.List.{[], _∷_};
+ghost use Rattle.links.specs.Links.{link};
 ghost use Rattle.joining.specs.Joining.{mem};
 ghost use Rattle.joining.specs.Settle.{finished};
 ghost use Rattle.walk.specs.Walked.{Walking, Walked};
@@ -209,8 +211,23 @@ fn descend(links: &[u16], chain: Chain, next: usize) -> Turned
     }
 }
 
+// Before the first turn: the root is open, and its first child is next.
+pub fn begin(links: &[u16]) -> Turned
+    requires { ⌜ 4 ≤ length (now links) ⌝ }
+    ensures { λ r. ⌜ (stack-of (r .open_cells .cells) (r .open_cells .count) ≡ 0 ∷ []) × (r .next ≡ link (now (links .entry)) 0 0) ⌝ }
+{
+    let root = Chain {
+        cells: [0u16; 32],
+        count: 1,
+    };
+    Turned {
+        open_cells: root,
+        next: link_of(links, 0, 0),
+    }
+}
+
 // One turn: the child `next`, if there is one, is opened and so on down; then the latest open cell is closed. The chain travels by value.
-fn turn(
+pub fn turn(
     links: &[u16],
     widths: &[u16],
     depths: &[u8],
@@ -282,14 +299,7 @@ pub fn walk<'a>(
     ensures { λ _. ⌜ Walked (chart (now (links .entry)) (now (widths .entry)) (now (depths .entry)) (now (tops .entry)) allowance) (now (rows .entry)) (now (rows .exit)) (now (marks .exit)) ⌝ }
     ensures { λ _. ⌜ Visited (chart (now (links .entry)) (now (widths .entry)) (now (depths .entry)) (now (tops .entry)) allowance) (mem (now (rows .entry)) (now (marks .entry))) (mem (now (rows .exit)) (now (marks .exit))) ⌝ }
 {
-    let root = Chain {
-        cells: [0u16; 32],
-        count: 1,
-    };
-    let mut at = Turned {
-        open_cells: root,
-        next: link_of(links, 0, 0),
-    };
+    let mut at = begin(links);
     while 0 < at.open_cells.count {
         let chain = at.open_cells;
         at = turn(

@@ -36,13 +36,14 @@ falls : (l : tie.At-loop Inv-loop μ-loop) → 0 < l .loop .at .open_cells .coun
     × Falls (start l .args .links .now) 32 (length (state l .stack)) (state l .next)
 falls l h = fall (board (start l)) (start l .args .rows .now) (state l .memory) (state l .next) (state l .stack) (some l h) (l .loop .inv .0)
 
-link-of-requires : tie.Need-link-of-requires Inv-loop μ-loop
-link-of-requires c κs = (omega (arith, c .before .before .before .before .before .before .pre .suits .links .size), omega arith)
+begin-requires : tie.Need-begin-requires Inv-loop μ-loop
+begin-requires c κs = omega (arith, c .before .before .before .before .before .before .pre .suits .links .size)
 
 loop-holds : tie.Need-loop-holds Inv-loop μ-loop
 loop-holds c =
     let s = c .before .before .before .before .before .before .before in
-    (keeps-start (board s) (s .args .rows .now) (s .args .marks .now) (s .pre) _ _ refl (c .link-of .ensures), visiting-start (board s) _ _ _ _ refl (c .link-of .ensures), refl, refl)
+    let (e, n) = c .begin .ensures in
+    (keeps-start (board s) (s .args .rows .now) (s .args .marks .now) (s .pre) _ _ _ e n, visiting-start (board s) _ _ _ _ _ e n, refl, refl)
 
 turn-requires : tie.Need-turn-requires Inv-loop μ-loop
 turn-requires c κs =
@@ -79,7 +80,7 @@ walk-spec =
     (tie.spec
     Inv-loop
     μ-loop
-    link-of-requires
+    begin-requires
     loop-holds
     turn-requires
     loop-less
