@@ -13,6 +13,8 @@ use walk::begin;
 use walk::turn;
 ghost use Rattle.plan.specs.Columns.{table-of};
 ghost use Rattle.plan.specs.Fit.{Fit};
+ghost use Rattle.plan.specs.Limits.{scratch-size};
+ghost use Rattle.drawing.specs.LaidLaws.{Placeable};
 ghost use Rattle.walk.specs.Machine.{chart};
 ghost use Rattle.walk.specs.Walked.{Walking};
 
@@ -79,8 +81,27 @@ fn watch<'a>(
     word(b"none open\n");
 }
 
-// The columns that the walk reads, as Layout makes them.
-fn tour(t: Columns, allowance: u32)
+// The walk over a scratch and marks of zeros.
+fn tour(t: Columns, tops: &[u16; 256], allowance: u32)
+    requires { ⌜ Placeable t (now tops) scratch-size ⌝ }
+{
+    let mut links = [0u16; 1024];
+    link_all(&t.parent, &t.kind, t.count, &mut links);
+    let mut rows = [0u32; 16384];
+    let mut marks = [0u32; 1024];
+    watch(
+        &links,
+        &t.width,
+        &t.depth,
+        tops,
+        allowance,
+        &mut rows,
+        &mut marks,
+    );
+}
+
+// The row of each cell, as Layout finds it.
+fn survey_and_tour(t: Columns, allowance: u32)
     requires { ⌜ Fit (table-of t) ⌝ }
 {
     let mut counts = [0u16; 256];
@@ -94,19 +115,7 @@ fn tour(t: Columns, allowance: u32)
         &mut levels,
         &mut tops,
     );
-    let mut links = [0u16; 1024];
-    link_all(&t.parent, &t.kind, t.count, &mut links);
-    let mut rows = [0u32; 16384];
-    let mut marks = [0u32; 1024];
-    watch(
-        &links,
-        &t.width,
-        &t.depth,
-        &tops,
-        allowance,
-        &mut rows,
-        &mut marks,
-    );
+    tour(t, &tops, allowance);
 }
 
 fn show(t: Columns, allowance: u32) {
@@ -118,7 +127,7 @@ fn show(t: Columns, allowance: u32) {
         word(b"\n");
         return;
     }
-    tour(t, allowance);
+    survey_and_tour(t, allowance);
 }
 
 fn main() {
