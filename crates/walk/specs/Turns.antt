@@ -30,7 +30,7 @@ stack-of-set cs i v (suc k) le =
     let ne : k ≢ i = omega arith in
     rw (getD-set-other cs i k v 0 ne, stack-of-set cs i v k (omega arith))
 
-stack-of-push : (cs : List ℕ) (k v : ℕ) → k < length cs → stack-of (set cs k v) (k + 1) ≡ v ∷ stack-of cs k
+pub stack-of-push : (cs : List ℕ) (k v : ℕ) → k < length cs → stack-of (set cs k v) (k + 1) ≡ v ∷ stack-of cs k
 unfolding stack-of
 stack-of-push cs k v lt = rw (add-one, getD-set-same cs k v 0 lt, stack-of-set cs k v k (omega arith))
 
@@ -38,7 +38,7 @@ stack-of-more : (cs : List ℕ) (k : ℕ) → stack-of cs (k + 1) ≡ getD cs k 
 unfolding stack-of
 stack-of-more cs k = rw add-one
 
-stack-of-top : (cs : List ℕ) (k : ℕ) → 0 < k → stack-of cs k ≡ getD cs (k - 1) 0 ∷ stack-of cs (k - 1)
+pub stack-of-top : (cs : List ℕ) (k : ℕ) → 0 < k → stack-of cs k ≡ getD cs (k - 1) 0 ∷ stack-of cs (k - 1)
 unfolding stack-of
 stack-of-top cs k lt =
     let e : k ≡ suc (k - 1) = omega arith in
