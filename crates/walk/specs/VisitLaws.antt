@@ -226,9 +226,6 @@ module _ (t : Table) (fit : Fit t) (ls : List ℕ) (links : Links t ls) where
     hc = tail-head t f o c cs ta
 
     -- the turns: c is opened, its children are toured, c is closed, the later siblings are toured
-    p₀ : Spot
-    p₀ = spot (f ∷ stack) c
-
     abbrev p₁ : Spot
     p₁ = spot (c ∷ f ∷ stack) (getD (children t c) 0 0)
 
