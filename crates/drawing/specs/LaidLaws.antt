@@ -110,7 +110,7 @@ asked-none k true c h = refl
 asked-none k false c h = absurd h
 
 -- a refusal whose number is 0 is none
-nothing : (t : Table) (al s p : ℕ) → refusal layout (layout-given t al s p) .number ≡ 0 → refusal layout (layout-given t al s p) ≡ none
+pub nothing : (t : Table) (al s p : ℕ) → refusal layout (layout-given t al s p) .number ≡ 0 → refusal layout (layout-given t al s p) ≡ none
 nothing t al s p h =
     let e = layout-refusal t al s p in
     let first = asked 1 (leb scratch-size s) 0 in

@@ -1,3 +1,4 @@
 pub mod Laid
 pub mod LaidLaws
 pub mod Promised
+pub mod Walks

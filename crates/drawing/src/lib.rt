@@ -45,7 +45,7 @@ fn clear(scratch: &mut [u32])
 }
 
 // The questions that Layout puts: 1 (scratch), 4, 1 (positions), 6 to 8, 11 to 14.
-fn layout_refusal(t: Columns, allowance: u32, scratch: usize, positions: usize) -> Refusal
+pub fn layout_refusal(t: Columns, allowance: u32, scratch: usize, positions: usize) -> Refusal
     ensures { λ r. ⌜ r ≡ refusal layout (layout-given (table-of t) allowance scratch positions) ⌝ }
 {
     let long = asked(1, SCRATCH_SIZE <= scratch, 0);

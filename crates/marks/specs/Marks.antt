@@ -13,12 +13,13 @@ use Rattle.plan.specs.Columns.{table-of}
 use Rattle.plan.specs.declared.Columns.{Columns}
 use Rattle.layout.specs.Contour.{greatest, offset}
 use Rattle.layout.specs.Sheet.{middle, contours, whole-contour}
-use Rattle.joining.specs.Joining.{mark}
+use Rattle.joining.specs.Joining.{Memory, mem, mark}
 use Rattle.links.specs.Build.{Linking}
 use Rattle.links.specs.Built.{Reads, Built}
-use Rattle.walk.specs.Machine.{chart}
+use Rattle.walk.specs.Machine.{Chart, chart}
 use Rattle.walk.specs.Claim.{Suits}
 use Rattle.walk.specs.Walked.{Walking, Walked}
+use Rattle.walk.specs.Opened.{Visited}
 use Rattle.marks.specs.ColumnsLaws.{table-length, parent-is, kind-is, width-is, depth-is}
 
 -- a table that keeps the questions, its rows, a scratch of zeros, and marks of zeros
@@ -37,6 +38,12 @@ pub record Marked (t : Table) (al : ℕ) (ms : List ℕ) : Type 0 where
   pub offset-of : (f i s : ℕ) → At (children t f) i s → mark ms s 3 ≡ offset al 0 (contours t al f) i
   pub root-offset : mark ms 0 3 ≡ 0
   pub near : (i : ℕ) → getD ms i 0 ≤ farthest
+
+-- change request E5, of the table itself: the columns that are walked suit it, and what `walk` says of its turns (crate walk, specs/Opened: `Visited`) holds of them
+pub record Toured (t : Table) (m m′ : Memory) : Type 0 where
+  pub columns : Chart
+  pub suits : Suits t columns
+  pub visited : Visited columns m m′
 
 pub zeros-get : (k i : ℕ) → getD (replicate {A = ℕ} k 0) i 0 ≡ 0
 zeros-get zero i = refl
@@ -86,6 +93,9 @@ module _ (t : Columns) (tops : List ℕ) (al : ℕ) (xs ms : List ℕ) (h : Mark
 
     pub walking : 4 * most-cells ≤ length ms → Walking (chart ls (t .width) (t .depth) tops al) xs ms
     walking l = record { table = table-of t; suits = suits; rows = h .scratch; clear = h .clear; marks = l; blank = h .blank }
+
+    pub toured : {ys ns : List ℕ} → Visited (chart ls (t .width) (t .depth) tops al) (mem xs ms) (mem ys ns) → Toured (table-of t) (mem xs ms) (mem ys ns)
+    toured v = record { columns = chart ls (t .width) (t .depth) tops al; suits = suits; visited = v }
 
     pub marked : (ys ns : List ℕ) → Walked (chart ls (t .width) (t .depth) tops al) xs ys ns → (ys ≡ xs) × Marked (table-of t) al ns
     marked ys ns w =

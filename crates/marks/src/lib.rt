@@ -5,10 +5,11 @@ use plan::Columns;
 use walk::walk;
 ghost use mathlib.Core.Path.{_≡_};
 ghost use Rattle.plan.specs.Columns.{table-of};
-ghost use Rattle.marks.specs.Marks.{Markable, Marked};
+ghost use Rattle.joining.specs.Joining.{mem};
+ghost use Rattle.marks.specs.Marks.{Markable, Marked, Toured};
 
 // Four marks a cell, from a scratch and marks of zeros: how far its appointed child stands from its first, its left and its right extent, its
-// distance from its own first sibling. The scratch is zeros again.
+// distance from its own first sibling. The scratch is zeros again. The cells are opened in the table's preorder, each once (`Toured`).
 pub fn marks_of(
     t: Columns,
     tops: &[u16; 256],
@@ -18,6 +19,7 @@ pub fn marks_of(
 )
     requires { ⌜ Markable t (now tops) (now rows) (now marks) ⌝ }
     ensures { λ _. ⌜ (now (rows .exit) ≡ now (rows .entry)) × Marked (table-of t) allowance (now (marks .exit)) ⌝ }
+    ensures { λ _. ⌜ Toured (table-of t) (mem (now (rows .entry)) (now (marks .entry))) (mem (now (rows .exit)) (now (marks .exit))) ⌝ }
 {
     let mut links = [0u16; 1024];
     link_all(&t.parent, &t.kind, t.count, &mut links);

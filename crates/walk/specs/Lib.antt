@@ -5,3 +5,8 @@ pub mod Tree
 pub mod Shows
 pub mod Claim
 pub mod Walked
+pub mod Preorder
+pub mod Opened
+pub mod VisitLaws
+pub mod Visits
+pub mod Falls

@@ -11,7 +11,7 @@ use Rattle.rows.specs.Rows.{row-size, box-to}
 use Rattle.joining.specs.Joining.{Memory, mem, height, joined-rows, completed, settled, Settling}
 use Rattle.joining.specs.Settle.{finished}
 use Rattle.links.specs.Links.{link}
-use Rattle.walk.specs.Machine.{Chart, wide, deep, top, apt, State, stretch, with-stretch, stretch-rows, joined-in, closed, root-closed, step, step-open, step-close, step-end, Finishing, Closing, Ending, Turning}
+use Rattle.walk.specs.Machine.{Chart, wide, deep, top, apt, State, stretch, with-stretch, stretch-rows, joined-in, closed, root-closed, step, step-close, step-end, Finishing, Closing, Ending, Turning}
 
 -- ---- the chain: an array of 32 cells and a count. The stack has its last cell on top
 unfoldable pub stack-of : List ℕ → ℕ → List ℕ
@@ -30,7 +30,7 @@ stack-of-set cs i v (suc k) le =
     let ne : k ≢ i = omega arith in
     rw (getD-set-other cs i k v 0 ne, stack-of-set cs i v k (omega arith))
 
-stack-of-push : (cs : List ℕ) (k v : ℕ) → k < length cs → stack-of (set cs k v) (k + 1) ≡ v ∷ stack-of cs k
+pub stack-of-push : (cs : List ℕ) (k v : ℕ) → k < length cs → stack-of (set cs k v) (k + 1) ≡ v ∷ stack-of cs k
 unfolding stack-of
 stack-of-push cs k v lt = rw (add-one, getD-set-same cs k v 0 lt, stack-of-set cs k v k (omega arith))
 
@@ -38,7 +38,7 @@ stack-of-more : (cs : List ℕ) (k : ℕ) → stack-of cs (k + 1) ≡ getD cs k 
 unfolding stack-of
 stack-of-more cs k = rw add-one
 
-stack-of-top : (cs : List ℕ) (k : ℕ) → 0 < k → stack-of cs k ≡ getD cs (k - 1) 0 ∷ stack-of cs (k - 1)
+pub stack-of-top : (cs : List ℕ) (k : ℕ) → 0 < k → stack-of cs k ≡ getD cs (k - 1) 0 ∷ stack-of cs (k - 1)
 unfolding stack-of
 stack-of-top cs k lt =
     let e : k ≡ suc (k - 1) = omega arith in
@@ -48,9 +48,6 @@ abbrev pub state-of : List ℕ → ℕ → ℕ → List ℕ → List ℕ → Sta
 state-of cs k next xs ms = record { stack = stack-of cs k; next = next; memory = mem xs ms }
 
 -- ---- a turn, as the code takes it; the latest open cell is at level k
-pub turn-open : (b : Chart) (cs : List ℕ) (k next : ℕ) (xs ms : List ℕ) {n : ℕ} → 0 < next → k < length cs → n ≡ link (b .links) next 0 → state-of (set cs k next) (k + 1) n xs ms ≡ step b (state-of cs k next xs ms)
-turn-open b cs k next xs ms lt room en = cc (stack-of-push cs k next room, step-open b (stack-of cs k) next (mem xs ms) lt)
-
 module _ (b : Chart) (cs : List ℕ) (k : ℕ) (xs ms : List ℕ) where
   two : 0 < k → stack-of cs (k + 1) ≡ getD cs k 0 ∷ getD cs (k - 1) 0 ∷ stack-of cs (k - 1)
   two lt = rw (stack-of-more cs k, stack-of-top cs k lt)

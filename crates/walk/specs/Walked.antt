@@ -1,7 +1,7 @@
 -- What the walk is given, and what it leaves. Assumes nothing.
 use mathlib.Core.Path.{_≡_, refl, _∙_, ap, sym, subst}
 use mathlib.Core.Logic.{inl, inr}
-use mathlib.Core.List.{List, []}
+use mathlib.Core.List.{List, [], _∷_}
 use mathlib.Core.Bool.{Bool, true, false}
 use Prim.Native.Nat.{ℕ, zero, suc, _+_, _-_, _*_, _/_, _%_, _≤_, _<_}
 use native.Mathlib.Nat.{div-add-mod'}
@@ -316,9 +316,8 @@ module _ (b : Chart) (xs ms : List ℕ) (g : Walking b xs ms) where
         safe = safe-map b Both (λ m. Walked b xs (m .rows) (m .marks)) walked (all-turns (g .table)) begin both;
       }
 
-  pub keeps-start : (cs : List ℕ) (n : ℕ) → getD cs 0 0 ≡ 0 → n ≡ link (b .links) 0 0 → Keeps b xs (state-of cs 1 n xs ms)
-  unfolding stack-of
-  keeps-start cs n e en = rw (e, en) keeps
+  pub keeps-start : (cs : List ℕ) (k n : ℕ) → stack-of cs k ≡ 0 ∷ [] → n ≡ link (b .links) 0 0 → Keeps b xs (state-of cs k n xs ms)
+  keeps-start cs k n e en = rw (e, en) keeps
 
 safe-some : (b : Chart) (P : Memory → Type 0) (n : ℕ) (st : State) → Safe b P n st → 0 < length (st .stack) → (m : ℕ) × (n ≡ suc m) × Turning b st × Safe b P m (step b st)
 safe-some b P zero st s l = absurd (omega (arith, s .0))

@@ -7,13 +7,17 @@ use links::link_of;
 use rows::ROW;
 use rows::box_rows;
 ghost use mathlib.Core.Path.{_≡_};
-ghost use Prim.Native.Nat.{_+_, _<_};
+ghost use Prim.Native.Nat.{_+_, _<_, _≤_};
 ghost use lib.ListN.{length, getD};
+ghost use mathlib.Core.List.{[], _∷_};
+ghost use Rattle.links.specs.Links.{link};
 ghost use Rattle.joining.specs.Joining.{mem};
 ghost use Rattle.joining.specs.Settle.{finished};
 ghost use Rattle.walk.specs.Walked.{Walking, Walked};
+ghost use Rattle.walk.specs.Opened.{Visited};
 ghost use Rattle.walk.specs.Machine.{Finishing, Rooting, root-closed, chart, step, Closing, closed, Turning};
-ghost use Rattle.walk.specs.Turns.{state-of};
+ghost use Rattle.walk.specs.Turns.{stack-of, state-of};
+ghost use Rattle.walk.specs.Falls.{Falls, fallen, down, first-of, with-leaf, Linked};
 
 fn wide8(x: u8) -> usize
     ensures { λ r. ⌜ r ≡ x ⌝ }
@@ -125,9 +129,9 @@ pub struct Chain {
     pub count: usize,
 }
 
-// The number of open cells after a turn, and the child to open next, 0 where there is none.
+// The chain after a turn, and the child to open next, 0 where there is none.
 pub struct Turned {
-    pub count: usize,
+    pub open_cells: Chain,
     pub next: usize,
 }
 
@@ -174,49 +178,114 @@ fn shut(
     link_of(links, c, 1)
 }
 
-// One turn: the next child of the latest open cell is opened, or that cell is closed.
-fn turn(
+// The first child, 0 where there is none.
+fn first_of(links: &[u16], n: usize) -> usize
+    requires { ⌜ Linked (now links) n ⌝ }
+    ensures { λ r. ⌜ r ≡ first-of (now (links .entry)) n ⌝ }
+{
+    if n == 0 {
+        return 0;
+    }
+    link_of(links, n, 0)
+}
+
+// The child `next` is opened, and its first child, and so on, down to a cell with no children, which is not put into the chain.
+fn descend(links: &[u16], chain: Chain, next: usize) -> Turned
+    requires { ⌜ Falls (now links) 32 (chain .count) next ⌝ }
+    ensures { λ r. ⌜ with-leaf (r .next) (stack-of (r .open_cells .cells) (r .open_cells .count)) ≡ fallen (now (links .entry)) 32 next (stack-of (chain .cells) (chain .count)) ⌝ }
+    ensures { λ r. ⌜ chain .count ≤ r .open_cells .count ⌝ }
+{
+    let mut c = chain;
+    let mut n = next;
+    let mut m = first_of(links, next);
+    while 0 < m {
+        let k = c.count;
+        c.cells[k] = n as u16;
+        c.count = k + 1;
+        n = m;
+        m = first_of(links, n);
+    }
+    Turned {
+        open_cells: c,
+        next: n,
+    }
+}
+
+// Before the first turn: the root is open, and its first child is next.
+pub fn begin(links: &[u16]) -> Turned
+    requires { ⌜ 4 ≤ length (now links) ⌝ }
+    ensures { λ r. ⌜ (stack-of (r .open_cells .cells) (r .open_cells .count) ≡ 0 ∷ []) × (r .next ≡ link (now (links .entry)) 0 0) ⌝ }
+{
+    let root = Chain {
+        cells: [0u16; 32],
+        count: 1,
+    };
+    Turned {
+        open_cells: root,
+        next: link_of(links, 0, 0),
+    }
+}
+
+// One turn: the child `next`, if there is one, is opened and so on down; then the latest open cell is closed. The chain travels by value.
+pub fn turn(
     links: &[u16],
     widths: &[u16],
     depths: &[u8],
     tops: &[u16],
     allowance: u32,
-    cells: &mut [u16; 32],
-    count: usize,
+    chain: Chain,
     next: usize,
     rows: &mut [u32],
     marks: &mut [u32],
 ) -> Turned
-    requires { ⌜ length (now cells) ≡ 32 ⌝ }
-    requires { ⌜ Turning (chart (now links) (now widths) (now depths) (now tops) allowance) (state-of (now cells) count next (now rows) (now marks)) ⌝ }
-    ensures { λ _. ⌜ length (now (cells .exit)) ≡ 32 ⌝ }
-    ensures { λ r. ⌜ state-of (now (cells .exit)) (r .count) (r .next) (now (rows .exit)) (now (marks .exit)) ≡ step (chart (now (links .entry)) (now (widths .entry)) (now (depths .entry)) (now (tops .entry)) allowance) (state-of (now (cells .entry)) count next (now (rows .entry)) (now (marks .entry))) ⌝ }
+    requires { ⌜ 0 < chain .count ⌝ }
+    requires { ⌜ Falls (now links) 32 (chain .count) next ⌝ }
+    requires { ⌜ Turning (chart (now links) (now widths) (now depths) (now tops) allowance) (down (now links) (stack-of (chain .cells) (chain .count)) next (mem (now rows) (now marks))) ⌝ }
+    ensures { λ r. ⌜ state-of (r .open_cells .cells) (r .open_cells .count) (r .next) (now (rows .exit)) (now (marks .exit)) ≡ step (chart (now (links .entry)) (now (widths .entry)) (now (depths .entry)) (now (tops .entry)) allowance) (down (now (links .entry)) (stack-of (chain .cells) (chain .count)) next (mem (now (rows .entry)) (now (marks .entry)))) ⌝ }
 {
-    if 0 < next {
-        cells[count] = next as u16;
-        return Turned {
-            count: count + 1,
-            next: link_of(links, next, 0),
-        };
-    }
-    let level = count - 1;
-    Turned {
-        count: level,
-        next: shut(
+    let d = descend(links, chain, next);
+    let leaf = d.next;
+    let mut c = d.open_cells;
+    let level = c.count - 1;
+    if 0 < leaf {
+        close(
             links,
             widths,
             depths,
             tops,
             allowance,
-            cells,
             level,
+            open_at(&c.cells, level),
+            leaf,
             rows,
             marks,
-        ),
+        );
+        return Turned {
+            open_cells: c,
+            next: link_of(links, leaf, 1),
+        };
+    }
+    c.count = level;
+    let n = shut(
+        links,
+        widths,
+        depths,
+        tops,
+        allowance,
+        &c.cells,
+        level,
+        rows,
+        marks,
+    );
+    Turned {
+        open_cells: c,
+        next: n,
     }
 }
 
-// The walk of the tree below cell 0.
+// The walk of the tree below cell 0: a loop in which the chain of open cells travels from turn to turn.
+// `Visited`: at every turn its numbers up to the count are the open cells from the root down, and the cells are opened in preorder, each once
+// (specs/Visits: `open-cells`, `opened-in-order`, `opened-once`). The loop keeps `Visiting`, of the chain itself.
 pub fn walk<'a>(
     links: &[u16],
     widths: &'a [u16],
@@ -228,27 +297,21 @@ pub fn walk<'a>(
 )
     requires { ⌜ Walking (chart (now links) (now widths) (now depths) (now tops) allowance) (now rows) (now marks) ⌝ }
     ensures { λ _. ⌜ Walked (chart (now (links .entry)) (now (widths .entry)) (now (depths .entry)) (now (tops .entry)) allowance) (now (rows .entry)) (now (rows .exit)) (now (marks .exit)) ⌝ }
+    ensures { λ _. ⌜ Visited (chart (now (links .entry)) (now (widths .entry)) (now (depths .entry)) (now (tops .entry)) allowance) (mem (now (rows .entry)) (now (marks .entry))) (mem (now (rows .exit)) (now (marks .exit))) ⌝ }
 {
-    let mut chain = Chain {
-        cells: [0u16; 32],
-        count: 1,
-    };
-    let mut next = link_of(links, 0, 0);
-    while 0 < chain.count {
-        let count = chain.count;
-        let t = turn(
+    let mut at = begin(links);
+    while 0 < at.open_cells.count {
+        let chain = at.open_cells;
+        at = turn(
             links,
             widths,
             depths,
             tops,
             allowance,
-            &mut chain.cells,
-            count,
-            next,
+            chain,
+            at.next,
             rows,
             marks,
         );
-        chain.count = t.count;
-        next = t.next;
     }
 }

@@ -12,14 +12,14 @@ marks-of-requires c κs =
 raised-requires : tie.Need-raised-requires
 raised-requires c κs =
     let st = c .before .before .before .before .before .before .before in
-    record { allowance = st .args .allowance; fit = st .pre .fit; marks = c .before .before .before .marks-of .ensures .1 }
+    record { allowance = st .args .allowance; fit = st .pre .fit; marks = c .before .before .before .marks-of .ensures .0 .1 }
 
 same-length : tie.Need-same-length
 same-length c = search needs
 
 returns : tie.Need-returns
 returns c =
-    let m = c .before .before .before .before .marks-of .ensures in
+    let m = c .before .before .before .before .marks-of .ensures .0 in
     let st = c .before .before .before .before .before .before .before .before in
     (c .raised .ensures (st .args .allowance) (m .1), m .0 ∙ st .pre .scratch)
 

@@ -2,7 +2,7 @@ use borrow.Author.Needs.{needs}
 use mathlib.Core.Path.{_≡_}
 use lib.ListN.{length}
 use native.Mathlib.Omega.{arith}
-use Rattle.marks.specs.Marks.{Long, linking, walking, marked}
+use Rattle.marks.specs.Marks.{Long, linking, walking, marked, toured}
 use Rattle.marks.proofs.marks_of.Statement.{statement}
 use Rattle.marks.proofs.marks_of.Tie as tie
 
@@ -43,7 +43,9 @@ returns c =
     let s = c .before .before .before .before .before .before .before .before .before .before .before .before .before .before .before .before .before .before .before .before .before in
     let a = s .args in
     let y : length (a .tops .now) ≡ 256 = search needs in
-    marked (a .t1) (a .tops .now) (a .allowance) (a .rows .now) (a .marks .now) (s .pre) (long s) _ (c .before .before .before .before .before .before .before .before .before .before .before .before .before .link-all .ensures) (omega arith) _ _ (c .before .before .walk .ensures)
+    let w = c .before .before .walk .ensures in
+    let b = c .before .before .before .before .before .before .before .before .before .before .before .before .before .link-all .ensures in
+    (marked (a .t1) (a .tops .now) (a .allowance) (a .rows .now) (a .marks .now) (s .pre) (long s) _ b (omega arith) _ _ (w .0), toured (a .t1) (a .tops .now) (a .allowance) (a .rows .now) (a .marks .now) (s .pre) (long s) _ b (omega arith) (w .1))
 
 pub marks-of-spec : {M : Type 1} → statement M
 marks-of-spec =

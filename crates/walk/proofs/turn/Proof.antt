@@ -1,55 +1,38 @@
-use borrow.Author.Needs.{needs}
-use mathlib.Core.Path.{_≡_}
-use Prim.Native.Nat.{_+_, _-_, _<_}
+use Rattle.walk.specs.Falls.{leaf-length, leaf-closing, leaf-closed, no-leaf}
+use Rattle.walk.specs.Turns.{state-of, stack-of-length}
+use Rattle.walk.specs.Machine.{Chart, chart, Turning}
 use native.Mathlib.Omega.{arith}
-use lib.ListN.{length-set}
-use Rattle.walk.specs.Machine.{Chart, chart}
-use Rattle.walk.specs.Turns.{turn-open, turn-some, stack-of-length}
+use Prim.Native.Nat.{_+_, _-_, _<_}
+use mathlib.Core.Path.{_≡_}
+use borrow.Author.Needs.{needs}
 use Rattle.walk.proofs.turn.Statement.{statement}
 use Rattle.walk.proofs.turn.Tie as tie
 
 abbrev board : tie.Start → Chart
 board s = let a = s .args in chart (a .links .now) (a .widths .now) (a .depths .now) (a .tops .now) (a .allowance)
 
--- there is room for one more open cell where a child is opened, and some cell is open where one is closed
-room : (s : tie.Start) → 0 < s .args .next → s .args .count < 32
-room s lt = omega (arith, s .pre .1 .into lt .room, stack-of-length (s .args .cells .now) (s .args .count))
-
-below : (s : tie.Start) → s .args .count ≡ s .args .count - 1 + 1
-below s =
-    let a = s .args in
-    let so = turn-some (board s) (a .cells .now) (a .count) (a .rows .now) (a .marks .now) (s .pre .1) in
-    omega arith
-
-cast-cells : tie.Need-cast-cells
-cast-cells c = omega (arith, c .before .before .before .before .before .before .before .pre .1 .into (c .if1 .taken) .small)
-
-mul-cells : tie.Need-mul-cells
-mul-cells c = omega (arith, room (c .before .before .before .before .before .before .before) (c .if1 .taken))
-
-element-write-cells : tie.Need-element-write-cells
-element-write-cells c = room (c .before .before .before .before .before .before .before) (c .if1 .taken)
-
-add-t14 : tie.Need-add-t14
-add-t14 c = omega (arith, room (c .before .before .before .before .before .before .before) (c .if1 .taken))
-
-link-of-requires : tie.Need-link-of-requires
-link-of-requires c κs = (c .before .before .before .before .before .before .before .pre .1 .into (c .if1 .taken) .links, omega arith)
-
-returns : tie.Need-returns
-returns c =
-    let s = c .before .before .before .before .before .before .before .before in
-    let a = s .args in
-    (simp length-set (s .pre .0), turn-open (board s) (a .cells .now) (a .count) (a .next) (a .rows .now) (a .marks .now) (c .before .if1 .taken) (omega (arith, room s (c .before .if1 .taken), s .pre .0)) (c .link-of .ensures))
+descend-requires : tie.Need-descend-requires
+descend-requires c κs = search needs
 
 sub-level : tie.Need-sub-level
-sub-level c = omega (arith, below (c .before .before .before .before .before .before .before))
+sub-level c = omega (arith, c .before .before .before .before .before .before .before .before .pre .0, c .before .descend .ensures .1)
 
-shut-requires : tie.Need-shut-requires
-shut-requires c κs =
-    let s = c .before .before .before .before .before .before .before .before .before .before in
-    let ez : s .args .next ≡ 0 = omega (arith, c .before .before .before .if1 .left) in
-    rw (ez, below s) at (s .pre .1)
+open-at-requires : tie.Need-open-at-requires
+open-at-requires c κs =
+    let r = c .before .before .before .before .descend .result in
+    omega (arith, c .before .before .before .before .before .before .before .before .before .before .before .pre .0, c .before .before .before .before .descend .ensures .1, leaf-length (r .next) _ _ (c .before .before .before .before .descend .ensures .0), stack-of-length (r .open_cells .cells) (r .open_cells .count), c .before .before .before .before .before .before .before .before .before .before .before .pre .1 .1 .many)
+
+close-requires : tie.Need-close-requires
+close-requires c κs =
+    let s = c .before .before .before .before .before .before .before .before .before .before .before .before .before .before in
+    let r = c .before .before .before .before .before .before .before .descend .result in
+    leaf-closing (board s) (r .open_cells .cells) (r .open_cells .count) (r .next) (s .args .rows .now) (s .args .marks .now) (omega (arith, s .pre .0, c .before .before .before .before .before .before .before .descend .ensures .1)) (c .before .before .before .before .before .if1 .taken) (c .before .before .before .before .before .before .before .descend .ensures .0) (s .pre .1 .1) (c .before .before .open-at .ensures)
+
+link-of-requires : tie.Need-link-of-requires
+link-of-requires c κs =
+    let s = c .before .before .before .before .before .before .before .before .before .before .before .before .before .before .before .before .before .before .before in
+    let r = c .before .before .before .before .before .before .before .before .before .before .before .before .descend .result in
+    (leaf-closing (board s) (r .open_cells .cells) (r .open_cells .count) (r .next) (s .args .rows .now) (s .args .marks .now) (omega (arith, s .pre .0, c .before .before .before .before .before .before .before .before .before .before .before .before .descend .ensures .1)) (c .before .before .before .before .before .before .before .before .before .before .if1 .taken) (c .before .before .before .before .before .before .before .before .before .before .before .before .descend .ensures .0) (s .pre .1 .1) (c .before .before .before .before .before .before .before .open-at .ensures) .links, omega arith)
 
 same-length : tie.Need-same-length
 same-length c = search needs
@@ -57,24 +40,49 @@ same-length c = search needs
 same-length-2 : tie.Need-same-length-2
 same-length-2 c = search needs
 
+returns : tie.Need-returns
+returns c =
+    let s = c .before .before .before .before .before .before .before .before .before .before .before .before .before .before .before .before .before .before .before .before in
+    let r = c .before .before .before .before .before .before .before .before .before .before .before .before .before .descend .result in
+    leaf-closed (board s) (r .open_cells .cells) (r .open_cells .count) (r .next) (s .args .rows .now) (s .args .marks .now) (omega (arith, s .pre .0, c .before .before .before .before .before .before .before .before .before .before .before .before .before .descend .ensures .1)) (c .before .before .before .before .before .before .before .before .before .before .before .if1 .taken) (c .before .before .before .before .before .before .before .before .before .before .before .before .before .descend .ensures .0) (c .before .before .before .before .before .before .before .before .open-at .ensures) (c .link-of .ensures) (c .before .before .before .before .before .close .ensures)
+
+shut-requires : tie.Need-shut-requires
+shut-requires c κs =
+    let s = c .before .before .before .before .before .before .before .before .before .before .before .before .before in
+    let a = s .args in
+    let r = c .before .before .before .before .before .before .descend .result .open_cells in
+    let w = no-leaf (c .before .before .before .before .before .before .descend .result .next) _ _ (omega (arith, c .before .before .before .before .if1 .left)) (c .before .before .before .before .before .before .descend .ensures .0) in
+    let t : Turning (board s) (state-of (r .cells) (r .count) 0 (a .rows .now) (a .marks .now)) = rw (← w) at (s .pre .1 .1) in
+    let e : r .count ≡ r .count - 1 + 1 = omega (arith, s .pre .0, c .before .before .before .before .before .before .descend .ensures .1) in
+    rw e at t
+
+same-length-3 : tie.Need-same-length-3
+same-length-3 c = search needs
+
+same-length-4 : tie.Need-same-length-4
+same-length-4 c = search needs
+
 returns-2 : tie.Need-returns-2
 returns-2 c =
-    let s = c .before .before .before .before .before .before .before .before .before .before .before .before .before .before .before in
-    let ez : s .args .next ≡ 0 = omega (arith, c .before .before .before .before .before .before .before .before .if1 .left) in
-    (s .pre .0, rw ez (rw (← below s) at (c .before .before .before .before .shut .ensures)))
+    let s = c .before .before .before .before .before .before .before .before .before .before .before .before .before .before .before .before .before .before in
+    let r = c .before .before .before .before .before .before .before .before .before .before .before .descend .result .open_cells in
+    let w = no-leaf (c .before .before .before .before .before .before .before .before .before .before .before .descend .result .next) _ _ (omega (arith, c .before .before .before .before .before .before .before .before .before .if1 .left)) (c .before .before .before .before .before .before .before .before .before .before .before .descend .ensures .0) in
+    let e : r .count ≡ r .count - 1 + 1 = omega (arith, s .pre .0, c .before .before .before .before .before .before .before .before .before .before .before .descend .ensures .1) in
+    rw (← w) (rw (← e) at (c .before .before .before .before .shut .ensures))
 
 pub turn-spec : {M : Type 1} → statement M
 turn-spec =
     tie.close
     (tie.spec
-    cast-cells
-    mul-cells
-    element-write-cells
-    add-t14
-    link-of-requires
-    returns
+    descend-requires
     sub-level
-    shut-requires
+    open-at-requires
+    close-requires
+    link-of-requires
     same-length
     same-length-2
+    returns
+    shut-requires
+    same-length-3
+    same-length-4
     returns-2)

@@ -1,60 +1,78 @@
-use native.Mathlib.Omega.{arith}
-use Prim.Native.Nat.{_<_}
-use mathlib.Core.Path.{_≡_, refl, _∙_}
-use lib.ListN.{length}
-use Rattle.walk.specs.Machine.{Chart, chart, State, most-turns, turns}
-use Rattle.walk.specs.Turns.{state-of, stack-of-length}
+use Rattle.walk.specs.Falls.{Falls, fallen, Fell, fall, visiting-fall}
+use Rattle.walk.specs.Opened.{Visiting}
+use Rattle.walk.specs.VisitLaws.{visiting-start, visited}
 use Rattle.walk.specs.Walked.{Keeps, keeps-start, keeps-turning, keeps-turn, keeps-less, keeps-end}
+use Rattle.walk.specs.Turns.{stack-of, state-of, stack-of-length}
+use Rattle.walk.specs.Machine.{Chart, chart, State, most-turns, turns}
+use Rattle.joining.specs.Joining.{mem}
+use lib.ListN.{length}
+use mathlib.Core.Path.{_≡_, refl, _∙_}
+use Prim.Native.Nat.{_<_}
+use native.Mathlib.Omega.{arith}
 use Rattle.walk.proofs.walk.Statement.{statement}
 use Rattle.walk.proofs.walk.Tie as tie
 
 abbrev Inv-loop : tie.InvT-loop
-Inv-loop links widths depths tops allowance rows₀ marks₀ chain₀ next₀ rows marks chain next = Keeps (chart links widths depths tops allowance) rows₀ (state-of (chain .cells) (chain .count) next rows marks) × (length rows ≡ length rows₀) × (length marks ≡ length marks₀) × (length (chain .cells) ≡ 32)
+Inv-loop links widths depths tops allowance rows₀ marks₀ at₀ rows marks at = Keeps (chart links widths depths tops allowance) rows₀ (state-of (at .open_cells .cells) (at .open_cells .count) (at .next) rows marks) × Visiting (chart links widths depths tops allowance) (mem rows₀ marks₀) (at .open_cells .cells) (at .open_cells .count) (at .next) rows marks × (length rows ≡ length rows₀) × (length marks ≡ length marks₀)
 
 abbrev μ-loop : tie.MeasureT-loop
-μ-loop links widths depths tops allowance rows₀ marks₀ chain₀ next₀ rows marks chain next = turns (chart links widths depths tops allowance) most-turns (state-of (chain .cells) (chain .count) next rows marks)
+μ-loop links widths depths tops allowance rows₀ marks₀ at₀ rows marks at = turns (chart links widths depths tops allowance) most-turns (state-of (at .open_cells .cells) (at .open_cells .count) (at .next) rows marks)
 
--- the walk at the head of a turn, and that a cell is open there
+-- the walk at the head of a turn, that a cell is open there, and the cells that the turn opens
 abbrev board : tie.Start Inv-loop μ-loop → Chart
 board s = let a = s .args in chart (a .links .now) (a .widths .now) (a .depths .now) (a .tops .now) (a .allowance)
 
 abbrev state : tie.At-loop Inv-loop μ-loop → State
-state l = state-of (l .loop .chain .cells) (l .loop .chain .count) (l .loop .next) (l .loop .rows) (l .loop .marks)
+state l = state-of (l .loop .at .open_cells .cells) (l .loop .at .open_cells .count) (l .loop .at .next) (l .loop .rows) (l .loop .marks)
 
-some : (l : tie.In-loop Inv-loop μ-loop) → 0 < length (state (l .before) .stack)
-some l = rw (stack-of-length (l .before .loop .chain .cells) (l .before .loop .chain .count)) (l .loop-test .taken)
+some : (l : tie.At-loop Inv-loop μ-loop) → 0 < l .loop .at .open_cells .count → 0 < length (state l .stack)
+some l h = rw (stack-of-length (l .loop .at .open_cells .cells) (l .loop .at .open_cells .count)) h
 
-link-of-requires : tie.Need-link-of-requires Inv-loop μ-loop
-link-of-requires c κs = (omega (arith, c .before .before .before .before .before .before .pre .suits .links .size), omega arith)
+abbrev start : tie.At-loop Inv-loop μ-loop → tie.Start Inv-loop μ-loop
+start l = l .before .before .before .before .before .before .before .before
+
+falls : (l : tie.At-loop Inv-loop μ-loop) → 0 < l .loop .at .open_cells .count
+    → Fell (board (start l)) (start l .args .rows .now) (state l .memory) (state l .stack) (state l .next) (fallen (start l .args .links .now) 32 (state l .next) (state l .stack))
+    × Falls (start l .args .links .now) 32 (length (state l .stack)) (state l .next)
+falls l h = fall (board (start l)) (start l .args .rows .now) (state l .memory) (state l .next) (state l .stack) (some l h) (l .loop .inv .0)
+
+begin-requires : tie.Need-begin-requires Inv-loop μ-loop
+begin-requires c κs = omega (arith, c .before .before .before .before .before .before .pre .suits .links .size)
 
 loop-holds : tie.Need-loop-holds Inv-loop μ-loop
 loop-holds c =
     let s = c .before .before .before .before .before .before .before in
-    (keeps-start (board s) (s .args .rows .now) (s .args .marks .now) (s .pre) _ _ refl (c .link-of .ensures), refl, refl, refl)
+    let (e, n) = c .begin .ensures in
+    (keeps-start (board s) (s .args .rows .now) (s .args .marks .now) (s .pre) _ _ _ e n, visiting-start (board s) _ _ _ _ _ e n, refl, refl)
 
 turn-requires : tie.Need-turn-requires Inv-loop μ-loop
-turn-requires c κs = (c .before .before .before .before .loop .inv .3, keeps-turning (board (c .before .before .before .before .before .before .before .before .before .before .before .before)) (c .before .before .before .before .before .before .before .before .before .before .before .before .args .rows .now) (state (c .before .before .before .before)) (c .before .before .before .before .loop .inv .0) (some (c .before .before .before)))
+turn-requires c κs =
+    let l = c .before .before .before .before .before .loop in
+    let (f, g) = falls (c .before .before .before .before .before) (c .before .before .before .if1 .taken) in
+    (c .before .before .before .if1 .taken, (rw (stack-of-length (l .at .open_cells .cells) (l .at .open_cells .count)) at g, keeps-turning (board (c .before .before .before .before .before .before .before .before .before .before .before .before .before)) (c .before .before .before .before .before .before .before .before .before .before .before .before .before .args .rows .now) _ (f .keeps) (f .some)))
 
 loop-less : tie.Need-loop-less Inv-loop μ-loop
-loop-less c = keeps-less (board (c .before .before .before .before .before .before .before .before .before .before .before .before .before .before .before .before .before)) (c .before .before .before .before .before .before .before .before .before .before .before .before .before .before .before .before .before .args .rows .now) (state (c .before .before .before .before .before .before .before .before .before)) (c .before .before .before .before .before .before .before .before .before .loop .inv .0) (some (c .before .before .before .before .before .before .before .before)) _ (c .before .before .before .before .turn .ensures .1)
+loop-less c =
+    let (f, g) = falls (c .before .before .before .before .before .before .before .before .before .before) (c .before .before .before .before .before .before .before .before .if1 .taken) in
+    omega (arith, f .fewer, keeps-less (board (c .before .before .before .before .before .before .before .before .before .before .before .before .before .before .before .before .before .before)) (c .before .before .before .before .before .before .before .before .before .before .before .before .before .before .before .before .before .before .args .rows .now) _ (f .keeps) (f .some) _ (c .before .before .before .before .turn .ensures))
 
 loop-again : tie.Need-loop-again Inv-loop μ-loop
 loop-again c =
-    let inv = c .before .before .before .before .before .before .before .before .before .loop .inv in
-    let t = c .before .before .before .before .turn in
-    (keeps-turn (board (c .before .before .before .before .before .before .before .before .before .before .before .before .before .before .before .before .before)) (c .before .before .before .before .before .before .before .before .before .before .before .before .before .before .before .before .before .args .rows .now) (state (c .before .before .before .before .before .before .before .before .before)) (inv .0) (some (c .before .before .before .before .before .before .before .before)) _ (t .ensures .1), t .kept .1 .1 .1 .1 .1 .1 .1 .1 .0 ∙ inv .1, t .kept .1 .1 .1 .1 .1 .1 .1 .1 .1 .0 ∙ inv .2, t .ensures .0)
+    let (f, g) = falls (c .before .before .before .before .before .before .before .before .before .before) (c .before .before .before .before .before .before .before .before .if1 .taken) in
+    (keeps-turn (board (c .before .before .before .before .before .before .before .before .before .before .before .before .before .before .before .before .before .before)) (c .before .before .before .before .before .before .before .before .before .before .before .before .before .before .before .before .before .before .args .rows .now) _ (f .keeps) (f .some) _ (c .before .before .before .before .turn .ensures), visiting-fall (board (c .before .before .before .before .before .before .before .before .before .before .before .before .before .before .before .before .before .before)) _ (c .before .before .before .before .before .before .before .before .before .before .before .before .before .before .before .before .before .before .args .rows .now) _ (c .before .before .before .before .before .before .before .before .before .before .loop .inv .1) f (c .before .before .before .before .turn .ensures), c .before .before .before .before .turn .kept .1 .1 .1 .1 .1 .1 .1 .0 ∙ c .before .before .before .before .before .before .before .before .before .before .loop .inv .2, c .before .before .before .before .turn .kept .1 .1 .1 .1 .1 .1 .1 .1 .0 ∙ c .before .before .before .before .before .before .before .before .before .before .loop .inv .3)
 
 same-length : tie.Need-same-length Inv-loop μ-loop
-same-length c = c .before .loop .inv .1
+same-length c = c .before .before .loop .inv .2
 
 same-length-2 : tie.Need-same-length-2 Inv-loop μ-loop
-same-length-2 c = c .before .loop .inv .2
+same-length-2 c = c .before .before .loop .inv .3
 
 returns : tie.Need-returns Inv-loop μ-loop
 returns c =
-    let l = c .before .loop in
-    let none : l .chain .count ≡ 0 = omega (arith, c .loop-test .left) in
-    keeps-end (board (c .before .before .before .before .before .before .before .before .before)) (c .before .before .before .before .before .before .before .before .before .args .rows .now) (state (c .before)) (l .inv .0) (stack-of-length (l .chain .cells) (l .chain .count) ∙ none)
+    let l = c .before .before .loop in
+    let none : l .at .open_cells .count ≡ 0 = omega (arith, c .if1 .left) in
+    let s = c .before .before .before .before .before .before .before .before .before .before in
+    (keeps-end (board s) (s .args .rows .now) (state (c .before .before)) (l .inv .0) (stack-of-length (l .at .open_cells .cells) (l .at .open_cells .count) ∙ none), visited (board s) (mem (s .args .rows .now) (s .args .marks .now)) (l .inv .1) none)
 
 pub walk-spec : {M : Type 1} → statement M
 walk-spec =
@@ -62,7 +80,7 @@ walk-spec =
     (tie.spec
     Inv-loop
     μ-loop
-    link-of-requires
+    begin-requires
     loop-holds
     turn-requires
     loop-less

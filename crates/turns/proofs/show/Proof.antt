@@ -1,0 +1,64 @@
+use borrow.Author.Needs.{needs}
+use mathlib.Core.Path.{ap, sym, _∙_}
+use Rattle.plan.specs.Columns.{table-of}
+use Rattle.plan.specs.Limits.{scratch-size}
+use Rattle.plan.specs.declared.Refusal.{Refusal}
+use Rattle.least.specs.Asked.{layout-asks}
+use Rattle.drawing.specs.LaidLaws.{nothing}
+use Rattle.turns.proofs.show.Statement.{statement}
+use Rattle.turns.proofs.show.Tie as tie
+
+layout-refusal-requires : tie.Need-layout-refusal-requires
+layout-refusal-requires c κs = search needs
+
+slice-aggregate-word : tie.Need-slice-aggregate-word
+slice-aggregate-word c = search needs
+
+word-requires : tie.Need-word-requires
+word-requires c κs = search needs
+
+cast-number : tie.Need-cast-number
+cast-number c = search needs
+
+number-requires : tie.Need-number-requires
+number-requires c κs = search needs
+
+cast-number-2 : tie.Need-cast-number-2
+cast-number-2 c = search needs
+
+number-requires-2 : tie.Need-number-requires-2
+number-requires-2 c κs = search needs
+
+slice-aggregate-word-2 : tie.Need-slice-aggregate-word-2
+slice-aggregate-word-2 c = search needs
+
+word-requires-2 : tie.Need-word-requires-2
+word-requires-2 c κs = search needs
+
+returns : tie.Need-returns
+returns c = search needs
+
+survey-and-tour-requires : tie.Need-survey-and-tour-requires
+survey-and-tour-requires c κs =
+    let a = c .before .before .before .args in
+    layout-asks (table-of (a .t)) (a .allowance) scratch-size 512 .0 (nothing (table-of (a .t)) (a .allowance) scratch-size 512 (ap (λ (r : Refusal). r .number) (sym (c .before .before .layout-refusal .ensures)) ∙ c .if1 .left)) .table .fit
+
+returns-2 : tie.Need-returns-2
+returns-2 c = search needs
+
+pub show-spec : {M : Type 1} → statement M
+show-spec =
+    tie.close
+    (tie.spec
+    layout-refusal-requires
+    slice-aggregate-word
+    word-requires
+    cast-number
+    number-requires
+    cast-number-2
+    number-requires-2
+    slice-aggregate-word-2
+    word-requires-2
+    returns
+    survey-and-tour-requires
+    returns-2)

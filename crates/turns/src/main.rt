@@ -1,0 +1,139 @@
+// Layout's walk, turn by turn, for the plan file on standard input: before each turn a line with the open cells from the root down and the child
+// that is opened next. The turns are crate walk's own.
+use drawing::layout_refusal;
+use io::print_decimal;
+use io::write_all;
+use libc::STDOUT_FILENO;
+use links::link_all;
+use plan::Columns;
+use plan::limits::SCRATCH_SIZE;
+use plan::tree::survey;
+use walk::Chain;
+use walk::begin;
+use walk::turn;
+ghost use lib.ListN.{replicate};
+ghost use Rattle.plan.specs.Columns.{table-of};
+ghost use Rattle.plan.specs.Fit.{Fit};
+ghost use Rattle.plan.specs.Limits.{scratch-size};
+ghost use Rattle.drawing.specs.LaidLaws.{Placeable};
+ghost use Rattle.walk.specs.Machine.{chart};
+ghost use Rattle.walk.specs.Walked.{Walking};
+
+fn word(text: &[u8]) {
+    write_all(STDOUT_FILENO, text);
+}
+
+fn number(n: usize) {
+    word(b" ");
+    print_decimal(STDOUT_FILENO, n as u64);
+}
+
+// The numbers of the chain up to its count.
+fn print_chain(chain: Chain) {
+    let cells = chain.cells;
+    let mut i: usize = 0;
+    while i < 32 {
+        if i < chain.count {
+            number(cells[i] as usize);
+        }
+        i += 1;
+    }
+}
+
+// The line before a turn.
+fn print_turn(chain: Chain, next: usize) {
+    word(b"open");
+    print_chain(chain);
+    if 0 < next {
+        word(b", next");
+        number(next);
+    }
+    word(b"\n");
+}
+
+// The walk of crate walk, with a line before each turn.
+fn watch<'a>(
+    links: &[u16],
+    widths: &'a [u16],
+    depths: &'a [u8],
+    tops: &[u16],
+    allowance: u32,
+    rows: &mut [u32],
+    marks: &mut [u32],
+)
+    requires { ⌜ Walking (chart (now links) (now widths) (now depths) (now tops) allowance) (now rows) (now marks) ⌝ }
+{
+    let mut at = begin(links);
+    while 0 < at.open_cells.count {
+        let chain = at.open_cells;
+        print_turn(chain, at.next);
+        at = turn(
+            links,
+            widths,
+            depths,
+            tops,
+            allowance,
+            chain,
+            at.next,
+            rows,
+            marks,
+        );
+    }
+    word(b"none open\n");
+}
+
+// The walk over a scratch and marks of zeros.
+fn tour(t: Columns, tops: &[u16; 256], allowance: u32)
+    requires { ⌜ Placeable t (now tops) (replicate scratch-size 0) ⌝ }
+{
+    let mut links = [0u16; 1024];
+    link_all(&t.parent, &t.kind, t.count, &mut links);
+    let mut rows = [0u32; 16384];
+    let mut marks = [0u32; 1024];
+    watch(
+        &links,
+        &t.width,
+        &t.depth,
+        tops,
+        allowance,
+        &mut rows,
+        &mut marks,
+    );
+}
+
+// The row of each cell, as Layout finds it.
+fn survey_and_tour(t: Columns, allowance: u32)
+    requires { ⌜ Fit (table-of t) ⌝ }
+{
+    let mut counts = [0u16; 256];
+    let mut levels = [0u16; 256];
+    let mut tops = [0u16; 256];
+    survey(
+        &t.parent,
+        &t.depth,
+        t.count,
+        &mut counts,
+        &mut levels,
+        &mut tops,
+    );
+    tour(t, &tops, allowance);
+}
+
+fn show(t: Columns, allowance: u32) {
+    let refusal = layout_refusal(t, allowance, SCRATCH_SIZE, 512);
+    if refusal.number != 0 {
+        word(b"refused");
+        number(refusal.number as usize);
+        number(refusal.cell as usize);
+        word(b"\n");
+        return;
+    }
+    survey_and_tour(t, allowance);
+}
+
+fn main() {
+    let mut file = [0u8; 16385];
+    let n = io::read_full(0, &mut file);
+    let plan = planfile::read(&file[..n], 256);
+    show(plan.columns, plan.allowance as u32);
+}

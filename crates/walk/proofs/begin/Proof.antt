@@ -1,0 +1,15 @@
+use borrow.Author.Needs.{needs}
+use mathlib.Core.Path.{refl}
+use native.Mathlib.Omega.{arith}
+use Rattle.walk.specs.Turns.{stack-of}
+use Rattle.walk.proofs.begin.Statement.{statement}
+use Rattle.walk.proofs.begin.Tie as tie
+
+link-of-requires : tie.Need-link-of-requires
+link-of-requires c κs = search needs
+
+returns : tie.Need-returns
+returns c = (unfold stack-of in refl, c .link-of .ensures)
+
+pub begin-spec : {M : Type 1} → statement M
+begin-spec = tie.close (tie.spec link-of-requires returns)
