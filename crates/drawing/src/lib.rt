@@ -60,7 +60,7 @@ fn layout_refusal(t: Columns, allowance: u32, scratch: usize, positions: usize) 
 }
 
 // The x of each cell, from the marks of a walk over the cleared scratch.
-fn place(t: Columns, tops: &[u16; 256], allowance: u32, scratch: &mut [u32]) -> [u32; 256]
+pub fn place(t: Columns, tops: &[u16; 256], allowance: u32, scratch: &mut [u32]) -> [u32; 256]
     requires { ⌜ Placeable t (now tops) (length (now scratch)) ⌝ }
     ensures { λ r. ⌜ Raised r (t .count) (sheet (table-of t) allowance .x) × (now (scratch .exit) ≡ replicate scratch-size 0) ⌝ }
 {

@@ -15,7 +15,7 @@ use Rattle.plan.specs.Limits.{most-allowance}
 use Rattle.plan.specs.Plan.{Table, Sound}
 use Rattle.rules.specs.Placement.{width}
 use Rattle.layout.specs.Sheet.{sheet}
-use Rattle.least.specs.Wider.{wider-allowance}
+use Rattle.least.specs.Theorems.{wider-allowance}
 
 -- ---- the first number that passes a test
 pub data Found : Type 0 where
@@ -136,6 +136,23 @@ module _ (t : Table) (some-cell : 1 ≤ length t) (sound : Sound t) (frame : ℕ
 
       back : pos frame <ℤ width t (sheet t most-allowance) → first-of (fits t frame) 0 (most-allowance + 1) ≡ nowhere
       back w = nowhere-none (fits t frame) 0 (most-allowance + 1) .1 (λ b l h k. let v = fits-read most-allowance (fits-wider b most-allowance (omega arith) k) in omega whole)
+
+  -- an allowance whose sheet fits bounds the answer; so a frame of the width of the sheet at a gives at most a
+  pub record AtMost (a : ℕ) : Type 0 where
+    pub b : ℕ
+    pub is : least-allowance t frame ≡ found b
+    pub bound : b ≤ a
+
+  pub fits-bounds : (a : ℕ) → a ≤ most-allowance → width t (sheet t a) ≤ℤ pos frame → AtMost a
+  fits-bounds a h w = go (least-allowance t frame) refl
+    where
+      go : (r : Found) → least-allowance t frame ≡ r → AtMost a
+      go nowhere e = absurd (let k = nowhere-wide .0 e in let v = fits-read most-allowance (fits-wider a most-allowance h (fits-show a w)) in omega whole)
+      go (found b) e = record { b = b; is = e; bound = not-less (found-narrowest b .0 e) (decLt a b) }
+        where
+          not-less : Narrowest b → Dec (a < b) → b ≤ a
+          not-less n (yes l) = absurd (let k = n .wider-before a l in omega whole)
+          not-less n (no l) = omega arith
 
   -- ---- halving: all below lo are too wide, hi fits
   pub record Halved (lo hi : ℕ) : Type 0 where
