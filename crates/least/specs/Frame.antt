@@ -88,6 +88,12 @@ fits t frame al = leZ (width t (sheet t al)) (pos frame)
 unfoldable pub least-allowance : Table → (frame : ℕ) → Found
 least-allowance t frame = first-of (fits t frame) 0 (most-allowance + 1)
 
+-- a is it: at most 65,535, its sheet no wider than the frame, and that of every smaller one wider
+pub record Least (t : Table) (frame a : ℕ) : Type 0 where
+  pub small : a ≤ most-allowance
+  pub inside : width t (sheet t a) ≤ℤ pos frame
+  pub wider-before : (b : ℕ) → b < a → pos frame <ℤ width t (sheet t b)
+
 module _ (t : Table) (some-cell : 1 ≤ length t) (sound : Sound t) (frame : ℕ) where
   fits-read : (al : ℕ) → T (fits t frame al) → width t (sheet t al) ≤ℤ pos frame
   unfolding fits
@@ -101,24 +107,19 @@ module _ (t : Table) (some-cell : 1 ≤ length t) (sound : Sound t) (frame : ℕ
   pub fits-wider : (al al′ : ℕ) → al ≤ al′ → T (fits t frame al) → T (fits t frame al′)
   fits-wider al al′ h k = fits-show al′ (omega (whole, wider-allowance t some-cell sound al al′ h .wide, fits-read al k))
 
-  -- the allowance found is at most 65,535, its sheet is no wider than the frame, and that of every smaller one is wider
-  pub record Narrowest (a : ℕ) : Type 0 where
-    pub small : a ≤ most-allowance
-    pub inside : width t (sheet t a) ≤ℤ pos frame
-    pub wider-before : (b : ℕ) → b < a → pos frame <ℤ width t (sheet t b)
-
-  pub found-narrowest : (a : ℕ) → (least-allowance t frame ≡ found a) ↔ Narrowest a
+  -- what is found is the least that fits, and it is found
+  pub found-least : (a : ℕ) → (least-allowance t frame ≡ found a) ↔ Least t frame a
   unfolding least-allowance
-  found-narrowest a = (λ e. there (found-first (fits t frame) 0 (most-allowance + 1) a .0 e), λ n. found-first (fits t frame) 0 (most-allowance + 1) a .1 (back n))
+  found-least a = (λ e. there (found-first (fits t frame) 0 (most-allowance + 1) a .0 e), λ n. found-first (fits t frame) 0 (most-allowance + 1) a .1 (back n))
     where
-      there : First (fits t frame) 0 (most-allowance + 1) a → Narrowest a
+      there : First (fits t frame) 0 (most-allowance + 1) a → Least t frame a
       there g = record {
         small = omega (arith, g .high);
         inside = fits-read a (g .passes);
         wider-before = λ b h. not-le (λ k. g .none-before b (omega arith) h (fits-show b k));
       }
 
-      back : Narrowest a → First (fits t frame) 0 (most-allowance + 1) a
+      back : Least t frame a → First (fits t frame) 0 (most-allowance + 1) a
       back n = record {
         low = omega arith;
         high = omega (arith, n .small);
@@ -148,9 +149,9 @@ module _ (t : Table) (some-cell : 1 ≤ length t) (sound : Sound t) (frame : ℕ
     where
       go : (r : Found) → least-allowance t frame ≡ r → AtMost a
       go nowhere e = absurd (let k = nowhere-wide .0 e in let v = fits-read most-allowance (fits-wider a most-allowance h (fits-show a w)) in omega whole)
-      go (found b) e = record { b = b; is = e; bound = not-less (found-narrowest b .0 e) (decLt a b) }
+      go (found b) e = record { b = b; is = e; bound = not-less (found-least b .0 e) (decLt a b) }
         where
-          not-less : Narrowest b → Dec (a < b) → b ≤ a
+          not-less : Least t frame b → Dec (a < b) → b ≤ a
           not-less n (yes l) = absurd (let k = n .wider-before a l in omega whole)
           not-less n (no l) = omega arith
 
