@@ -1,6 +1,7 @@
 // THE CALLS, over lent records: no call asks anything of its caller.
 use connectors::Ended;
 use drawing::Laid;
+use fitting::Fitted;
 use plan::Record;
 use plan::Refusal;
 use planfile::Reading;
@@ -11,6 +12,7 @@ ghost use mathlib.Core.Path.{_≡_};
 ghost use Rattle.plan.specs.Records.{«cells-of»};
 ghost use Rattle.planfile.specs.Reading.{«label-refusal»};
 ghost use Rattle.drawing.specs.Laid.{Lays};
+ghost use Rattle.fitting.specs.Fitted.{Frames};
 ghost use Rattle.verdict.specs.Checked.{«checked-of»};
 ghost use Rattle.connectors.specs.Ended.{«ended-of»};
 ghost use Rattle.engine.specs.Read.{Reads};
@@ -93,4 +95,12 @@ pub fn ends(table: &[Record], positions: &[i32], cell: usize) -> Ended
 {
     let t = columns_of(table);
     connectors::ends(t, positions, cell)
+}
+
+// Frame: the least allowance whose sheet is no wider than a frame of so many squares, or none; or the refusal.
+pub fn frame(table: &[Record], squares: u32, scratch: &mut [u32]) -> Fitted
+    ensures { λ r. ⌜ Frames (cells-of (now (table .entry))) squares (now (scratch .entry)) (now (scratch .exit)) r ⌝ }
+{
+    let t = columns_of(table);
+    fitting::frame(t, squares, scratch)
 }
