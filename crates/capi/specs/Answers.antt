@@ -12,6 +12,9 @@ use Rattle.verdict.specs.declared.Checked.{Checked}
 use Rattle.verdict.specs.declared.Checked.the-variants.{Kept, Broken, Refused as Unchecked}
 use Rattle.connectors.specs.declared.Ended.{Ended}
 use Rattle.connectors.specs.declared.Ended.the-variants.{Joined, Refused as Unended}
+use Rattle.fitting.specs.Fitted.{Frames}
+use Rattle.fitting.specs.declared.Fitted.{Fitted}
+use Rattle.fitting.specs.declared.Fitted.the-variants.{Allowance, None, Refused as Unfitted}
 use Rattle.engine.specs.Read.{Reads}
 use Rattle.engine.specs.declared.ReadAnswer.{ReadAnswer as Read}
 use Rattle.engine.specs.declared.ReadAnswer.the-variants.{Plan, Refused as Unread}
@@ -19,6 +22,7 @@ use Rattle.capi.specs.declared.ReadAnswer.{ReadAnswer}
 use Rattle.capi.specs.declared.LayoutAnswer.{LayoutAnswer}
 use Rattle.capi.specs.declared.CheckAnswer.{CheckAnswer}
 use Rattle.capi.specs.declared.EndsAnswer.{EndsAnswer}
+use Rattle.capi.specs.declared.FrameAnswer.{FrameAnswer}
 
 unfoldable pub read-answer : Read → ReadAnswer
 read-answer (Plan n al) = record { number = 0; cell = 0; allowance = al; count = n }
@@ -48,3 +52,15 @@ pub record Laying (t : Table) (al : ℕ) (s s′ : List ℕ) (ps ps′ : List �
   pub laid : Laid
   pub lays : Lays t al s s′ ps ps′ laid
   pub answers : r ≡ laid-answer laid
+
+-- outcome 1 with the allowance, 2 for "none"
+unfoldable pub frame-answer : Fitted → FrameAnswer
+frame-answer (Allowance a) = record { number = 0; cell = 0; outcome = 1; allowance = a }
+frame-answer None = record { number = 0; cell = 0; outcome = 2; allowance = 0 }
+frame-answer (Unfitted k c) = record { number = k; cell = c; outcome = 0; allowance = 0 }
+
+-- a call of Frame, as `Frames` has it, with the struct for its answer
+pub record Framing (t : Table) (squares : ℕ) (s s′ : List ℕ) (r : FrameAnswer) : Type 0 where
+  pub fitted : Fitted
+  pub frames : Frames t squares s s′ fitted
+  pub answers : r ≡ frame-answer fitted

@@ -1,6 +1,7 @@
 // The calls for programs in C and Rust: include/kuzpalen.h documents each. A lent buffer is a pointer and a length; an answer is a struct of numbers.
 use connectors::Ended;
 use drawing::Laid;
+use fitting::Fitted;
 use plan::Record;
 use verdict::Checked;
 ghost use mathlib.Core.Path.{_≡_};
@@ -8,7 +9,7 @@ ghost use Rattle.plan.specs.Records.{«cells-of»};
 ghost use Rattle.planfile.specs.Reading.{«label-refusal», «label-part»};
 ghost use Rattle.verdict.specs.Checked.{«checked-of»};
 ghost use Rattle.connectors.specs.Ended.{«ended-of»};
-ghost use Rattle.capi.specs.Answers.{«read-answer», «laid-answer», «check-answer», «ends-answer», Filling, Laying};
+ghost use Rattle.capi.specs.Answers.{«read-answer», «laid-answer», «check-answer», «ends-answer», «frame-answer», Filling, Laying, Framing};
 
 // Number and cell of the refusal, or 0 and 0; the number of cells and the allowance.
 #[repr(C)]
@@ -63,6 +64,15 @@ pub struct LabelAnswer {
 pub struct LabelPart {
     pub start: usize,
     pub end: usize,
+}
+
+// Number and cell of the refusal, or 0 and 0; 1 and the least allowance that fits, or 2 for none.
+#[repr(C)]
+pub struct FrameAnswer {
+    pub number: u8,
+    pub cell: u16,
+    pub outcome: u8,
+    pub allowance: u32,
 }
 
 // The answer of Read as a struct.
@@ -164,6 +174,32 @@ fn told_ends(answer: Ended) -> EndsAnswer
     }
 }
 
+// The answer of Frame as a struct.
+fn told_frame(answer: Fitted) -> FrameAnswer
+    ensures { λ r. ⌜ r ≡ frame-answer answer ⌝ }
+{
+    match answer {
+        Fitted::Allowance(allowance) => FrameAnswer {
+            number: 0,
+            cell: 0,
+            outcome: 1,
+            allowance,
+        },
+        Fitted::None => FrameAnswer {
+            number: 0,
+            cell: 0,
+            outcome: 2,
+            allowance: 0,
+        },
+        Fitted::Refused(number, cell) => FrameAnswer {
+            number,
+            cell,
+            outcome: 0,
+            allowance: 0,
+        },
+    }
+}
+
 #[no_mangle]
 pub extern "C" fn kuzpalen_read(file: &[u8], table: &mut [Record]) -> ReadAnswer
     ensures { λ r. ⌜ Filling (now (file .entry)) (now (table .entry)) (now (table .exit)) r ⌝ }
@@ -222,4 +258,12 @@ pub extern "C" fn kuzpalen_ends(table: &[Record], positions: &[i32], cell: usize
 {
     let answer = engine::ends(table, positions, cell);
     told_ends(answer)
+}
+
+#[no_mangle]
+pub extern "C" fn kuzpalen_frame(table: &[Record], squares: u32, scratch: &mut [u32]) -> FrameAnswer
+    ensures { λ r. ⌜ Framing (cells-of (now (table .entry))) squares (now (scratch .entry)) (now (scratch .exit)) r ⌝ }
+{
+    let answer = engine::frame(table, squares, scratch);
+    told_frame(answer)
 }
