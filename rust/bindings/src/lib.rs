@@ -96,6 +96,14 @@ mod raw {
         pub to_y: i32,
     }
 
+    #[repr(C)]
+    pub struct FrameAnswer {
+        pub number: u8,
+        pub cell: u16,
+        pub outcome: u8,
+        pub allowance: u32,
+    }
+
     extern "C" {
         pub fn kuzpalen_read(file: *const u8, file_len: usize, table: *mut Record, table_len: usize) -> ReadAnswer;
         pub fn kuzpalen_label(file: *const u8, file_len: usize, cell: usize) -> LabelPart;
@@ -123,6 +131,13 @@ mod raw {
             positions_len: usize,
             cell: usize,
         ) -> EndsAnswer;
+        pub fn kuzpalen_frame(
+            table: *const Record,
+            table_len: usize,
+            squares: u32,
+            scratch: *mut u32,
+            scratch_len: usize,
+        ) -> FrameAnswer;
     }
 }
 
@@ -191,4 +206,16 @@ pub fn ends(table: &[Record], positions: &[i32], cell: usize) -> Result<Ends, Re
     // SAFETY: the pointers are good for their lengths.
     let r = unsafe { raw::kuzpalen_ends(table.as_ptr(), table.len(), positions.as_ptr(), positions.len(), cell) };
     unless(r.number, r.cell, Ends { from: (r.from_x, r.from_y), to: (r.to_x, r.to_y) })
+}
+
+/// Frame's outcome where an allowance fits (include/kuzpalen.h).
+const FRAME_ALLOWANCE: u8 = 1;
+
+/// Frame: the least allowance whose sheet is no wider than so many squares, or none; scratch as Layout's.
+pub fn frame(table: &[Record], squares: u32, scratch: &mut [u32]) -> Result<Option<u32>, Refusal> {
+    // SAFETY: the pointers are good for their lengths, and the one that is written shares nothing.
+    let r = unsafe {
+        raw::kuzpalen_frame(table.as_ptr(), table.len(), squares, scratch.as_mut_ptr(), scratch.len())
+    };
+    unless(r.number, r.cell, (r.outcome == FRAME_ALLOWANCE).then_some(r.allowance))
 }

@@ -60,6 +60,8 @@ fn main() {
             let last = records.len() - 1;
             assert_eq!(bindings::ends(&records, &positions, last), plain::ends(&records, &positions, last));
 
+            assert_eq!(bindings::frame(&records, sheet.width, &mut scratch), plain::frame(&records, sheet.width, &mut scratch));
+
             let line = |call: &str, (engine, rust): (f64, f64)| {
                 println!("| {call} | {shape:?} | {} | {} | {engine:.0} | {rust:.0} | {:.2} |", records.len(), sheet.rows, engine / rust);
             };
@@ -79,6 +81,10 @@ fn main() {
             line("Ends", race(
                 || { let _ = black_box(bindings::ends(black_box(&records), &positions, last)); },
                 || { let _ = black_box(plain::ends(black_box(&records), &positions, last)); },
+            ));
+            line("Frame", race(
+                || { let _ = black_box(bindings::frame(black_box(&records), sheet.width, &mut scratch)); },
+                || { let _ = black_box(plain::frame(black_box(&records), sheet.width, &mut other)); },
             ));
         }
     }
