@@ -308,7 +308,7 @@ pub fn frame(table: &[Record], squares: u32, scratch: &mut [u32]) -> Result<Opti
     if scratch.len() < SCRATCH {
         return refuse(1, 0);
     }
-    let top = ask_table(table, usize::MAX)?;
+    let top = ask_table(table, 2 * table.len())?;
     if squares == 0 {
         return refuse(19, 0);
     }
