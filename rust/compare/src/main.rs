@@ -352,7 +352,7 @@ fn some_table(rng: &mut Rng) -> Vec<Cell> {
 
 /// The answers that each call can give: all must have been seen in a long run.
 fn unseen(seen: &Seen) -> Vec<String> {
-    let refusals: [(&str, &[u32]); 6] = [
+    let refusals: [(&str, &[u32]); 7] = [
         ("Read", &[1, 2, 3, 4, 5, 6, 7, 8, 9, 10, 11, 12, 13]),
         ("Label", &[2, 3, 4, 5, 6, 7, 8, 9, 10, 11, 12, 13, 16]),
         ("Layout", &[1, 4, 6, 7, 8, 11, 12, 13, 14]),
