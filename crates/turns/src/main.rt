@@ -11,6 +11,7 @@ use plan::tree::survey;
 use walk::Chain;
 use walk::begin;
 use walk::turn;
+ghost use lib.ListN.{replicate};
 ghost use Rattle.plan.specs.Columns.{table-of};
 ghost use Rattle.plan.specs.Fit.{Fit};
 ghost use Rattle.plan.specs.Limits.{scratch-size};
@@ -83,7 +84,7 @@ fn watch<'a>(
 
 // The walk over a scratch and marks of zeros.
 fn tour(t: Columns, tops: &[u16; 256], allowance: u32)
-    requires { ⌜ Placeable t (now tops) scratch-size ⌝ }
+    requires { ⌜ Placeable t (now tops) (replicate scratch-size 0) ⌝ }
 {
     let mut links = [0u16; 1024];
     link_all(&t.parent, &t.kind, t.count, &mut links);
