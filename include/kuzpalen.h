@@ -8,7 +8,7 @@
  * call answers on every input; none keeps a pointer, allocates or fails otherwise.
  *
  * Every answer but a label's part begins with a refusal: `number` is 0, or the number of the first
- * question answered "no" (1 to 16), and `cell` is then the lowest cell at fault, 0 where no cell is
+ * question answered "no" (1 to 16, 19), and `cell` is then the lowest cell at fault, 0 where no cell is
  * concerned. All other fields of a refusal are 0, and every lent buffer is then as it was before the call.
  */
 #ifndef KUZPALEN_H
@@ -22,7 +22,7 @@ extern "C" {
 #endif
 
 #define KUZPALEN_CELLS 256u           /* the most cells of a plan; the records that Read's table needs */
-#define KUZPALEN_SCRATCH 16384u       /* the numbers that Layout's scratch needs */
+#define KUZPALEN_SCRATCH 16384u       /* the numbers that the scratch of Layout and of Frame needs */
 #define KUZPALEN_LISTING_SIZE 17408u  /* the bytes that List's output needs, whatever the file */
 #define KUZPALEN_NO_PARENT 65535u
 
@@ -85,6 +85,16 @@ typedef struct {
     size_t length;         /* of the listing, in bytes */
 } kuzpalen_list_answer;
 
+#define KUZPALEN_FRAME_ALLOWANCE 1u  /* Frame's outcome: the least allowance that fits, */
+#define KUZPALEN_FRAME_NONE 2u       /* or none does. 0 with a refusal */
+
+typedef struct {
+    uint8_t number;
+    uint16_t cell;
+    uint8_t outcome;       /* KUZPALEN_FRAME_ALLOWANCE or KUZPALEN_FRAME_NONE */
+    uint32_t allowance;    /* 0 to 65535 with the first, else 0 */
+} kuzpalen_frame_answer;
+
 /* Read: a plan file into a table. `table_len` is at least KUZPALEN_CELLS, or question 1 refuses. The
  * first `count` records are written, and no other. */
 kuzpalen_read_answer kuzpalen_read(const uint8_t *file, size_t file_len,
@@ -125,6 +135,13 @@ kuzpalen_ends_answer kuzpalen_ends(const kuzpalen_record *table, size_t table_le
  * ones stay as they were. */
 kuzpalen_list_answer kuzpalen_list(const uint8_t *file, size_t file_len,
                                    uint8_t *out, size_t out_len);
+
+/* Frame: the least allowance from 0 to 65535 whose sheet is no wider than a frame of so many squares, or
+ * none, where the sheet at 65535 is wider. Question 19 refuses a frame of 0. `scratch_len` is at least
+ * KUZPALEN_SCRATCH, or question 1 refuses; the scratch is left as Layout leaves it, with none too. It
+ * costs at most 17 Layouts. */
+kuzpalen_frame_answer kuzpalen_frame(const kuzpalen_record *table, size_t table_len, uint32_t squares,
+                                     uint32_t *scratch, size_t scratch_len);
 
 #ifdef __cplusplus
 }

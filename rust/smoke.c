@@ -53,6 +53,10 @@ int main(void) {
         && ends.number == 0 && ends.from_x == 2 && ends.from_y == 1 && ends.to_x == -2 && ends.to_y == 2
         && broken.number == 0 && broken.rule == 3 && broken.a == 1 && broken.b == 2
         && kuzpalen_ends(table, 3, p, 6, 0).number == 16 && kuzpalen_check(table, 3, p, 5, 0).number == 1;
+    kuzpalen_frame_answer fits = kuzpalen_frame(table, 3, 9, scratch, KUZPALEN_SCRATCH);
+    good = good && fits.number == 0 && fits.outcome == KUZPALEN_FRAME_ALLOWANCE && fits.allowance == 0
+        && kuzpalen_frame(table, 3, 8, scratch, KUZPALEN_SCRATCH).outcome == KUZPALEN_FRAME_NONE
+        && kuzpalen_frame(table, 3, 0, scratch, KUZPALEN_SCRATCH).number == 19;
     good = good && file_good() && listing_good();
     puts(good ? "sheet B from C: good" : "sheet B from C: DIFFERENCE");
     return good ? 0 : 1;

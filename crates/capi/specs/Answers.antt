@@ -15,6 +15,9 @@ use Rattle.connectors.specs.declared.Ended.the-variants.{Joined, Refused as Une
 use Rattle.printing.specs.Printing.{Lists}
 use Rattle.printing.specs.declared.Listed.{Listed}
 use Rattle.printing.specs.declared.Listed.the-variants.{Text, Refused as Unlisted}
+use Rattle.fitting.specs.Fitted.{Frames}
+use Rattle.fitting.specs.declared.Fitted.{Fitted}
+use Rattle.fitting.specs.declared.Fitted.the-variants.{Allowance, None, Refused as Unfitted}
 use Rattle.engine.specs.Read.{Reads}
 use Rattle.engine.specs.declared.ReadAnswer.{ReadAnswer as Read}
 use Rattle.engine.specs.declared.ReadAnswer.the-variants.{Plan, Refused as Unread}
@@ -23,6 +26,7 @@ use Rattle.capi.specs.declared.LayoutAnswer.{LayoutAnswer}
 use Rattle.capi.specs.declared.CheckAnswer.{CheckAnswer}
 use Rattle.capi.specs.declared.EndsAnswer.{EndsAnswer}
 use Rattle.capi.specs.declared.ListAnswer.{ListAnswer}
+use Rattle.capi.specs.declared.FrameAnswer.{FrameAnswer}
 
 unfoldable pub read-answer : Read → ReadAnswer
 read-answer (Plan n al) = record { number = 0; cell = 0; allowance = al; count = n }
@@ -45,6 +49,12 @@ unfoldable pub list-answer : Listed → ListAnswer
 list-answer (Text n) = record { number = 0; cell = 0; length = n }
 list-answer (Unlisted k c) = record { number = k; cell = c; length = 0 }
 
+-- outcome 1 with the allowance, 2 for "none"
+unfoldable pub frame-answer : Fitted → FrameAnswer
+frame-answer (Allowance a) = record { number = 0; cell = 0; outcome = 1; allowance = a }
+frame-answer None = record { number = 0; cell = 0; outcome = 2; allowance = 0 }
+frame-answer (Unfitted k c) = record { number = k; cell = c; outcome = 0; allowance = 0 }
+
 -- a call of Read, as `Reads` has it, with the struct for its answer
 pub record Filling (f : List ℕ) (t t′ : List Record) (r : ReadAnswer) : Type 0 where
   pub read : Read
@@ -62,3 +72,9 @@ pub record Listing (f out out′ : List ℕ) (r : ListAnswer) : Type 0 where
   pub listed : Listed
   pub lists : Lists f out out′ listed
   pub answers : r ≡ list-answer listed
+
+-- a call of Frame, as `Frames` has it, with the struct for its answer
+pub record Framing (t : Table) (squares : ℕ) (s s′ : List ℕ) (r : FrameAnswer) : Type 0 where
+  pub fitted : Fitted
+  pub frames : Frames t squares s s′ fitted
+  pub answers : r ≡ frame-answer fitted

@@ -1,6 +1,7 @@
 // The calls for programs in C and Rust: include/kuzpalen.h documents each. A lent buffer is a pointer and a length; an answer is a struct of numbers.
 use connectors::Ended;
 use drawing::Laid;
+use fitting::Fitted;
 use plan::Record;
 use printing::Listed;
 use verdict::Checked;
@@ -9,7 +10,7 @@ ghost use Rattle.plan.specs.Records.{«cells-of»};
 ghost use Rattle.planfile.specs.Reading.{«label-refusal», «label-part»};
 ghost use Rattle.verdict.specs.Checked.{«checked-of»};
 ghost use Rattle.connectors.specs.Ended.{«ended-of»};
-ghost use Rattle.capi.specs.Answers.{«read-answer», «laid-answer», «check-answer», «ends-answer», «list-answer», Filling, Laying, Listing};
+ghost use Rattle.capi.specs.Answers.{«read-answer», «laid-answer», «check-answer», «ends-answer», «list-answer», «frame-answer», Filling, Laying, Listing, Framing};
 
 // Number and cell of the refusal, or 0 and 0; the number of cells and the allowance.
 #[repr(C)]
@@ -72,6 +73,15 @@ pub struct LabelAnswer {
 pub struct LabelPart {
     pub start: usize,
     pub end: usize,
+}
+
+// Number and cell of the refusal, or 0 and 0; 1 and the least allowance that fits, or 2 for none.
+#[repr(C)]
+pub struct FrameAnswer {
+    pub number: u8,
+    pub cell: u16,
+    pub outcome: u8,
+    pub allowance: u32,
 }
 
 // The answer of Read as a struct.
@@ -191,6 +201,32 @@ fn told_list(answer: Listed) -> ListAnswer
     }
 }
 
+// The answer of Frame as a struct.
+fn told_frame(answer: Fitted) -> FrameAnswer
+    ensures { λ r. ⌜ r ≡ frame-answer answer ⌝ }
+{
+    match answer {
+        Fitted::Allowance(allowance) => FrameAnswer {
+            number: 0,
+            cell: 0,
+            outcome: 1,
+            allowance,
+        },
+        Fitted::None => FrameAnswer {
+            number: 0,
+            cell: 0,
+            outcome: 2,
+            allowance: 0,
+        },
+        Fitted::Refused(number, cell) => FrameAnswer {
+            number,
+            cell,
+            outcome: 0,
+            allowance: 0,
+        },
+    }
+}
+
 #[no_mangle]
 pub extern "C" fn kuzpalen_read(file: &[u8], table: &mut [Record]) -> ReadAnswer
     ensures { λ r. ⌜ Filling (now (file .entry)) (now (table .entry)) (now (table .exit)) r ⌝ }
@@ -257,4 +293,12 @@ pub extern "C" fn kuzpalen_list(file: &[u8], out: &mut [u8]) -> ListAnswer
 {
     let answer = engine::list(file, out);
     told_list(answer)
+}
+
+#[no_mangle]
+pub extern "C" fn kuzpalen_frame(table: &[Record], squares: u32, scratch: &mut [u32]) -> FrameAnswer
+    ensures { λ r. ⌜ Framing (cells-of (now (table .entry))) squares (now (scratch .entry)) (now (scratch .exit)) r ⌝ }
+{
+    let answer = engine::frame(table, squares, scratch);
+    told_frame(answer)
 }

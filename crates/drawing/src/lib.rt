@@ -34,7 +34,7 @@ pub struct Measures {
 }
 
 // Every number becomes 0.
-fn clear(scratch: &mut [u32])
+pub fn clear(scratch: &mut [u32])
     ensures { λ _. ⌜ now (scratch .exit) ≡ replicate (length (now (scratch .entry))) 0 ⌝ }
 {
     let mut i: usize = 0;
@@ -60,7 +60,7 @@ pub fn layout_refusal(t: Columns, allowance: u32, scratch: usize, positions: usi
 }
 
 // The x of each cell, from the marks of a walk over a scratch of zeros.
-fn place(t: Columns, tops: &[u16; 256], allowance: u32, scratch: &mut [u32]) -> [u32; 256]
+pub fn place(t: Columns, tops: &[u16; 256], allowance: u32, scratch: &mut [u32]) -> [u32; 256]
     requires { ⌜ Placeable t (now tops) (now scratch) ⌝ }
     ensures { λ r. ⌜ Raised r (t .count) (sheet (table-of t) allowance .x) × (now (scratch .exit) ≡ replicate scratch-size 0) ⌝ }
 {

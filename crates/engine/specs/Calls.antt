@@ -1,25 +1,28 @@
 -- THE THREE DEMANDS AT THE CALLS: statements only; each proof is one name. A reader needs the definitions of crate plan (sequence, puts, holds), of crate
--- rules (placement, S1 to S5, verdict), `sheet`, what each call answers (Reads, Lays, checked-of, ended-of, label-of, Lists) and Outcomes. Every call's
--- contract is one of those six, so what is said of them is said of what the call answers and leaves in the lent buffers. Assumes nothing.
+-- rules (placement, S1 to S5, verdict), `sheet`, what each call answers (Reads, Lays, checked-of, ended-of, label-of, Lists, Frames) and Outcomes. Every call's
+-- contract is one of those seven, so what is said of them is said of what the call answers and leaves in the lent buffers. Assumes nothing.
 use mathlib.Core.Path.{_≡_}
 use mathlib.Core.List.{List, [], _∷_, _++_, map}
 use mathlib.Core.Logic.{_↔_}
 use Prim.Native.Nat.{ℕ, _*_, _≤_, _<_}
-use lib.ListN.{length, getD, take, drop}
-use lib.IntN.{ℤ, _-ℤ_}
-use Rattle.plan.specs.Limits.{scratch-size}
+use lib.ListN.{length, getD, take, drop, replicate}
+use lib.IntN.{ℤ, pos, _-ℤ_}
+use lib.Signed.{_≤ℤ_, _<ℤ_}
+use Rattle.plan.specs.Limits.{scratch-size, most-allowance}
 use Rattle.plan.specs.Plan.{Table, Is}
 use Rattle.plan.specs.Records.{cells-of}
-use Rattle.plan.specs.Questions.{Call, Given, layout, check, ends, list, none, sequence, refusal, layout-given, check-given, ends-given, list-given}
+use Rattle.plan.specs.Questions.{Call, Given, layout, check, ends, list, frame, none, sequence, refusal, layout-given, check-given, ends-given, list-given, frame-given}
 use Rattle.plan.specs.declared.Record.{Record}
-use Rattle.rules.specs.Placement.{Placement, placed}
+use Rattle.rules.specs.Placement.{Placement, placed, width}
 use Rattle.rules.specs.Rules.{Keeps}
 use Rattle.rules.specs.Verdict.{Breaks}
+use Rattle.layout.specs.Sheet.{sheet}
 use Rattle.least.specs.Refusals.{YesSteps}
 use Rattle.least.specs.FirstNo as first
 use Rattle.least.specs.FirstNo.{FirstNo}
 use Rattle.least.specs.Alike.{Alike, Twins}
 use Rattle.least.specs.Theorems.{NoLess}
+use Rattle.least.specs.Frame.{Least}
 use Rattle.least.specs.Worked.{sheets}
 use Rattle.planfile.specs.Format.{trailer-of, records-of}
 use Rattle.planfile.specs.Reading.{label-refusal}
@@ -28,6 +31,12 @@ use Rattle.drawing.specs.Promised as promised
 use Rattle.drawing.specs.declared.Laid.{Laid}
 use Rattle.drawing.specs.declared.Laid.the-variants.{Sheet}
 use Rattle.drawing.specs.declared.Laid.the-variants as laid
+use Rattle.fitting.specs.Fitted.{Frames}
+use Rattle.fitting.specs.Promised as fitting
+use Rattle.fitting.specs.Promised.{AtMost}
+use Rattle.fitting.specs.declared.Fitted.{Fitted}
+use Rattle.fitting.specs.declared.Fitted.the-variants as fitted
+use Rattle.fitting.specs.Worked as frames
 use Rattle.verdict.specs.Checked.{checked-of}
 use Rattle.verdict.specs.declared.Checked.the-variants.{Kept, Broken}
 use Rattle.verdict.specs.declared.Checked.the-variants as checked
@@ -139,3 +148,36 @@ layout-alike = laying.alike-written
 -- ==== THE WORKED SHEETS ◆A to ◆J, five more, and nine with choices, lent to Check with its questions: it answers what documents 01 and 02 have.
 pub worked : map called sheets ≡ map due sheets
 worked = worked-calls.worked-calls
+
+-- ==== THE ALLOWANCE THAT FITS A FRAME of f squares (document 02, E2)
+module _ (t : Table) (f : ℕ) (s s′ : List ℕ) (r : Fitted) (g : Frames t f s s′ r) where
+  -- A refusal is answered by its number and cell, and leaves the scratch as it was.
+  pub frame-refuses : ¬ (refusal frame (frame-given t f (length s)) .number ≡ 0)
+      → (r ≡ fitted.Refused (refusal frame (frame-given t f (length s)) .number) (refusal frame (frame-given t f (length s)) .cell)) × (s′ ≡ s)
+  frame-refuses = fitting.unchanged t f s s′ r g
+
+  -- Where no question refuses:
+  module _ (z : refusal frame (frame-given t f (length s)) ≡ none) where
+    -- a is answered exactly where it is the least allowance from 0 to 65,535 whose sheet is no wider than the frame,
+    pub frame-gives : (a : ℕ) → (r ≡ fitted.Allowance a) ↔ Least t f a
+    frame-gives = fitting.allowance-iff t f s s′ r g z
+
+    -- "none" exactly where the sheet at 65,535 is wider,
+    pub frame-none : (r ≡ fitted.None) ↔ (pos f <ℤ width t (sheet t most-allowance))
+    frame-none = fitting.none-iff t f s s′ r g z
+
+    -- at most a where the sheet at a is no wider than the frame, as where the frame is its width,
+    pub frame-bounds : (a : ℕ) → a ≤ most-allowance → width t (sheet t a) ≤ℤ pos f → AtMost r a
+    frame-bounds = fitting.at-most t f s s′ r g z
+
+    -- and the scratch is left as Layout leaves it.
+    pub frame-clears : s′ ≡ replicate scratch-size 0 ++ drop scratch-size s
+    frame-clears = fitting.clears t f s s′ r g z
+
+-- Of an answer alone: an allowance is the least.
+pub frame-least : (t : Table) (f : ℕ) (s s′ : List ℕ) (a : ℕ) → Frames t f s s′ (fitted.Allowance a) → Least t f a
+frame-least = fitting.allowance-least
+
+-- ◆E and ◆F in frames, the questions included.
+pub frame-worked : frames.Rows
+frame-worked = frames.worked

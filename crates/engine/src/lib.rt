@@ -1,6 +1,7 @@
 // THE CALLS, over lent records: no call asks anything of its caller.
 use connectors::Ended;
 use drawing::Laid;
+use fitting::Fitted;
 use plan::Record;
 use plan::Refusal;
 use planfile::Reading;
@@ -12,6 +13,7 @@ ghost use mathlib.Core.Path.{_≡_};
 ghost use Rattle.plan.specs.Records.{«cells-of»};
 ghost use Rattle.planfile.specs.Reading.{«label-refusal»};
 ghost use Rattle.drawing.specs.Laid.{Lays};
+ghost use Rattle.fitting.specs.Fitted.{Frames};
 ghost use Rattle.verdict.specs.Checked.{«checked-of»};
 ghost use Rattle.connectors.specs.Ended.{«ended-of»};
 ghost use Rattle.printing.specs.Printing.{Lists};
@@ -102,4 +104,12 @@ pub fn list(file: &[u8], out: &mut [u8]) -> Listed
     ensures { λ r. ⌜ Lists (now (file .entry)) (now (out .entry)) (now (out .exit)) r ⌝ }
 {
     printing::list(file, out)
+}
+
+// Frame: the least allowance whose sheet is no wider than a frame of so many squares, or none; or the refusal.
+pub fn frame(table: &[Record], squares: u32, scratch: &mut [u32]) -> Fitted
+    ensures { λ r. ⌜ Frames (cells-of (now (table .entry))) squares (now (scratch .entry)) (now (scratch .exit)) r ⌝ }
+{
+    let t = columns_of(table);
+    fitting::frame(t, squares, scratch)
 }

@@ -78,6 +78,7 @@ module _ (call : Call) (t : Table) (al : ℕ) (bs : List Buffer) (p : Lent) (ps 
     table : Asked t
     buffers : T (all-roomy bs)
     positions : T (enough p (2 * length t))
+    framed : T (mem 19 (puts call)) → T (asked.framed s)
     allowance : T (mem 14 (puts call)) → al ≤ most-allowance
     near-all : T (mem 15 (puts call)) → (c : ℕ) → Is t c → Inside (getD ps (2 * c) (pos 0)) × Inside (getD ps (2 * c + 1) (pos 0))
     named : T (mem 16 (puts call)) → T (asked.holds call given cell-named 0)
@@ -117,9 +118,10 @@ module _ (call : Call) (t : Table) (al : ℕ) (bs : List Buffer) (p : Lent) (ps 
         };
         buffers = y .0 .0 (l .one);
         positions = after .0 .0 (l .one);
-        allowance = λ h. says-le _ _ .read (more .1 .1 .1 .0 .0 h);
-        near-all = λ h c i. says-inside c .read (more .1 .1 .1 .1 .0 c i .0 h);
-        named = λ h. more .1 .1 .1 .1 .1 .0 .0 h;
+        framed = λ h. more .1 .1 .1 .0 .0 h;
+        allowance = λ h. says-le _ _ .read (more .1 .1 .1 .1 .0 .0 h);
+        near-all = λ h c i. says-inside c .read (more .1 .1 .1 .1 .1 .0 c i .0 h);
+        named = λ h. more .1 .1 .1 .1 .1 .1 .0 .0 h;
       }
 
   -- the questions about a file hold of a lent table
@@ -147,6 +149,7 @@ module _ (call : Call) (t : Table) (al : ℕ) (bs : List Buffer) (p : Lent) (ps 
       and (λ c i. answered (f .family c i))
       and (λ c i. answered (says-le _ _ .show (f .not-too-low c i)))
       and (λ c i. answered (says-le _ _ .show (f .rows-few c i)))
+      and (g .framed and tt)
       and ((λ h. says-le _ _ .show (g .allowance h)) and tt)
       and (λ c i. (λ h. says-inside c .show (g .near-all h c i)) and tt)
       and (g .named and tt)
@@ -187,6 +190,7 @@ layout-asks t al s p = (λ e. there (grants layout t al (scratch s ∷ []) (long
           table = a .table;
           buffers = says-roomy s .show (a .scratch);
           positions = says-le _ _ .show (a .positions);
+          framed = λ h. absurd h;
           allowance = λ _. a .allowance;
           near-all = λ h. absurd h;
           named = λ h. absurd h;
@@ -212,6 +216,7 @@ check-asks t al ps = (λ e. there (grants check t al [] (long (length ps)) ps no
           table = a .table;
           buffers = tt;
           positions = says-le _ _ .show (a .positions);
+          framed = λ h. absurd h;
           allowance = λ _. a .allowance;
           near-all = λ _. a .near-all;
           named = λ h. absurd h;

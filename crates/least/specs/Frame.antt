@@ -15,7 +15,7 @@ use Rattle.plan.specs.Limits.{most-allowance}
 use Rattle.plan.specs.Plan.{Table, Sound}
 use Rattle.rules.specs.Placement.{width}
 use Rattle.layout.specs.Sheet.{sheet}
-use Rattle.least.specs.Wider.{wider-allowance}
+use Rattle.least.specs.Theorems.{wider-allowance}
 
 -- ---- the first number that passes a test
 pub data Found : Type 0 where
@@ -88,6 +88,12 @@ fits t frame al = leZ (width t (sheet t al)) (pos frame)
 unfoldable pub least-allowance : Table → (frame : ℕ) → Found
 least-allowance t frame = first-of (fits t frame) 0 (most-allowance + 1)
 
+-- a is it: at most 65,535, its sheet no wider than the frame, and that of every smaller one wider
+pub record Least (t : Table) (frame a : ℕ) : Type 0 where
+  pub small : a ≤ most-allowance
+  pub inside : width t (sheet t a) ≤ℤ pos frame
+  pub wider-before : (b : ℕ) → b < a → pos frame <ℤ width t (sheet t b)
+
 module _ (t : Table) (some-cell : 1 ≤ length t) (sound : Sound t) (frame : ℕ) where
   fits-read : (al : ℕ) → T (fits t frame al) → width t (sheet t al) ≤ℤ pos frame
   unfolding fits
@@ -101,24 +107,19 @@ module _ (t : Table) (some-cell : 1 ≤ length t) (sound : Sound t) (frame : ℕ
   pub fits-wider : (al al′ : ℕ) → al ≤ al′ → T (fits t frame al) → T (fits t frame al′)
   fits-wider al al′ h k = fits-show al′ (omega (whole, wider-allowance t some-cell sound al al′ h .wide, fits-read al k))
 
-  -- the allowance found is at most 65,535, its sheet is no wider than the frame, and that of every smaller one is wider
-  pub record Narrowest (a : ℕ) : Type 0 where
-    pub small : a ≤ most-allowance
-    pub inside : width t (sheet t a) ≤ℤ pos frame
-    pub wider-before : (b : ℕ) → b < a → pos frame <ℤ width t (sheet t b)
-
-  pub found-narrowest : (a : ℕ) → (least-allowance t frame ≡ found a) ↔ Narrowest a
+  -- what is found is the least that fits, and it is found
+  pub found-least : (a : ℕ) → (least-allowance t frame ≡ found a) ↔ Least t frame a
   unfolding least-allowance
-  found-narrowest a = (λ e. there (found-first (fits t frame) 0 (most-allowance + 1) a .0 e), λ n. found-first (fits t frame) 0 (most-allowance + 1) a .1 (back n))
+  found-least a = (λ e. there (found-first (fits t frame) 0 (most-allowance + 1) a .0 e), λ n. found-first (fits t frame) 0 (most-allowance + 1) a .1 (back n))
     where
-      there : First (fits t frame) 0 (most-allowance + 1) a → Narrowest a
+      there : First (fits t frame) 0 (most-allowance + 1) a → Least t frame a
       there g = record {
         small = omega (arith, g .high);
         inside = fits-read a (g .passes);
         wider-before = λ b h. not-le (λ k. g .none-before b (omega arith) h (fits-show b k));
       }
 
-      back : Narrowest a → First (fits t frame) 0 (most-allowance + 1) a
+      back : Least t frame a → First (fits t frame) 0 (most-allowance + 1) a
       back n = record {
         low = omega arith;
         high = omega (arith, n .small);
@@ -136,6 +137,23 @@ module _ (t : Table) (some-cell : 1 ≤ length t) (sound : Sound t) (frame : ℕ
 
       back : pos frame <ℤ width t (sheet t most-allowance) → first-of (fits t frame) 0 (most-allowance + 1) ≡ nowhere
       back w = nowhere-none (fits t frame) 0 (most-allowance + 1) .1 (λ b l h k. let v = fits-read most-allowance (fits-wider b most-allowance (omega arith) k) in omega whole)
+
+  -- an allowance whose sheet fits bounds the answer; so a frame of the width of the sheet at a gives at most a
+  pub record AtMost (a : ℕ) : Type 0 where
+    pub b : ℕ
+    pub is : least-allowance t frame ≡ found b
+    pub bound : b ≤ a
+
+  pub fits-bounds : (a : ℕ) → a ≤ most-allowance → width t (sheet t a) ≤ℤ pos frame → AtMost a
+  fits-bounds a h w = go (least-allowance t frame) refl
+    where
+      go : (r : Found) → least-allowance t frame ≡ r → AtMost a
+      go nowhere e = absurd (let k = nowhere-wide .0 e in let v = fits-read most-allowance (fits-wider a most-allowance h (fits-show a w)) in omega whole)
+      go (found b) e = record { b = b; is = e; bound = not-less (found-least b .0 e) (decLt a b) }
+        where
+          not-less : Least t frame b → Dec (a < b) → b ≤ a
+          not-less n (yes l) = absurd (let k = n .wider-before a l in omega whole)
+          not-less n (no l) = omega arith
 
   -- ---- halving: all below lo are too wide, hi fits
   pub record Halved (lo hi : ℕ) : Type 0 where

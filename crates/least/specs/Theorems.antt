@@ -26,6 +26,7 @@ use Rattle.least.specs.Measures.{sheet-left, sheet-right, sheet-width, a
 use Rattle.least.specs.Columns.{sheet-inside}
 use Rattle.least.specs.Alike.{Alike, Twins, shifted}
 use Rattle.least.specs.Alone.{same-columns}
+use Rattle.least.specs.Wider.{keeps-wider}
 use Rattle.least.specs.Worked.{sheets, computed, computes}
 
 -- q is nowhere less than p: extents of every subtree, distances of neighbouring siblings, width; and the rows are the same
@@ -99,3 +100,9 @@ sheet-accepted t al scratch ps e h =
 -- 8. The worked sheets ◆A to ◆J come out as document 01 has them, and so do five more, which S3 and S5 decide, and nine with choices (E6).
 pub worked : map computed sheets ≡ sheets
 worked = computes
+
+-- 9. A larger allowance never gives a wider sheet, nor a longer extent of any subtree on either side (document 02, E2, "to rest on"):
+-- our sheet for the smaller one is nowhere less than that for the larger.
+pub wider-allowance : (t : Table) → 1 ≤ length t → Sound t → (al al′ : ℕ) → al ≤ al′ → NoLess t (sheet t al′) (sheet t al)
+wider-allowance t some-cell sound al al′ h =
+    sheet-least t some-cell sound al′ (sheet t al) (keeps-wider t (sheet t al) al al′ h (sheet-keeps t some-cell sound al))

@@ -13,10 +13,10 @@ use Rattle.plan.specs.Limits.{between, most-cells, scratch-size, listing
 use Rattle.plan.specs.Lists.{from, some, mem}
 use Rattle.plan.specs.Plan.{Table, parent, kind, W, D}
 use Rattle.plan.specs.Kinds.{known}
-use Rattle.plan.specs.Questions.{Call, Given, Question, parent-lower, kind-known, box-sized, label-inside, label-fits, children-allowed, level-low, rows-few, buffers-long, file-sized, file-marked, cells-counted, positions-long, letters-printable, allowance-small, cell-named, root-too, coordinates-near, roomy, all-roomy, enough, in-table, in-file, once, each, sequence, take-steps, puts, number, holds, lower, ask, ask-all, take-step}
-use Rattle.plan.specs.Questions.{none, asked, or-else, at-each, near, refusal, layout, check, ends, list, layout-given, check-given, ends-given, list-given}
+use Rattle.plan.specs.Questions.{Call, Given, Question, parent-lower, kind-known, box-sized, label-inside, label-fits, children-allowed, level-low, rows-few, frame-wide, buffers-long, file-sized, file-marked, cells-counted, positions-long, letters-printable, allowance-small, cell-named, root-too, coordinates-near, roomy, all-roomy, enough, in-table, in-file, once, each, sequence, take-steps, puts, number, holds, lower, ask, ask-all, take-step}
+use Rattle.plan.specs.Questions.{none, asked, or-else, at-each, near, framed, refusal, layout, check, ends, list, frame, layout-given, check-given, ends-given, list-given, frame-given}
 use Rattle.plan.specs.QuestionLaws.{first-none, first-some, each-same}
-use Rattle.plan.specs.Steps.{cell-refusal, cells-refusal, children-refusal, levels-refusal, rows-refusal, tree-refusal, table-refusal, lent-refusal, near-refusal}
+use Rattle.plan.specs.Steps.{cell-refusal, cells-refusal, children-refusal, levels-refusal, rows-refusal, tree-refusal, table-refusal, counted-refusal, lent-refusal, near-refusal}
 
 -- the last question
 pub asked-last : (n : ℕ) (b : Bool) (c : ℕ) → or-else (asked (suc n) b c) none ≡ asked (suc n) b c
@@ -157,6 +157,7 @@ module _ (t : Table) where
         once-put layout g positions-long 0 (leb (2 * length t) p) refl refl refl,
         once-none layout g letters-printable refl,
         table-steps layout g layout-puts,
+        once-none layout g frame-wide refl,
         once-put layout g allowance-small 13 (leb al most-allowance) refl refl refl,
         step-none layout g coordinates-near refl,
         once-none layout g cell-named refl,
@@ -181,6 +182,7 @@ module _ (t : Table) where
         once-put check g positions-long 0 (leb (2 * length t) (length ps)) refl refl refl,
         once-none check g letters-printable refl,
         table-steps check g check-puts,
+        once-none check g frame-wide refl,
         once-put check g allowance-small 13 (leb al most-allowance) refl refl refl,
         near-put check g refl,
         once-none check g cell-named refl,
@@ -207,6 +209,7 @@ module _ (t : Table) where
         once-put ends g positions-long 0 (leb (2 * length t) (length ps)) refl refl refl,
         once-none ends g letters-printable refl,
         table-steps ends g ends-puts,
+        once-none ends g frame-wide refl,
         once-none ends g allowance-small refl,
         near-put ends g refl,
         once-put ends g cell-named 15 (ltb c (length t) && ltb 0 c) refl refl refl,
@@ -228,9 +231,41 @@ list-refusal room =
       once-none list g cells-counted refl,
       once-put list g positions-long 0 true refl refl refl,
       once-none list g letters-printable refl,
+      once-none list g frame-wide refl,
       once-none list g allowance-small refl,
       once-none list g cell-named refl,
       none-first,
       asked-true 0 0,
       asked-last 0 (leb listing-size room) 0,
+    )
+
+counted-then : (t : Table) (rest : Refusal) → or-else (asked 4 (between 1 most-cells (length t)) 0) (or-else (table-refusal t) rest) ≡ or-else (counted-refusal t) rest
+unfolding counted-refusal
+counted-then t rest = simp or-assoc
+
+frame-puts : Tabled frame
+unfolding puts mem some
+frame-puts = record { p6 = refl; p7 = refl; p8 = refl; p9 = refl; p10 = refl; treed = record { p11 = refl; p12 = refl; p13 = refl } }
+
+-- document 02, E2: 19 right behind 13
+pub frame-refusal : (t : Table) (f s : ℕ) → refusal frame (frame-given t f s) ≡ or-else (asked 1 (leb scratch-size s) 0) (or-else (counted-refusal t) (asked 19 (leb 1 f) 0))
+unfolding refusal sequence take-steps number puts mem some from holds roomy all-roomy enough framed in-file frame-given
+frame-refusal t f s =
+    let g = frame-given t f s in
+    simp (
+      once-put frame g buffers-long 0 (leb scratch-size s) refl (and-true _) refl,
+      once-none frame g file-sized refl,
+      once-none frame g file-marked refl,
+      once-put frame g cells-counted 3 (between 1 most-cells (length t)) refl (and-true _) refl,
+      once-put frame g positions-long 0 true refl refl refl,
+      once-none frame g letters-printable refl,
+      table-steps frame g frame-puts,
+      once-put frame g frame-wide 18 (leb 1 f) refl refl refl,
+      once-none frame g allowance-small refl,
+      step-none frame g coordinates-near refl,
+      once-none frame g cell-named refl,
+      none-first,
+      counted-then,
+      asked-true 0 0,
+      asked-last 18 (leb 1 f) 0,
     )

@@ -1,5 +1,5 @@
 -- A table that is not refused is fit. Assumes nothing.
-use mathlib.Core.Path.{_≡_, refl}
+use mathlib.Core.Path.{_≡_, refl, ap, _∙_}
 use Prim.Native.Nat.{ℕ, _+_, _*_, _≤_}
 use lib.Dec.{T, leb, leb→le}
 use lib.ListN.{length}
@@ -8,8 +8,8 @@ use Rattle.plan.specs.Limits.{between, most-cells, most-level, last-row}
 use Rattle.plan.specs.Plan.{Table, Is, parent, kind, W, D, children, level, row}
 use Rattle.plan.specs.Kinds.{allows}
 use Rattle.plan.specs.Questions.{asked}
-use Rattle.plan.specs.QuestionLaws.{asked-yes, both-none, each-none}
-use Rattle.plan.specs.Steps.{cell-refusal, cells-refusal, children-refusal, levels-refusal, rows-refusal, tree-refusal, table-refusal, lent-refusal}
+use Rattle.plan.specs.QuestionLaws.{asked-yes, both-none, each-none, first-none}
+use Rattle.plan.specs.Steps.{cell-refusal, cells-refusal, children-refusal, levels-refusal, rows-refusal, tree-refusal, table-refusal, counted-refusal, lent-refusal}
 use Rattle.plan.specs.StepLaws.{Passed, cell-passed, lower-read, sized-wide, sized-deep, counted-read}
 use Rattle.plan.specs.Fit.{Fit}
 
@@ -35,25 +35,32 @@ module _ (t : Table) where
   unfolding rows-refusal
   rows-few e c i = leb→le _ _ (asked-yes 12 _ c (each-none (λ c. asked 13 (leb (row t c + D t c) last-row) c) (length t) e c i))
 
-  pub lent-fit : (p : ℕ) → lent-refusal t p .number ≡ 0 → Lent t p
-  unfolding lent-refusal table-refusal tree-refusal
-  lent-fit p e =
-      let (four, r) = both-none (asked 4 (between 1 most-cells (length t)) 0) _ e in
-      let (one, s) = both-none (asked 1 (leb (2 * length t) p) 0) _ r in
+  pub counted-fit : counted-refusal t .number ≡ 0 → Fit t
+  unfolding counted-refusal table-refusal tree-refusal
+  counted-fit e =
+      let (four, s) = both-none (asked 4 (between 1 most-cells (length t)) 0) _ e in
       let (cells, u) = both-none (cells-refusal t) _ s in
       let (sons, v) = both-none (children-refusal t) _ u in
       let (levels, rows) = both-none (levels-refusal t) (rows-refusal t) v in
       let (some, few) = counted-read (length t) _ refl four in
       record {
-        fit = record {
-          some-cell = some;
-          not-too-many = few;
-          sound = λ c l i. lower-read c (parent t c) l (at-cell cells c i .is-lower);
-          wide = λ c i. sized-wide (W t c) (D t c) (at-cell cells c i .is-sized);
-          deep = λ c i. sized-deep (W t c) (D t c) (at-cell cells c i .is-sized);
-          family = family sons;
-          not-too-low = not-too-low levels;
-          rows-few = rows-few rows;
-        };
-        room = leb→le (2 * length t) p (asked-yes 0 _ 0 one);
+        some-cell = some;
+        not-too-many = few;
+        sound = λ c l i. lower-read c (parent t c) l (at-cell cells c i .is-lower);
+        wide = λ c i. sized-wide (W t c) (D t c) (at-cell cells c i .is-sized);
+        deep = λ c i. sized-deep (W t c) (D t c) (at-cell cells c i .is-sized);
+        family = family sons;
+        not-too-low = not-too-low levels;
+        rows-few = rows-few rows;
+      }
+
+  pub lent-fit : (p : ℕ) → lent-refusal t p .number ≡ 0 → Lent t p
+  unfolding lent-refusal counted-refusal
+  lent-fit p e =
+      let four = asked 4 (between 1 most-cells (length t)) 0 in
+      let (a, r) = both-none four _ e in
+      let (b, s) = both-none (asked 1 (leb (2 * length t) p) 0) _ r in
+      record {
+        fit = counted-fit (ap (λ (x : Refusal). x .number) (first-none four (table-refusal t) a) ∙ s);
+        room = leb→le (2 * length t) p (asked-yes 0 _ 0 b);
       }

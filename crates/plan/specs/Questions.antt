@@ -1,4 +1,4 @@
--- Document 01, "Calls and their questions": THE sequence of questions, what each asks, and which of them each call puts.
+-- Document 01, "Calls and their questions", with document 02's questions: THE sequence, what each asks, and which of them each call puts.
 -- A call's refusal is the first "no". Every definition computes. Assumes nothing.
 use mathlib.Core.List.{List, [], _∷_, _++_}
 use mathlib.Core.Bool.{Bool, true, false, _&&_, not, cond}
@@ -23,10 +23,10 @@ pub data Lent : Type 0 where
   absent : Lent
   long : ℕ → Lent
 
--- what a call is asked about besides: a cell that is named
+-- what a call is asked about besides: a cell that is named; a frame of so many squares
 pub data Subject : Type 0 where
   nothing : Subject
-  named : ℕ → Subject
+  named squares : ℕ → Subject
 
 -- the part of the file's label bytes that is a cell's label
 pub record Label : Type 0 where
@@ -62,9 +62,9 @@ pub record Given : Type 0 where
 pub data Question : Type 0 where
   buffers-long file-sized file-marked cells-counted positions-long letters-printable : Question
   parent-lower kind-known box-sized label-inside label-fits : Question
-  children-allowed level-low rows-few allowance-small coordinates-near cell-named : Question
+  children-allowed level-low rows-few frame-wide allowance-small coordinates-near cell-named : Question
 
--- document 01's number, which a refusal returns
+-- the documents' number, which a refusal returns
 unfoldable pub number : Question → ℕ
 number buffers-long = 1
 number file-sized = 2
@@ -80,6 +80,7 @@ number label-fits = 10
 number children-allowed = 11
 number level-low = 12
 number rows-few = 13
+number frame-wide = 19
 number allowance-small = 14
 number coordinates-near = 15
 number cell-named = 16
@@ -101,6 +102,7 @@ sequence =
     ∷ each (children-allowed ∷ [])
     ∷ each (level-low ∷ [])
     ∷ each (rows-few ∷ [])
+    ∷ once frame-wide
     ∷ once allowance-small
     ∷ each (coordinates-near ∷ [])
     ∷ once cell-named
@@ -108,7 +110,7 @@ sequence =
 
 -- ---- the calls
 pub data Call : Type 0 where
-  read label layout check ends list : Call
+  read label layout check ends list frame : Call
 
 -- the numbers of the questions that a call puts
 unfoldable pub puts : Call → List ℕ
@@ -119,6 +121,7 @@ puts check = 1 ∷ 4 ∷ 6 ∷ 7 ∷ 8 ∷ 11 ∷ 12 ∷ 13 ∷ 14 ∷ 15 ∷ []
 puts ends = 1 ∷ 4 ∷ 6 ∷ 7 ∷ 8 ∷ 11 ∷ 12 ∷ 13 ∷ 15 ∷ 16 ∷ []
 -- what is wrong with the file it prints, as document 01 says
 puts list = 1 ∷ []
+puts frame = 1 ∷ 4 ∷ 6 ∷ 7 ∷ 8 ∷ 11 ∷ 12 ∷ 13 ∷ 19 ∷ []
 
 -- whether the root may be named
 unfoldable pub root-too : Call → Bool
@@ -128,6 +131,7 @@ root-too label = true
 root-too layout = true
 root-too check = true
 root-too list = true
+root-too frame = true
 
 -- ---- what each question asks
 unfoldable pub roomy : Buffer → Bool
@@ -174,6 +178,13 @@ near z = within farthest z
 unfoldable pub in-table : (root : Bool) → (n : ℕ) → Subject → Bool
 in-table root n nothing = true
 in-table root n (named c) = ltb c n && cond root true (ltb 0 c)
+in-table root n (squares f) = true
+
+-- question 19 (document 02, E2): is the frame not 0
+unfoldable pub framed : Subject → Bool
+framed nothing = true
+framed (named c) = true
+framed (squares f) = leb 1 f
 
 module _ (call : Call) (g : Given) where
   -- the answer, at cell c where the question is put to each cell
@@ -195,6 +206,7 @@ module _ (call : Call) (g : Given) where
   holds children-allowed c = allows (kind (g .table) c) (length (children (g .table) c))
   holds level-low c = leb (level (g .table) c) most-level
   holds rows-few c = leb (row (g .table) c + D (g .table) c) last-row
+  holds frame-wide c = framed (g .subject)
   holds allowance-small c = leb (g .allowance) most-allowance
   holds coordinates-near c = near (getD (g .coordinates) (2 * c) (pos 0)) && near (getD (g .coordinates) (2 * c + 1) (pos 0))
   holds cell-named c = in-table (root-too call) (length (g .table)) (g .subject)
@@ -254,3 +266,8 @@ ends-given t ps c =
 -- what a listing is given, of which a question asks: an output of so many bytes
 unfoldable pub list-given : (output : ℕ) → Given
 list-given room = record { source = lent; table = []; allowance = 0; buffers = output room ∷ []; positions = absent; coordinates = []; subject = nothing }
+
+-- what the allowance that fits a frame is given: a table, a frame of so many squares and a scratch
+unfoldable pub frame-given : Table → (squares scratch : ℕ) → Given
+frame-given t f s =
+    record { source = lent; table = t; allowance = 0; buffers = scratch s ∷ []; positions = absent; coordinates = []; subject = squares f }

@@ -13,7 +13,7 @@ use Rattle.plan.specs.declared.Refusal.{Refusal}
 use Rattle.plan.specs.QuestionLaws.{each-same, asked-yes, both-none, each-none}
 use Rattle.plan.specs.Columns.{table}
 use Rattle.plan.specs.ColumnLaws.{table-length, parent-at, kind-at, width-at, depth-at}
-use Rattle.plan.specs.Steps.{cell-refusal, cells-refusal, children-refusal, levels-refusal, rows-refusal, table-refusal, lent-refusal, cells-at, children-at, levels-at, rows-at}
+use Rattle.plan.specs.Steps.{cell-refusal, cells-refusal, children-refusal, levels-refusal, rows-refusal, table-refusal, counted-refusal, lent-refusal, cells-at, children-at, levels-at, rows-at}
 use Rattle.plan.specs.Plan.{children, level, row}
 use Rattle.plan.specs.Trees.{Lower, Flat, Short, Column, row-small}
 
@@ -89,6 +89,11 @@ pub lent-columns : (ps ks ws ds : List ℕ) (n p : ℕ)
     → lent-refusal (table ps ks ws ds n) p ≡ or-else (asked 4 (between 1 most-cells n) 0) (or-else (asked 1 (leb (2 * n) p) 0) (table-refusal (table ps ks ws ds n)))
 unfolding lent-refusal
 lent-columns ps ks ws ds n p = rw (table-length ps ks ws ds n)
+
+pub counted-columns : (ps ks ws ds : List ℕ) (n : ℕ)
+    → counted-refusal (table ps ks ws ds n) ≡ or-else (asked 4 (between 1 most-cells n) 0) (table-refusal (table ps ks ws ds n))
+unfolding counted-refusal
+counted-columns ps ks ws ds n = rw (table-length ps ks ws ds n)
 
 -- what question 4 establishes
 pub counted-read : (n : ℕ) (r : Refusal) → r ≡ asked 4 (between 1 most-cells n) 0 → r .number ≡ 0 → (1 ≤ n) × (n ≤ most-cells)

@@ -37,6 +37,10 @@ tree-refusal t = or-else (children-refusal t) (or-else (levels-refusal t) (rows-
 unfoldable pub table-refusal : Table → Refusal
 table-refusal t = or-else (cells-refusal t) (tree-refusal t)
 
+-- question 4, then those of the table: of a call without positions
+unfoldable pub counted-refusal : Table → Refusal
+counted-refusal t = or-else (asked 4 (between 1 most-cells (length t)) 0) (table-refusal t)
+
 -- questions 4 and 1 (positions), then those of the table
 unfoldable pub lent-refusal : Table → (positions : ℕ) → Refusal
 lent-refusal t p = or-else (asked 4 (between 1 most-cells (length t)) 0) (or-else (asked 1 (leb (2 * length t) p) 0) (table-refusal t))

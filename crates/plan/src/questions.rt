@@ -24,7 +24,7 @@ ghost use Rattle.plan.specs.Limits.{between, «most-cells», «most-allo
 ghost use Rattle.plan.specs.Trees.{Short, Lower, Flat};
 ghost use Rattle.plan.specs.Questions.{asked, «or-else», lower, sized, near, «at-each»};
 ghost use Rattle.plan.specs.Columns.{table};
-ghost use Rattle.plan.specs.Steps.{«cell-refusal», «cells-refusal», «tree-refusal», «table-refusal», «lent-refusal», «near-refusal», «children-at», «levels-at», «rows-at»};
+ghost use Rattle.plan.specs.Steps.{«cell-refusal», «cells-refusal», «tree-refusal», «table-refusal», «counted-refusal», «lent-refusal», «near-refusal», «children-at», «levels-at», «rows-at»};
 
 // Question `number` at a cell, answered.
 pub fn asked(number: u8, yes: bool, cell: usize) -> Refusal
@@ -219,6 +219,23 @@ fn counted(n: usize) -> bool
         return false;
     }
     n <= MOST_CELLS
+}
+
+// Questions 4, 6 to 8 and 11 to 13, put to a lent table by a call without positions.
+pub fn counted_refusal<'a>(
+    parents: &'a [u16; 256],
+    kinds: &'a [u8; 256],
+    widths: &'a [u16; 256],
+    depths: &'a [u8; 256],
+    n: usize,
+) -> Refusal
+    ensures { λ r. ⌜ r ≡ counted-refusal (table (now (parents .entry)) (now (kinds .entry)) (now (widths .entry)) (now (depths .entry)) n) ⌝ }
+{
+    let few = asked(4, counted(n), 0);
+    if few.number != 0 {
+        return few;
+    }
+    table_refusal(parents, kinds, widths, depths, n)
 }
 
 // Questions 4, 1 (of so many positions), 6 to 8 and 11 to 13, put to a lent table.

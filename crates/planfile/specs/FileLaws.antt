@@ -11,7 +11,7 @@ use Rattle.plan.specs.Limits.{between, most-cells, most-allowance, least-file, 
 use Rattle.plan.specs.Lists.{from, some, mem}
 use Rattle.plan.specs.Plan.{Cell, Table, blank, parent, kind, W, D}
 use Rattle.plan.specs.Records.{bare, cells-of}
-use Rattle.plan.specs.Questions.{Buffer, to-fill, Subject, nothing, named, Call, read, label, Given, Label, no-label, buffers-long, file-sized, file-marked, cells-counted, positions-long, letters-printable, parent-lower, kind-known, box-sized, label-inside, label-fits, children-allowed, level-low, rows-few, allowance-small, coordinates-near, cell-named, once, each, sequence, puts, root-too, number, enough, roomy, all-roomy, in-table, in-file, holds, none, asked, or-else, at-each, every, ask, ask-all, take-step, take-steps, refusal}
+use Rattle.plan.specs.Questions.{Buffer, to-fill, Subject, nothing, named, Call, read, label, Given, Label, no-label, buffers-long, file-sized, file-marked, cells-counted, positions-long, letters-printable, parent-lower, kind-known, box-sized, label-inside, label-fits, children-allowed, level-low, rows-few, frame-wide, allowance-small, coordinates-near, cell-named, once, each, sequence, puts, root-too, number, enough, roomy, all-roomy, in-table, in-file, holds, none, asked, or-else, at-each, every, ask, ask-all, take-step, take-steps, refusal}
 use Rattle.plan.specs.ColumnLaws.{length-from, getD-from}
 use Rattle.plan.specs.QuestionLaws.{each-same}
 use Rattle.plan.specs.CallLaws.{Treed, asked-last, asked-true, none-first, and-true, or-assoc, once-put, once-none, step-none, tree-steps}
@@ -110,6 +110,7 @@ module _ (f : List ℕ) where
         once-put read g positions-long 0 true refl refl refl,
         once-put read g letters-printable 4 (every (between first-letter last-letter) (take (trailer-of f .begin) f)) refl refl refl,
         body-steps read (to-fill room ∷ []) nothing refl refl refl refl refl read-treed,
+        once-none read g frame-wide refl,
         once-put read g allowance-small 13 (leb (trailer-of f .allowance) most-allowance) refl refl refl,
         step-none read g coordinates-near refl,
         once-none read g cell-named refl,
@@ -136,6 +137,7 @@ module _ (f : List ℕ) where
         once-none label g positions-long refl,
         once-put label g letters-printable 4 (every (between first-letter last-letter) (take (trailer-of f .begin) f)) refl refl refl,
         body-steps label [] (named c) refl refl refl refl refl label-treed,
+        once-none label g frame-wide refl,
         once-put label g allowance-small 13 (leb (trailer-of f .allowance) most-allowance) refl refl refl,
         step-none label g coordinates-near refl,
         once-put label g cell-named 15 (ltb c n) refl (rw cells-length (and-true _)) refl,

@@ -9,10 +9,10 @@ use lib.ListN.{length}
 use lib.IntN.{ℤ}
 use Rattle.plan.specs.Limits.{most-cells, scratch-size}
 use Rattle.plan.specs.Plan.{Table}
-use Rattle.plan.specs.Questions.{asked, or-else, refusal, layout, check, ends, layout-given, check-given, ends-given}
+use Rattle.plan.specs.Questions.{asked, or-else, refusal, layout, check, ends, frame, layout-given, check-given, ends-given, frame-given}
 use Rattle.plan.specs.QuestionLaws.{first-some}
-use Rattle.plan.specs.Steps.{lent-refusal}
-use Rattle.plan.specs.CallLaws.{layout-refusal, check-refusal, ends-refusal}
+use Rattle.plan.specs.Steps.{counted-refusal, lent-refusal}
+use Rattle.plan.specs.CallLaws.{layout-refusal, check-refusal, ends-refusal, frame-refusal}
 use Rattle.plan.specs.declared.Refusal.{Refusal}
 
 -- question 4
@@ -32,3 +32,10 @@ module _ (t : Table) (h : most-cells < length t) where
 
   pub ends-crowded : (ps : List ℤ) (c : ℕ) → refusal ends (ends-given t ps c) ≡ crowded
   ends-crowded ps c = ends-refusal t ps c ∙ rw (lent-crowded (length ps)) (first-some crowded _ (omega arith))
+
+  counted-crowded : counted-refusal t ≡ crowded
+  unfolding counted-refusal asked
+  counted-crowded = rw (le-leb 1 (length t) (omega arith), lt-leb (length t) most-cells h) (first-some crowded _ (omega arith))
+
+  pub frame-crowded : (f s : ℕ) → refusal frame (frame-given t f s) ≡ or-else (asked 1 (leb scratch-size s) 0) crowded
+  frame-crowded f s = frame-refusal t f s ∙ rw (counted-crowded, first-some crowded _ (omega arith))

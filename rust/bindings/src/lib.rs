@@ -103,6 +103,14 @@ mod raw {
         pub length: usize,
     }
 
+    #[repr(C)]
+    pub struct FrameAnswer {
+        pub number: u8,
+        pub cell: u16,
+        pub outcome: u8,
+        pub allowance: u32,
+    }
+
     extern "C" {
         pub fn kuzpalen_read(file: *const u8, file_len: usize, table: *mut Record, table_len: usize) -> ReadAnswer;
         pub fn kuzpalen_label(file: *const u8, file_len: usize, cell: usize) -> LabelPart;
@@ -131,6 +139,13 @@ mod raw {
             cell: usize,
         ) -> EndsAnswer;
         pub fn kuzpalen_list(file: *const u8, file_len: usize, out: *mut u8, out_len: usize) -> ListAnswer;
+        pub fn kuzpalen_frame(
+            table: *const Record,
+            table_len: usize,
+            squares: u32,
+            scratch: *mut u32,
+            scratch_len: usize,
+        ) -> FrameAnswer;
     }
 }
 
@@ -206,4 +221,16 @@ pub fn list(file: &[u8], out: &mut [u8]) -> Result<usize, Refusal> {
     // SAFETY: both pointers are good for their lengths, and no byte of the file is in the output.
     let r = unsafe { raw::kuzpalen_list(file.as_ptr(), file.len(), out.as_mut_ptr(), out.len()) };
     unless(r.number, r.cell, r.length)
+}
+
+/// Frame's outcome where an allowance fits (include/kuzpalen.h).
+const FRAME_ALLOWANCE: u8 = 1;
+
+/// Frame: the least allowance whose sheet is no wider than so many squares, or none; scratch as Layout's.
+pub fn frame(table: &[Record], squares: u32, scratch: &mut [u32]) -> Result<Option<u32>, Refusal> {
+    // SAFETY: the pointers are good for their lengths, and the one that is written shares nothing.
+    let r = unsafe {
+        raw::kuzpalen_frame(table.as_ptr(), table.len(), squares, scratch.as_mut_ptr(), scratch.len())
+    };
+    unless(r.number, r.cell, (r.outcome == FRAME_ALLOWANCE).then_some(r.allowance))
 }

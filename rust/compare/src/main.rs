@@ -200,6 +200,29 @@ impl Run {
         self.count("Ends", named(&expected.map(|_| ())));
     }
 
+    fn frame(&mut self, rng: &mut Rng, cells: &[Cell]) {
+        let squares = some_frame(rng, cells);
+        let scratch = if rng.once_in(60) { SCRATCH - 1 - rng.index(2) } else { SCRATCH + rng.index(3) * rng.index(40) };
+        let mut theirs = vec![rng.next() as u32; scratch];
+        let at_end = rng.once_in(2);
+        let ours = self.rooms.scratch.lend(&theirs, at_end);
+        let table = self.rooms.table.lend(&records(cells), at_end);
+        let got = bindings::frame(table, squares, ours).map_err(|r| Refusal { number: r.number as u32, cell: r.cell as u32 });
+        let (ours, table) = (ours.to_vec(), table.to_vec());
+        let expected = reference::frame(cells, squares, &mut theirs);
+        let input = (squares, scratch, cells);
+        self.same("Frame's answer", &got, &expected, &input);
+        self.same("the scratch after Frame", &ours, &theirs, &input);
+        self.same("the table after Frame", &table, &records(cells), &input);
+        let answer = match expected {
+            Ok(Some(0)) => "0".into(),
+            Ok(Some(_)) => "more than 0".into(),
+            Ok(None) => "none".into(),
+            Err(r) => format!("refused {:2}", r.number),
+        };
+        self.count("Frame", answer);
+    }
+
     /// A file, valid or damaged, through Read, Label and List.
     fn a_file(&mut self, rng: &mut Rng) {
         let mut cells = if rng.once_in(10) { make::too_tall(rng) } else { some_table(rng) };
@@ -238,7 +261,7 @@ impl Run {
         self.list(rng, &file);
     }
 
-    /// A table, valid or damaged, through Layout, Check and Ends.
+    /// A table, valid or damaged, through Layout, Check, Ends and Frame.
     fn a_table(&mut self, rng: &mut Rng) {
         let mut cells = if rng.once_in(30) { make::too_tall(rng) } else { some_table(rng) };
         let mut allowance = make::allowance(rng);
@@ -272,6 +295,23 @@ impl Run {
         for cell in [rng.index(cells.len() + 2), rng.index(cells.len() + 1), rng.next() as usize] {
             let positions = if rng.once_in(2) { &ours } else { &foreign };
             self.ends(rng, &cells, positions, cell);
+        }
+        // A large plan's seventeen sheets take the reference long.
+        if cells.len() <= 60 || rng.once_in(4) {
+            self.frame(rng, &cells);
+        }
+    }
+}
+
+/// A frame about as wide as the plan's sheet for some allowance, or any, or none at all.
+fn some_frame(rng: &mut Rng, cells: &[Cell]) -> u32 {
+    match rng.index(12) {
+        0 => 0,
+        1 => u32::MAX,
+        2 => rng.between(1, 400) as u32,
+        _ => {
+            let laid = reference::layout(cells, make::allowance(rng), &mut vec![0; 512], &mut vec![0; SCRATCH]);
+            laid.map_or(1, |m| m.width) - rng.pick(&[0, 0, 1]) + rng.pick(&[0, 0, 1])
         }
     }
 }
@@ -312,22 +352,24 @@ fn some_table(rng: &mut Rng) -> Vec<Cell> {
 
 /// The answers that each call can give: all must have been seen in a long run.
 fn unseen(seen: &Seen) -> Vec<String> {
-    let refusals: [(&str, &[u32]); 6] = [
+    let refusals: [(&str, &[u32]); 7] = [
         ("Read", &[1, 2, 3, 4, 5, 6, 7, 8, 9, 10, 11, 12, 13]),
         ("Label", &[2, 3, 4, 5, 6, 7, 8, 9, 10, 11, 12, 13, 16]),
         ("Layout", &[1, 4, 6, 7, 8, 11, 12, 13, 14]),
         ("Check", &[1, 4, 6, 7, 8, 11, 12, 13, 14, 15]),
         ("Ends", &[1, 4, 6, 7, 8, 11, 12, 13, 15, 16]),
         ("List", &[1]),
+        ("Frame", &[1, 4, 6, 7, 8, 11, 12, 13, 19]),
     ];
     let mut all: Vec<(&str, String)> = Vec::new();
     for (call, numbers) in refusals {
         all.extend(numbers.iter().map(|n| (call, format!("refused {n:2}"))));
-        if call != "Check" && call != "List" {
+        if !["Check", "List", "Frame"].contains(&call) {
             all.push((call, "accepted".into()));
         }
     }
     all.push(("Check", "kept".into()));
+    all.extend(["0", "more than 0", "none"].map(|a| ("Frame", a.into())));
     all.extend((1..=5).map(|s| ("Check", format!("broken S{s}"))));
     all.push(("List", "prints sheet".into()));
     all.extend((2..=13).map(|n| ("List", format!("prints {n:>4}"))));

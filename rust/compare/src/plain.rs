@@ -300,6 +300,45 @@ fn draw(table: &[Record], top: &[u16; CELLS], allowance: u32, rows: &mut [u32], 
     Sheet { width: (most - least) as u32, rows: last as u32 + 1 }
 }
 
+/// The width of the sheet for an allowance, in rows that are zero, with no position written.
+fn width_at(table: &[Record], top: &[u16; CELLS], allowance: u32, rows: &mut [u32]) -> u32 {
+    let marks = walk(table, top, allowance, rows);
+    let mut xs = [0i32; CELLS];
+    let (mut least, mut most) = (0, 0);
+    for (c, cell) in table.iter().enumerate() {
+        if c > 0 {
+            let f = cell.parent as usize;
+            xs[c] = xs[f] + marks[c][3] as i32 - marks[f][0] as i32;
+        }
+        least = least.min(xs[c]);
+        most = most.max(xs[c] + cell.width as i32);
+    }
+    (most - least) as u32
+}
+
+pub fn frame(table: &[Record], squares: u32, scratch: &mut [u32]) -> Result<Option<u32>, Refusal> {
+    if scratch.len() < SCRATCH {
+        return refuse(1, 0);
+    }
+    let top = ask_table(table, 2 * table.len())?;
+    if squares == 0 {
+        return refuse(19, 0);
+    }
+    let rows = &mut scratch[..SCRATCH];
+    rows.fill(0);
+    if width_at(table, &top, 65_535, rows) > squares {
+        return Ok(None);
+    }
+    let (mut low, mut size) = (0, 65_536);
+    while size > 1 {
+        size /= 2;
+        if width_at(table, &top, low + size - 1, rows) > squares {
+            low += size;
+        }
+    }
+    Ok(Some(low))
+}
+
 /// A cell as Check sees it.
 #[derive(Clone, Copy, Default)]
 struct View {

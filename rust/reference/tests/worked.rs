@@ -61,6 +61,15 @@ fn e_under_four_allowances() {
 }
 
 #[test]
+fn e_in_frames() {
+    let e = table(&[0, 0, 2, 2], &[2, 6, 2, 3, 2]);
+    let answer = |squares| frame(&e, squares, &mut vec![9; SCRATCH]);
+    let found: Vec<_> = [8, 9, 10, 12, 13, u32::MAX].iter().map(|&s| answer(s).unwrap()).collect();
+    assert_eq!(found, [None, Some(4), Some(3), Some(1), Some(0), Some(0)]);
+    assert_eq!(answer(0), Err(Refusal { number: 19, cell: 0 }));
+}
+
+#[test]
 fn f_under_two_allowances() {
     let (p, m) = laid(&f(), 3);
     assert_eq!(xs(&p), [0, -20, -23, -20, -10, -13, -10, -13, 0, 0, 0, -9, 0]);

@@ -104,6 +104,8 @@ fn calls() {
             let last = records.len() - 1;
             assert_eq!(bindings::ends(&records, &positions, last), plain::ends(&records, &positions, last));
 
+            assert_eq!(bindings::frame(&records, sheet.width, &mut scratch), plain::frame(&records, sheet.width, &mut scratch));
+
             let line = |call: &str, (engine, rust): (f64, f64)| {
                 println!("| {call} | {shape:?} | {} | {} | {engine:.0} | {rust:.0} | {:.2} |", records.len(), sheet.rows, engine / rust);
             };
@@ -127,6 +129,10 @@ fn calls() {
             line("List", race(
                 || { let _ = black_box(bindings::list(black_box(&bytes), &mut out)); },
                 || { let _ = black_box(plain::list(black_box(&bytes), &mut text)); },
+            ));
+            line("Frame", race(
+                || { let _ = black_box(bindings::frame(black_box(&records), sheet.width, &mut scratch)); },
+                || { let _ = black_box(plain::frame(black_box(&records), sheet.width, &mut other)); },
             ));
         }
     }

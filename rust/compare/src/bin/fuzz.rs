@@ -150,14 +150,38 @@ fn table_calls(rng: &mut Rng) -> Result<(), &'static str> {
     Ok(())
 }
 
+/// Frame, and what it says against Layout.
+fn frame_calls(rng: &mut Rng) -> Result<(), &'static str> {
+    let table = lent(&some_table(rng));
+    let length = if rng.once_in(10) { rng.index(SCRATCH) } else { SCRATCH + rng.index(3) };
+    let fill = rng.next() as u32 | 1;
+    let mut scratch = lent(&vec![fill; length]);
+    let squares = if rng.once_in(10) { rng.next() as u32 } else { rng.index(600) as u32 };
+    let framed = bindings::frame(&table, squares, &mut scratch);
+    let zeros = if framed.is_ok() { SCRATCH } else { 0 };
+    if scratch[..zeros].iter().any(|n| *n != 0) || scratch[zeros..].iter().any(|n| *n != fill) {
+        return Err("Frame left the scratch otherwise than it should");
+    }
+    let mut positions = lent(&vec![0; 2 * table.len()]);
+    let mut fits = |allowance| bindings::layout(&table, allowance, &mut scratch, &mut positions).map(|s| s.width <= squares);
+    match framed {
+        Ok(None) if fits(65_535) != Ok(false) => Err("Frame says none, and 65,535 fits"),
+        Ok(Some(a)) if fits(a) != Ok(true) => Err("Frame's allowance does not fit"),
+        Ok(Some(a)) if a > 0 && fits(a - 1) != Ok(false) => Err("Frame's allowance is not the least"),
+        Err(refusal) if refusal.number != 19 && fits(0) != Err(refusal) => Err("Frame refuses otherwise than Layout"),
+        _ => Ok(()),
+    }
+}
+
 fn library(end: Instant, seed: u64) -> u64 {
     let mut number = 0;
     while Instant::now() < end {
         let mut rng = Rng::new(seed, number);
-        let done = match number % 4 {
+        let done = match number % 5 {
             0 | 2 => table_calls(&mut rng),
             1 => file_calls(&mut rng),
-            _ => list_call(&mut rng),
+            3 => list_call(&mut rng),
+            _ => frame_calls(&mut rng),
         };
         done.unwrap_or_else(|what| fault(what, seed, number));
         number += 1;

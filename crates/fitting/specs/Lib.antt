@@ -1,0 +1,4 @@
+pub mod Fitted
+pub mod FittedLaws
+pub mod Promised
+pub mod Worked
