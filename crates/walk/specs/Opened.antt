@@ -13,22 +13,23 @@ use Rattle.walk.specs.Turns.{stack-of, state-of}
 use Rattle.walk.specs.Claim.{Suits}
 use Rattle.walk.specs.Preorder.{preorder}
 
--- ---- the machine, turn by turn: the one that the code is proved to run
+-- ---- the machine that the code is proved to run. A step of it opens one cell or closes one; a turn of the code is some openings, then one closing, so
+-- what is said of every number of steps is said of every turn
 -- the walk begins with the root open, and its first child next
 abbrev pub begin : Chart → Memory → State
 begin b m = record { stack = 0 ∷ []; next = link (b .links) 0 0; memory = m }
 
--- the state after n turns
+-- the state after n steps
 unfoldable pub run : Chart → ℕ → State → State
 run b zero st = st
 run b (suc n) st = step b (run b n st)
 
--- the cell that a turn opens, where it opens one
+-- the cell that a step opens, where it opens one
 abbrev pub opening : ℕ → List ℕ
 opening zero = []
 opening (suc s) = suc s ∷ []
 
--- the cells opened in the first n turns, in order
+-- the cells opened in the first n steps, in order
 unfoldable pub visits : Chart → ℕ → State → List ℕ
 visits b zero st = []
 visits b (suc n) st = visits b n st ++ opening (run b n st .next)
@@ -58,20 +59,20 @@ pub record EachOnce (t : Table) (l : List ℕ) : Type 0 where
 abbrev pub InOrder : Table → List ℕ → Type 0
 InOrder t l = (f i j p q a b : ℕ) → Is t f → At (children t f) i p → At (children t f) j q → i < j → At l a p → At l b q → a < b
 
--- ---- what the loop of `walk` keeps (the invariant in proofs/walk): the chain and the child to open next are the machine's after some turns, and the
+-- ---- what the loop of `walk` keeps (the invariant in proofs/walk): the chain and the child to open next are the machine's after some steps, and the
 -- numbers up to the count are the open cells
 pub record Visiting (b : Chart) (m : Memory) (cells : List ℕ) (count next : ℕ) (xs ms : List ℕ) : Type 0 where
   pub turns : ℕ
   pub there : state-of cells count next xs ms ≡ run b turns (begin b m)
   pub open-now : (t : Table) → Suits t b → OpenCells t cells count
 
--- ---- what the contract of `walk` says of its turns, from the memory m to m′, for every table that the chart suits
+-- ---- what the contract of `walk` says of its steps, from the memory m to m′, for every table that the chart suits
 pub record Visited (b : Chart) (m m′ : Memory) : Type 0 where
   -- it is a run of the machine to where no cell is open
   pub turns : ℕ
   pub closed : run b turns (begin b m) .stack ≡ []
   pub leaves : run b turns (begin b m) .memory ≡ m′
-  -- after every number of turns the numbers that show the stack are the open cells
+  -- after every number of steps the numbers that show the stack are the open cells
   pub open-cells : (t : Table) → Suits t b → (n : ℕ) (cells : List ℕ) (count : ℕ) → stack-of cells count ≡ run b n (begin b m) .stack → OpenCells t cells count
   -- the cells in the order in which they are opened are the tree's preorder, each cell of the table exactly once, siblings in order
   pub in-order : (t : Table) → Suits t b → opened b m turns ≡ preorder t 0

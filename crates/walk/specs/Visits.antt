@@ -18,12 +18,12 @@ pub preorder-is : (t : Table) (fit : Fit t) (c : ℕ) → preorder t c ≡ c ∷
 preorder-is = laws.preorder-is
 
 module _ (t : Table) (fit : Fit t) (b : Chart) (links : Links t (b .links)) (m : Memory) where
-  -- after any number of turns, the numbers of an array up to a count that show the stack are the open cells from the root down, each the parent of the
+  -- after any number of steps, the numbers of an array up to a count that show the stack are the open cells from the root down, each the parent of the
   -- next, 32 at most
   pub open-cells : (n : ℕ) (cells : List ℕ) (count : ℕ) → stack-of cells count ≡ run b n (begin b m) .stack → OpenCells t cells count
   open-cells = laws.open-cells t fit b links m
 
-  -- the walk ends: after some number of turns no cell is open
+  -- the walk ends: after some number of steps no cell is open
   pub ends : (n : ℕ) × (run b n (begin b m) .stack ≡ [])
   ends = (laws.all-turns t fit b links m, laws.ends-closed t fit b links m)
 
