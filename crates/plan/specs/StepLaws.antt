@@ -76,7 +76,7 @@ module _ (ps ks ws ds : List ℕ) (n : ℕ) (e : cells-refusal (table ps ks ws d
   at-cell : (c : ℕ) → c < n → Passed c (getD ps c 0) (getD ks c 0) (getD ws c 0) (getD ds c 0)
   at-cell c h = cell-passed c _ _ _ _ (each-none (cells-at ps ks ws ds) n (ap (λ (r : Refusal). r .number) (sym (cells-columns ps ks ws ds n)) ∙ e) c h)
 
-  pub cells-lower : 1 ≤ n → n ≤ 256 → Lower ps n
+  pub cells-lower : 1 ≤ n → n ≤ most-cells → Lower ps n
   cells-lower a b = record { some = a; few = b; lower = λ c p h. lower-read c (getD ps c 0) p (at-cell c h .is-lower) }
 
   pub cells-flat : Flat ds n

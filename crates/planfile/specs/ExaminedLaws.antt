@@ -72,19 +72,19 @@ module _ (begin n : ℕ) (ps ks ws ds ls ss : List ℕ) (r : Refusal) (e : r ≡
   passed : (c : ℕ) → c < n → Passed c (getD ps c 0) (getD ks c 0) (getD ws c 0) (getD ds c 0)
   passed c h = record-passed begin c _ _ _ _ (getD ls c 0) (getD ss c 0) (each-none (records-at begin ps ks ws ds ls ss) n (zero-of r _ e z) c h)
 
-  pub records-lower : 1 ≤ n → n ≤ 256 → Lower ps n
+  pub records-lower : 1 ≤ n → n ≤ most-cells → Lower ps n
   records-lower a b = record { some = a; few = b; lower = λ c p h. lower-read c (getD ps c 0) p (passed c h .is-lower) }
 
   pub records-flat : Flat ds n
   records-flat = record { flat = λ c h. sized-deep (getD ws c 0) (getD ds c 0) (passed c h .is-sized) .1 }
 
 -- ---- the columns of a file
-column-length : (g : ℕ → ℕ) (n : ℕ) → length (column g n) ≡ 256
+column-length : (g : ℕ → ℕ) (n : ℕ) → length (column g n) ≡ most-cells
 unfolding column
-column-length g zero = length-replicate {A = ℕ} 256 0
+column-length g zero = length-replicate {A = ℕ} most-cells 0
 column-length g (suc n) = length-set (column g n) n (g n) ∙ column-length g n
 
-pub column-at : (g : ℕ → ℕ) (n c : ℕ) → n ≤ 256 → c < n → getD (column g n) c 0 ≡ g c
+pub column-at : (g : ℕ → ℕ) (n c : ℕ) → n ≤ most-cells → c < n → getD (column g n) c 0 ≡ g c
 unfolding column
 column-at g zero c h l = absurd (omega arith)
 column-at g (suc n) c h l = go (ℕ-discrete c n) (column-at g n c (omega arith))
@@ -105,7 +105,7 @@ module _ (f : List ℕ) (h : Headed f) where
   abbrev plan : Reading
   plan = columns-of none (trailer-of f .allowance) n (entry f)
 
-  few : n ≤ 256
+  few : n ≤ most-cells
   few = h .full .few
 
   pub same-table : table-of (plan .columns) ≡ cells-of (records-of f)
@@ -133,7 +133,7 @@ module _ (f : List ℕ) (r : Refusal) (e : r ≡ file-refusal f) where
 
 -- ---- the same, as the code has it: the trailer and the plan in locals
 module _ (f : List ℕ) (h : header-refusal f .number ≡ 0) (t : Trailer) (e : t ≡ trailer-of f) where
-  pub room-read : (t .count ≤ 256) × (t .begin + 8 * t .count ≤ length f)
+  pub room-read : (t .count ≤ most-cells) × (t .begin + 8 * t .count ≤ length f)
   room-read = let k = header-read f h .full in rw e (k .few, omega (arith, k .exact))
 
   module _ (p : Reading) (q : p ≡ columns-of none (t .allowance) (t .count) (λ c. record-at f (t .begin + 8 * c))) where
@@ -141,7 +141,7 @@ module _ (f : List ℕ) (h : header-refusal f .number ≡ 0) (t : Trailer) (e : 
     unfolding entry
     plan-is = rw e at q
 
-    pub count-read : (1 ≤ p .columns .count) × (p .columns .count ≤ 256)
+    pub count-read : (1 ≤ p .columns .count) × (p .columns .count ≤ most-cells)
     unfolding columns-of
     count-read = let k = header-read f h .full in rw plan-is (k .some, k .few)
 

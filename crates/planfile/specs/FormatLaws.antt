@@ -5,7 +5,7 @@ use Prim.Native.Nat.{ℕ, _+_, _-_, _*_}
 use native.Mathlib.Omega.{arith}
 use native.Mathlib.Numerals.{add-one}
 use lib.ListN.{length, getD, set, replicate}
-use Rattle.plan.specs.Limits.{trailer-size}
+use Rattle.plan.specs.Limits.{trailer-size, most-cells}
 use Rattle.plan.specs.declared.Record.{Record}
 use Rattle.planfile.specs.Format.{pair, record-at, trailer-of}
 use Rattle.planfile.specs.Reading.{column, columns-of}
@@ -47,7 +47,7 @@ pub record Filled (f : List ℕ) (begin c at : ℕ) (ps ks ws ds ls ss : List �
   pub lengths : ls ≡ column (λ c. record-at f (begin + 8 * c) .«label_length») c
   pub starts : ss ≡ column (λ c. record-at f (begin + 8 * c) .«label_start») c
 
-pub filled-none : (f : List ℕ) (begin : ℕ) → Filled f begin 0 begin (replicate 256 0) (replicate 256 0) (replicate 256 0) (replicate 256 0) (replicate 256 0) (replicate 256 0)
+pub filled-none : (f : List ℕ) (begin : ℕ) → Filled f begin 0 begin (replicate most-cells 0) (replicate most-cells 0) (replicate most-cells 0) (replicate most-cells 0) (replicate most-cells 0) (replicate most-cells 0)
 unfolding column
 filled-none f begin = record { next-at = omega arith; parents = refl; kinds = refl; widths = refl; depths = refl; lengths = refl; starts = refl }
 

@@ -122,7 +122,7 @@ module _ (f : List ℕ) (c : ℕ) (r : Refusal) (e : r ≡ label-refusal f c) (z
 
   module _ (t : Trailer) (q : t ≡ trailer-of f) where
     -- the cell's record ends before the trailer
-    pub record-there : (c < 256) × (t .begin + 8 * c + 16 ≤ length f)
+    pub record-there : (c < most-cells) × (t .begin + 8 * c + 16 ≤ length f)
     record-there = let h = labelled .headed .full in let i = labelled .is in rw q (omega arith, omega (arith, h .exact))
 
     pub record-is : record-at f (t .begin + 8 * c) ≡ entry f c

@@ -30,8 +30,8 @@ pub struct Reading {
     pub refusal: Refusal,
     pub allowance: u16,
     pub columns: Columns,
-    pub label_length: [u8; 256],
-    pub label_start: [u16; 256],
+    pub label_length: [u8; MOST_CELLS],
+    pub label_start: [u16; MOST_CELLS],
 }
 
 // The bytes of a file from start to end.

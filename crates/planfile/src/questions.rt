@@ -22,10 +22,10 @@ use plan::questions::tree_refusal;
 ghost use mathlib.Core.Path.{_≡_};
 ghost use mathlib.Core.List.{List};
 ghost use mathlib.Core.Bool.{Bool, true, false, _&&_};
-ghost use Prim.Native.Nat.{ℕ, _+_, _*_, _≤_, _<_};
+ghost use Prim.Native.Nat.{ℕ, _+_, _*_, _^_, _≤_, _<_};
 ghost use lib.Dec.{leb, eqb};
 ghost use lib.ListN.{length, getD, take};
-ghost use Rattle.plan.specs.Limits.{between, «first-letter», «last-letter», «least-file», «most-file»};
+ghost use Rattle.plan.specs.Limits.{between, «first-letter», «last-letter», «least-file», «most-file», «most-cells»};
 ghost use Rattle.plan.specs.Questions.{every, «at-each»};
 ghost use Rattle.planfile.specs.FileSteps.{inside, counted, «record-refusal», «records-at», «header-refusal», «columns-refusal», «blank-reading», examined};
 
@@ -41,7 +41,7 @@ fn file_sized(size: usize) -> bool
 
 // Question 4.
 fn counted(size: usize, begin: usize, n: usize) -> bool
-    requires { ⌜ (begin < 65536) × (n < 65536) ⌝ }
+    requires { ⌜ (begin < 2 ^ 16) × (n < 2 ^ 16) ⌝ }
     ensures { λ r. ⌜ r ≡ counted size begin n ⌝ }
 {
     if n < 1 {
@@ -98,7 +98,7 @@ fn record_refusal(
     size: u8,
     start: u16,
 ) -> Refusal
-    requires { ⌜ cell < 65536 ⌝ }
+    requires { ⌜ cell < 2 ^ 16 ⌝ }
     ensures { λ r. ⌜ r ≡ record-refusal begin cell parent kind width depth size start ⌝ }
 {
     let label_inside = asked(9, inside(begin, size, start), cell);
@@ -111,16 +111,16 @@ fn record_refusal(
 
 // Questions 6 to 10, record by record.
 fn records_refusal<'a>(
-    parents: &'a [u16; 256],
-    kinds: &'a [u8; 256],
-    widths: &'a [u16; 256],
-    depths: &'a [u8; 256],
-    sizes: &'a [u8; 256],
-    starts: &'a [u16; 256],
+    parents: &'a [u16; MOST_CELLS],
+    kinds: &'a [u8; MOST_CELLS],
+    widths: &'a [u16; MOST_CELLS],
+    depths: &'a [u8; MOST_CELLS],
+    sizes: &'a [u8; MOST_CELLS],
+    starts: &'a [u16; MOST_CELLS],
     n: usize,
     begin: usize,
 ) -> Refusal
-    requires { ⌜ n ≤ 256 ⌝ }
+    requires { ⌜ n ≤ most-cells ⌝ }
     ensures { λ r. ⌜ r ≡ at-each (records-at begin (now (parents .entry)) (now (kinds .entry)) (now (widths .entry)) (now (depths .entry)) (now (sizes .entry)) (now (starts .entry))) 0 n ⌝ }
 {
     let mut c = 0;
@@ -167,7 +167,7 @@ fn header_refusal(file: &[u8]) -> Refusal
 
 // Questions 6 to 14, put to the records that were read.
 fn body_refusal(plan: Reading, begin: usize) -> Refusal
-    requires { ⌜ (1 ≤ plan .columns .count) × (plan .columns .count ≤ 256) ⌝ }
+    requires { ⌜ (1 ≤ plan .columns .count) × (plan .columns .count ≤ most-cells) ⌝ }
     ensures { λ r. ⌜ r ≡ columns-refusal plan begin ⌝ }
 {
     let n = plan.columns.count;
@@ -205,13 +205,13 @@ pub fn refused(refusal: Refusal) -> Reading
         allowance: 0,
         columns: Columns {
             count: 0,
-            parent: [0u16; 256],
-            kind: [0u8; 256],
-            width: [0u16; 256],
-            depth: [0u8; 256],
+            parent: [0u16; MOST_CELLS],
+            kind: [0u8; MOST_CELLS],
+            width: [0u16; MOST_CELLS],
+            depth: [0u8; MOST_CELLS],
         },
-        label_length: [0u8; 256],
-        label_start: [0u16; 256],
+        label_length: [0u8; MOST_CELLS],
+        label_start: [0u16; MOST_CELLS],
     }
 }
 

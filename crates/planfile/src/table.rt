@@ -5,10 +5,12 @@ use crate::cursor::Cursor;
 use plan::Columns;
 use plan::Record;
 use plan::Refusal;
+use plan::limits::MOST_CELLS;
 use plan::limits::TRAILER_SIZE;
 ghost use mathlib.Core.Path.{_≡_};
 ghost use Prim.Native.Nat.{ℕ, _+_, _*_, _≤_, _<_};
 ghost use lib.ListN.{length, getD};
+ghost use Rattle.plan.specs.Limits.{«most-cells»};
 ghost use Rattle.plan.specs.Questions.{none};
 ghost use Rattle.planfile.specs.Format.{«trailer-of», «record-at»};
 ghost use Rattle.planfile.specs.Reading.{«columns-of»};
@@ -37,15 +39,15 @@ pub fn trailer(file: &[u8]) -> Trailer
 
 // The columns of the n records from begin on, with a refusal of none.
 pub fn records(file: &[u8], begin: usize, n: usize, allowance: u16) -> Reading
-    requires { ⌜ (n ≤ 256) × (begin + 8 * n ≤ length (now file)) ⌝ }
+    requires { ⌜ (n ≤ most-cells) × (begin + 8 * n ≤ length (now file)) ⌝ }
     ensures { λ r. ⌜ r ≡ columns-of none allowance n (λ c. record-at (now (file .entry)) (begin + 8 * c)) ⌝ }
 {
-    let mut parent = [0u16; 256];
-    let mut kind = [0u8; 256];
-    let mut width = [0u16; 256];
-    let mut depth = [0u8; 256];
-    let mut label_length = [0u8; 256];
-    let mut label_start = [0u16; 256];
+    let mut parent = [0u16; MOST_CELLS];
+    let mut kind = [0u8; MOST_CELLS];
+    let mut width = [0u16; MOST_CELLS];
+    let mut depth = [0u8; MOST_CELLS];
+    let mut label_length = [0u8; MOST_CELLS];
+    let mut label_start = [0u16; MOST_CELLS];
     let mut cursor = Cursor { at: begin };
     let mut c: usize = 0;
     while c < n {

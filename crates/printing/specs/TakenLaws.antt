@@ -12,7 +12,7 @@ use lib.Seq.{take-append-seam, sets-eq}
 use Rattle.whole.specs.Whole.{whole}
 use Rattle.whole.specs.Range.{Within}
 use Rattle.whole.specs.Says.{is-true, is-false, says-le}
-use Rattle.plan.specs.Limits.{most-cells, farthest, scratch-size, listing-size}
+use Rattle.plan.specs.Limits.{most-cells, last-row, farthest, scratch-size, listing-size}
 use Rattle.plan.specs.Lists.{from}
 use Rattle.plan.specs.Plan.{Is, W, D, row}
 use Rattle.plan.specs.Records.{cells-of}
@@ -55,10 +55,10 @@ spaced-length l = go (ℕ-discrete (length l) 0)
 
 signed-six : (x : ℤ) → Within farthest x → length (signed x) ≤ 6
 unfolding signed
-signed-six (pos n) h = let l : n ≤ 65535 = omega (whole, h .high) in omega (arith, at-most 4 n (omega arith))
-signed-six (negsuc n) h = let l : suc n ≤ 65535 = omega (whole, h .low) in omega (arith, at-most 4 (suc n) (omega arith))
+signed-six (pos n) h = let l : n ≤ farthest = omega (whole, h .high) in omega (arith, at-most 4 n (omega arith))
+signed-six (negsuc n) h = let l : suc n ≤ farthest = omega (whole, h .low) in omega (arith, at-most 4 (suc n) (omega arith))
 
-signed-row : (n : ℕ) → n ≤ 255 → length (signed (pos n)) ≤ 3
+signed-row : (n : ℕ) → n ≤ last-row → length (signed (pos n)) ≤ 3
 unfolding signed
 signed-row n h = at-most 2 n (omega arith)
 
@@ -91,7 +91,7 @@ module _ (p : Reading) (f : Bytes) (h : Taken p f) where
   unfolding columns-of
   count-is = ap (λ (x : Reading). x .columns .count) (told .1)
 
-  pub taken-few : p .columns .count ≤ 256
+  pub taken-few : p .columns .count ≤ most-cells
   taken-few = omega (arith, count-is, headed .full .few)
 
   cells-are : cells p ≡ cells-of (records-of f)
@@ -109,7 +109,7 @@ module _ (p : Reading) (f : Bytes) (h : Taken p f) where
   fit = layout-asks (cells p) (p .allowance) scratch-size (2 * p .columns .count) .0 (taken-layout _ _ (omega arith) (omega arith)) .table .fit
 
   -- so it can be drawn
-  pub taken-drawable : (s n : ℕ) → s ≡ scratch-size → 512 ≤ n → Drawable (cells p) s n
+  pub taken-drawable : (s n : ℕ) → s ≡ scratch-size → 2 * most-cells ≤ n → Drawable (cells p) s n
   taken-drawable s n e h =
       let t = p .columns in
       record { fit = fit; room = omega (arith, taken-few, table-length (t .parent) (t .kind) (t .width) (t .depth) (t .count)); scratch = e }
