@@ -81,6 +81,9 @@ fn fits(
     sheet_width(&xs, &t.width, t.count) <= squares
 }
 
+// How many allowances there are, from 0 on.
+const ALLOWANCES: u32 = MOST_ALLOWANCE + 1;
+
 // One turn of the halving: of the 2 · half allowances from low on, the first of the half that has the answer.
 fn half_from(
     t: Columns,
@@ -99,14 +102,14 @@ fn half_from(
     low + half
 }
 
-// The least allowance that fits, where 65,535 does. 65,536 allowances are halved sixteen times.
+// The least allowance that fits, where the greatest does. Their number is halved sixteen times.
 fn halved(t: Columns, tops: &[u16; MOST_CELLS], squares: u32, scratch: &mut [u32]) -> u32
     requires { ⌜ Placeable t (now tops) (now scratch) ⌝ }
     requires { ⌜ T (fits (table-of t) squares most-allowance) ⌝ }
     ensures { λ r. ⌜ (least-allowance (table-of t) squares ≡ found r) × (now (scratch .exit) ≡ replicate scratch-size 0) ⌝ }
 {
     let mut low = 0;
-    let mut size = MOST_ALLOWANCE + 1;
+    let mut size = ALLOWANCES;
     while 1 < size {
         size = size / 2;
         low = half_from(t, tops, squares, low, size, scratch);

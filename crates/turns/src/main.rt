@@ -22,6 +22,9 @@ ghost use Rattle.drawing.specs.LaidLaws.{Placeable};
 ghost use Rattle.walk.specs.Machine.{chart};
 ghost use Rattle.walk.specs.Walked.{Walking};
 
+// Positions of a whole table, two numbers a cell.
+const POSITIONS: usize = 2 * MOST_CELLS;
+
 fn word(text: &[u8]) {
     write_all(STDOUT_FILENO, text);
 }
@@ -123,7 +126,7 @@ fn survey_and_tour(t: Columns, allowance: u32)
 }
 
 fn show(t: Columns, allowance: u32) {
-    let refusal = layout_refusal(t, allowance, SCRATCH_SIZE, 2 * MOST_CELLS);
+    let refusal = layout_refusal(t, allowance, SCRATCH_SIZE, POSITIONS);
     if refusal.number != 0 {
         word(b"refused");
         number(refusal.number as usize);

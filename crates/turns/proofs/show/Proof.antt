@@ -1,5 +1,6 @@
 use borrow.Author.Needs.{needs}
 use mathlib.Core.Path.{ap, sym, _∙_}
+use Prim.Native.Nat.{_*_}
 use Rattle.plan.specs.Columns.{table-of}
 use Rattle.plan.specs.Limits.{scratch-size, most-cells}
 use Rattle.plan.specs.declared.Refusal.{Refusal}
