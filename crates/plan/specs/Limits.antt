@@ -13,7 +13,7 @@ most-cells = 256
 
 -- W and D of a box (question 8)
 abbrev pub most-width : ℕ
-most-width = 255
+most-width = 1023
 
 abbrev pub most-depth : ℕ
 most-depth = 15
@@ -36,7 +36,7 @@ most-allowance = 65535
 
 -- a coordinate, either way (question 15)
 abbrev pub farthest : ℕ
-farthest = 65535
+farthest = 262143
 
 -- numbers of 32 bits in Layout's scratch (question 1)
 abbrev pub scratch-size : ℕ

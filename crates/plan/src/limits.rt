@@ -6,7 +6,7 @@ ghost use Rattle.plan.specs.Limits.{between};
 pub const MOST_CELLS: usize = 256;
 
 // W and D of a box (question 8).
-pub const MOST_WIDTH: u16 = 255;
+pub const MOST_WIDTH: u16 = 1023;
 
 pub const MOST_DEPTH: u16 = 15;
 
@@ -21,7 +21,7 @@ pub const LAST_ROW: u16 = 255;
 // The allowance (14), and a coordinate, either way (15).
 pub const MOST_ALLOWANCE: u32 = 65535;
 
-pub const FARTHEST: u32 = 65535;
+pub const FARTHEST: u32 = 262143;
 
 // Numbers of 32 bits in Layout's scratch (1).
 pub const SCRATCH_SIZE: usize = 16384;
