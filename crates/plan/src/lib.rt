@@ -1,6 +1,7 @@
 // The table of a plan as the code has it, and the questions put to it.
 use crate::limits::MOST_CELLS;
 
+pub mod forms;
 pub mod kinds;
 pub mod limits;
 pub mod questions;

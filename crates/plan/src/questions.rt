@@ -61,10 +61,10 @@ fn lower(cell: usize, parent: u16) -> bool
 }
 
 // Question 8.
-fn sized(width: u16, depth: u8) -> bool
-    ensures { λ r. ⌜ r ≡ sized width depth ⌝ }
+fn sized(most: u16, width: u16, depth: u8) -> bool
+    ensures { λ r. ⌜ r ≡ sized most width depth ⌝ }
 {
-    if !between(1, MOST_WIDTH, width) {
+    if !between(1, most, width) {
         return false;
     }
     between(1, MOST_DEPTH, depth as u16)
@@ -84,13 +84,13 @@ fn box_bottom(row: u16, depth: u8) -> u16
     row + (depth as u16)
 }
 
-// Questions 6 to 8 at one cell.
-pub fn cell_refusal(cell: usize, parent: u16, kind: u8, width: u16, depth: u8) -> Refusal
+// Questions 6 to 8 at one cell, of a width of at most `most`.
+pub fn cell_refusal(most: u16, cell: usize, parent: u16, kind: u8, width: u16, depth: u8) -> Refusal
     requires { ⌜ cell < 2 ^ 16 ⌝ }
-    ensures { λ r. ⌜ r ≡ cell-refusal cell parent kind width depth ⌝ }
+    ensures { λ r. ⌜ r ≡ cell-refusal most cell parent kind width depth ⌝ }
 {
     let known_kind = asked(7, known(kind), cell);
-    let box_size = asked(8, sized(width, depth), cell);
+    let box_size = asked(8, sized(most, width, depth), cell);
     or_else(
         asked(6, lower(cell, parent), cell),
         or_else(known_kind, box_size),
@@ -110,7 +110,7 @@ pub fn cells_refusal(
 {
     let mut c = 0;
     while c < n {
-        let r = cell_refusal(c, parents[c], kinds[c], widths[c], depths[c]);
+        let r = cell_refusal(MOST_WIDTH, c, parents[c], kinds[c], widths[c], depths[c]);
         if r.number != 0 {
             return r;
         }
