@@ -125,12 +125,16 @@ fn parent_of(shape: u8, c: usize, seed: u32) -> u16
 
 // Every box of one width.
 fn all_of(t: Columns, w: u16) -> Columns {
+    let parent = t.parent;
+    let kind = t.kind;
+    let width = [w; 256];
+    let depth = t.depth;
     Columns {
         count: t.count,
-        parent: t.parent,
-        kind: t.kind,
-        width: [w; 256],
-        depth: t.depth,
+        parent,
+        kind,
+        width,
+        depth,
     }
 }
 
@@ -355,7 +359,11 @@ fn larger() {
     show(b"256 cells, any, at 9", plan_of(2, 256, 1, 255), 9);
     show(b"256 cells, any, at 65,535", plan_of(2, 256, 1, 255), 65535);
     show(b"256 cells, broad, at 100", plan_of(1, 256, 15, 100), 100);
-    show(b"256 cells of 1,023", all_of(plan_of(1, 256, 1, 1), 1023), 0);
+    show(
+        b"256 cells of 1,023",
+        all_of(plan_of(1, 256, 1, 1), 1023),
+        0,
+    );
 }
 
 fn main() {
