@@ -25,12 +25,14 @@ extern "C" {
 #define KUZPALEN_SCRATCH 16384u       /* the numbers that the scratch of Layout and of Frame needs */
 #define KUZPALEN_LISTING_SIZE 17408u  /* the bytes that List's output needs, whatever the file */
 #define KUZPALEN_NO_PARENT 65535u
+#define KUZPALEN_WIDEST 1023u         /* the greatest width in a table; a file of the old form has at most 255 */
+#define KUZPALEN_FARTHEST 262143      /* a coordinate that is lent lies from its negative to it */
 
 /* One record of a table, which has one for each cell: cell 0 is the root. */
 typedef struct {
     uint16_t parent;       /* KUZPALEN_NO_PARENT for the root, else less than the cell's own number */
     uint8_t kind;          /* 1 step, 2 run, 3 repeat, 4 choice, 5 wait */
-    uint16_t width;        /* 1 to 255 */
+    uint16_t width;        /* 1 to KUZPALEN_WIDEST */
     uint8_t depth;         /* 1 to 15 */
     uint8_t label_length;  /* the label: so many bytes of the file, */
     uint16_t label_start;  /* from this one on. Only Read and Label look at the two label fields */
@@ -95,6 +97,14 @@ typedef struct {
     uint32_t allowance;    /* 0 to 65535 with the first, else 0 */
 } kuzpalen_frame_answer;
 
+/* A plan file is of one of two forms, which its last two bytes tell, or question 3 refuses. Both have the
+ * label bytes first, then the records, then a trailer of 8 bytes. Hexadecimal 53 54: records of 8 bytes,
+ * parent (2), kind, width, depth, label length, label start (2), and so widths to 255. Hexadecimal 53 55:
+ * records of 10 bytes, parent (2), kind, depth, width (2), label length, a byte of zero, label start (2),
+ * and widths to KUZPALEN_WIDEST. Question 4 reckons with the size of the form's records; question 8
+ * refuses a width or a depth that is not allowed, and that byte where it is not zero. Read, Label and List
+ * take either form, and a table does not tell from which it was read. */
+
 /* Read: a plan file into a table. `table_len` is at least KUZPALEN_CELLS, or question 1 refuses. The
  * first `count` records are written, and no other. */
 kuzpalen_read_answer kuzpalen_read(const uint8_t *file, size_t file_len,
@@ -117,22 +127,23 @@ kuzpalen_layout_answer kuzpalen_layout(const kuzpalen_record *table, size_t tabl
                                        int32_t *positions, size_t positions_len);
 
 /* Check: whether positions keep S1 to S5, with S2 as Layout has it. `positions_len` is at least twice
- * `table_len`, or question 1 refuses; numbers past those of the cells are not looked at. */
+ * `table_len`, or question 1 refuses; question 15 refuses a coordinate past KUZPALEN_FARTHEST or its
+ * negative. Numbers past those of the cells are not looked at. */
 kuzpalen_check_answer kuzpalen_check(const kuzpalen_record *table, size_t table_len,
                                      const int32_t *positions, size_t positions_len, uint32_t allowance);
 
 /* Ends: of the connector from a cell's parent to the cell, which is not the root. It begins at the parent's
  * x plus half the parent's width, y plus depth, and ends at the cell's x plus half the cell's width, y. Half
  * a width is the nearer whole number, a tie going to the even one (1 gives 0, 3 and 5 give 2, 7 gives 4);
- * it is rounded before it is added. `positions_len` is at least twice `table_len`, or question 1 refuses. */
+ * it is rounded before it is added. Positions as for Check, by questions 1 and 15. */
 kuzpalen_ends_answer kuzpalen_ends(const kuzpalen_record *table, size_t table_len,
                                    const int32_t *positions, size_t positions_len, size_t cell);
 
 /* List: the listing of a plan file, byte for byte what the program `sheet` prints: the lines of its sheet,
  * or the line `refused`, number, cell of the refusal by Read, each ended by a line feed. `out_len` is at
- * least KUZPALEN_LISTING_SIZE, or question 1 refuses, which is List's only refusal: that a plan is refused
- * is told by the listing. The first `length` bytes of `out` are the listing, with no 0 after it; later
- * ones stay as they were. */
+ * least KUZPALEN_LISTING_SIZE, enough for 256 lines with the widest boxes and longest labels, or question 1
+ * refuses, which is List's only refusal: that a plan is refused is told by the listing. The first
+ * `length` bytes of `out` are the listing, with no 0 after it; later ones stay as they were. */
 kuzpalen_list_answer kuzpalen_list(const uint8_t *file, size_t file_len,
                                    uint8_t *out, size_t out_len);
 

@@ -1,4 +1,4 @@
-/* Worked sheet B of document 01 and its file with labels, through the C header. */
+/* Worked sheet B of document 01 and its file with labels, in both forms, through the C header. */
 #include "../include/kuzpalen.h"
 #include <stdio.h>
 #include <string.h>
@@ -10,6 +10,34 @@ static const uint8_t file[38] = {
     0, 0, 1, 5, 1, 3, 3, 0,
     6, 0, 3, 0, 0, 0, 0x53, 0x54,
 };
+
+/* The same plan in the form for wider boxes, with the root as wide as a box can be. */
+static const uint8_t wide[44] = {
+    'U', 'p', 'A', 'R', 'u', 'n',
+    0xFF, 0xFF, 2, 1, 0xFF, 3, 2, 0, 0, 0,
+    0, 0, 1, 1, 3, 0, 1, 0, 2, 0,
+    0, 0, 1, 1, 5, 0, 3, 0, 3, 0,
+    6, 0, 3, 0, 0, 0, 0x53, 0x55,
+};
+
+static int wide_good(void) {
+    static kuzpalen_record table[KUZPALEN_CELLS];
+    uint8_t other[sizeof wide];
+    kuzpalen_read_answer plan = kuzpalen_read(wide, sizeof wide, table, KUZPALEN_CELLS);
+    kuzpalen_label_part run = kuzpalen_label(wide, sizeof wide, 2);
+    int good = plan.number == 0 && plan.count == 3 && table[0].width == KUZPALEN_WIDEST && table[0].depth == 1
+        && table[2].width == 5 && table[2].label_length == 3 && table[2].label_start == 3 && run.start == 3 && run.end == 6;
+    memcpy(other, wide, sizeof wide);
+    other[11] = 4; /* W 1,279 */
+    good = good && kuzpalen_read(other, sizeof other, table, KUZPALEN_CELLS).number == 8;
+    memcpy(other, wide, sizeof wide);
+    other[23] = 1; /* byte 7 of cell 1 */
+    plan = kuzpalen_read(other, sizeof other, table, KUZPALEN_CELLS);
+    good = good && plan.number == 8 && plan.cell == 1;
+    memcpy(other, wide, sizeof wide);
+    other[43] = 0x54;
+    return good && kuzpalen_read(other, sizeof other, table, KUZPALEN_CELLS).number == 4;
+}
 
 static int file_good(void) {
     static kuzpalen_record table[KUZPALEN_CELLS];
@@ -57,7 +85,12 @@ int main(void) {
     good = good && fits.number == 0 && fits.outcome == KUZPALEN_FRAME_ALLOWANCE && fits.allowance == 0
         && kuzpalen_frame(table, 3, 8, scratch, KUZPALEN_SCRATCH).outcome == KUZPALEN_FRAME_NONE
         && kuzpalen_frame(table, 3, 0, scratch, KUZPALEN_SCRATCH).number == 19;
-    good = good && file_good() && listing_good();
+    p[2] = KUZPALEN_FARTHEST;
+    good = good && kuzpalen_check(table, 3, p, 6, 0).number == 0;
+    p[2] = -KUZPALEN_FARTHEST - 1;
+    kuzpalen_ends_answer far = kuzpalen_ends(table, 3, p, 6, 2);
+    good = good && far.number == 15 && far.cell == 1;
+    good = good && file_good() && wide_good() && listing_good();
     puts(good ? "sheet B from C: good" : "sheet B from C: DIFFERENCE");
     return good ? 0 : 1;
 }

@@ -1,7 +1,7 @@
 #!/usr/bin/env python3
 """Writes the cases of crates/planfile_tests: stdin (the files) and stdout (what Read and Label must answer).
 
-Every expectation is written here by hand, from document 01; nothing is computed by the engine.
+Every expectation is written here by hand, from documents 01 and 02; nothing is computed by the engine.
 Run it in the repository's root: python3 tools/file_cases.py
 """
 import struct
@@ -16,6 +16,17 @@ def cell(parent, kind, w, d=1, length=0, start=0):
 
 def plan(cells, letters=b'', allowance=0, begin=None, count=None, mark=b'\x53\x54'):
     body = b''.join(struct.pack('<HBBBBH', p, k, w, d, n, s) for p, k, w, d, n, s in cells)
+    begin = len(letters) if begin is None else begin
+    count = len(cells) if count is None else count
+    return letters + body + struct.pack('<HHH', begin, count, allowance) + mark
+
+
+OLD, WIDE = b'\x53\x54', b'\x53\x55'
+
+
+def wide_plan(cells, letters=b'', allowance=0, begin=None, count=None, mark=WIDE, spares={}):
+    """The wide form: records of 10 bytes; spares: byte 7 of a cell, where it is not zero."""
+    body = b''.join(struct.pack('<HBBHBBH', p, k, d, w, n, spares.get(c, 0), s) for c, (p, k, w, d, n, s) in enumerate(cells))
     begin = len(letters) if begin is None else begin
     count = len(cells) if count is None else count
     return letters + body + struct.pack('<HHH', begin, count, allowance) + mark
@@ -53,8 +64,8 @@ def shown(cells, letters=b''):
     return rows
 
 
-def accepted(cells, letters=b'', allowance=0, at=0, label='0 0 '):
-    case(plan(cells, letters, allowance), ('plan', len(cells), allowance, shown(cells, letters)), 256, at, label)
+def accepted(cells, letters=b'', allowance=0, at=0, label='0 0 ', form=plan):
+    case(form(cells, letters, allowance), ('plan', len(cells), allowance, shown(cells, letters)), 256, at, label)
 
 
 ONE = [cell(ROOT, STEP, 5)]
@@ -115,7 +126,8 @@ refused(plan(ONE, letters + b'x'), 2)                                       # 16
 
 # ---- question 3: the mark
 refused(plan(ONE, mark=b'\x54\x53'), 3)
-refused(plan(ONE, mark=b'\x53\x55'), 3)
+refused(plan(ONE, mark=b'\x53\x56'), 3)
+refused(plan(ONE, mark=b'\x55\x53'), 3)                                          # the wide form's, high byte first
 refused(plan(ONE, mark=b'\x52\x54'), 3)
 
 # ---- question 4: n, and the length
@@ -225,6 +237,70 @@ refused(plan([cell(ROOT, RUN, 4), cell(0, RUN, 4), cell(0, RUN, 4)]), 11, 1)   #
 refused(plan(chain(18, 15)), 13, 16)                                        # the lowest cell: 16, not 17
 case(plan(chain(33)), ('refused', 12, 32), at=99, label='12 32 ')           # 12 before 16
 refused(plan(ONE)[:12], 1, room=3, label='2 0 ')                            # 1 before 2
+
+# ---- the wide form (document 02, E7): mark 53 55, records of 10 bytes
+PAPER_WIDE = b'UpARun' + bytes.fromhex('FFFF0201040002000000 00000101030001000200 00000101050003000300 0600030000005355'.replace(' ', ''))
+assert len(PAPER_WIDE) == 6 + 30 + 8
+case(PAPER_WIDE, ('plan', 3, 0, ['65535 2 4 1 2 0 Up', '0 1 3 1 1 2 A', '0 1 5 1 3 3 Run', '0 0 0 0 0 0 ']), 256, 2, '0 0 Run')
+accepted(ONE, form=wide_plan)                                               # 18 bytes
+refused(wide_plan(ONE)[1:], 4)                                              # 17 bytes
+refused(wide_plan(ONE)[2:], 4)                                              # 16 bytes
+refused(wide_plan(ONE)[3:], 2)                                              # 15 bytes
+refused(wide_plan([], b'x' * 10), 4)                                        # no cell
+accepted(full, form=wide_plan)                                              # 256 cells
+refused(wide_plan(wide(257)), 4)
+letters = b'x' * (16384 - 18)
+case(wide_plan(ONE, letters), ('plan', 1, 0, shown(ONE)), label='0 0 ')     # 16,384 bytes
+refused(wide_plan(ONE, letters + b'x'), 2)
+refused(wide_plan(ONE, count=2), 4)
+refused(wide_plan(ONE, begin=1), 4)
+refused(wide_plan(ONE, begin=65535, count=65535), 4)                        # no sum wraps
+
+# one form's records under the other's mark: 10n against 8n
+refused(plan(TWO, mark=WIDE), 4)
+refused(wide_plan(TWO, mark=OLD), 4)
+refused(wide_plan(ONE, mark=OLD), 4)
+refused(plan(ONE, mark=WIDE), 4)                                            # 16 bytes
+# 40 bytes are five old records and four wide ones, and say other things in each
+refused(wide_plan([cell(ROOT, RUN, 3, 2)] + [cell(0, STEP, 3, 2)] * 3, mark=OLD, count=5), 7, 1)   # cell 1's kind is cell 1's parent
+refused(plan([cell(ROOT, RUN, 3, 2)] + [cell(0, STEP, 3, 2)] * 4, mark=WIDE, count=4), 6, 1)       # cell 1's parent is cell 1's kind and W
+
+# question 8: W to 1,023, where the old form's byte ends at 255
+refused(wide_plan([cell(ROOT, STEP, 0)]), 8, 0)
+for w in (2, 255, 256, 257, 511, 512, 1022, 1023):
+    accepted([cell(ROOT, STEP, w, 15)], form=wide_plan)
+for w in (1024, 1025, 32768, 65535):
+    refused(wide_plan([cell(ROOT, STEP, w)]), 8, 0)
+refused(wide_plan(changed(star(3), 3, w=1024)), 8, 3)
+refused(wide_plan(changed(star(3), 2, d=0)), 8, 2)
+refused(wide_plan(changed(star(3), 2, d=16)), 8, 2)
+
+# question 8: byte 7
+for b in (1, 128, 255):
+    refused(wide_plan(ONE, spares={0: b}), 8, 0)
+refused(wide_plan(star(3), spares={3: 1}), 8, 3)
+refused(wide_plan(star(3), spares={1: 1, 2: 9}), 8, 1)                      # the lowest cell
+refused(wide_plan(changed(star(3), 1, kind=7), spares={1: 1}), 7, 1)        # 7 before 8
+refused(wide_plan(changed(star(3), 1, length=1, start=9), spares={1: 1}), 8, 1)     # 8 before 9
+refused(wide_plan(changed(star(3), 2, parent=2), spares={1: 1}), 8, 1)      # record by record: 8 at 1 before 6 at 2
+refused(wide_plan(changed(star(3), 1, length=1, start=9), spares={2: 1}), 9, 1)     # 9 at 1 before 8 at 2
+refused(wide_plan(star(17), spares={9: 1}), 8, 9)                           # 8 before 11
+
+# the other questions put to it
+refused(wide_plan(ONE), 1, room=255, label='0 0 ')
+refused(wide_plan(ONE, b'\x7f'), 5)
+refused(wide_plan(changed(TWO, 1, parent=1)), 6, 1)
+accepted([cell(ROOT, STEP, 42, 1, 40, 0)], forty, label='0 0 ' + forty.decode(), form=wide_plan)
+refused(wide_plan([cell(ROOT, STEP, 1023, 1, 41, 0)], forty + b'x'), 9, 0)
+accepted([cell(ROOT, STEP, 6, 1, 0, 4)], b'abcd', form=wide_plan)
+refused(wide_plan([cell(ROOT, STEP, 6, 1, 0, 5)], b'abcd'), 9, 0)
+refused(wide_plan([cell(ROOT, REPEAT, 6, 1, 3, 0), cell(0, STEP, 2)], b'abc'), 10, 0)
+refused(wide_plan(star(17)), 11, 0)
+refused(wide_plan(chain(33)), 12, 32)
+refused(wide_plan(low(256)), 13, 16)
+accepted(TWO, allowance=65535, form=wide_plan)
+case(wide_plan(TWO), ('plan', 2, 0, shown(TWO)), at=2, label='16 0 ')
+accepted([cell(ROOT, RUN, 1023, 2, 2, 0), cell(0, STEP, 300, 1, 3, 2)], b'abcde', allowance=7, at=1, label='0 0 cde', form=wide_plan)
 
 with open('crates/planfile_tests/stdin', 'wb') as f:
     for file, room, at, _ in CASES:

@@ -45,8 +45,13 @@ def outline(text):
     return cells
 
 
-def plan_file(cells, allowance=0, letters=None, labels=None, begin=None, count=None, mark=b'\x53\x54'):
-    """The labels in the order of the cells, each once; or the letters given, with (start, length) of each label."""
+OLD, WIDE = b'\x53\x54', b'\x53\x55'
+
+
+def plan_file(cells, allowance=0, letters=None, labels=None, begin=None, count=None, mark=OLD, spares={}):
+    """The labels in the order of the cells, each once; or the letters given, with (start, length) of each label.
+
+    The mark decides the form, as in document 02's E7; spares: byte 7 of a wide record, where it is not zero."""
     if letters is None:
         letters, labels, known = b'', [], {}
         for c in cells:
@@ -55,7 +60,11 @@ def plan_file(cells, allowance=0, letters=None, labels=None, begin=None, count=N
                 letters += c.label.encode()
             labels.append((known[c.label], len(c.label)))
     labels = labels or [(0, 0)] * len(cells)
-    body = b''.join(struct.pack('<HBBBBH', c.father, c.kind, c.w, c.d, n, s) for c, (s, n) in zip(cells, labels))
+    if mark == WIDE:
+        body = b''.join(struct.pack('<HBBHBBH', c.father, c.kind, c.d, c.w, n, spares.get(i, 0), s)
+                        for i, (c, (s, n)) in enumerate(zip(cells, labels)))
+    else:
+        body = b''.join(struct.pack('<HBBBBH', c.father, c.kind, c.w, c.d, n, s) for c, (s, n) in zip(cells, labels))
     return letters + body + struct.pack('<HHH', len(letters) if begin is None else begin,
                                         len(cells) if count is None else count, allowance) + mark
 
@@ -276,8 +285,26 @@ for gate in range(15):
     FULL += [Cell(top, 'wait' if (gate + k) % 5 == 0 else 'step', 4 + (3 * gate + 5 * k) % 9, 1 + k % 2, 'abcd'[k % 4] * (k % 3))
              for k in range(16)]
 
+# ---- a wide one, with labels in two languages, and the widest boxes that a full table can have
+
+BILINGUAL = table('''
+- run 280 1 Saison des Salzgartens - Salt season
+0 step 140 2 Seetor 1 oeffnen - Open sea gate 1
+0 run 1023 1 Becken fuellen - Fill the pond
+2 repeat 256 1 Bis 90 cm - Until 90 cm
+3 wait 255 1 Eine Stunde warten - Wait an hour
+2 choice 400 3 Kruste - Crust
+5 step 90 1 Weiss: rechen - White: rake
+5 step 301 2 Grau: ablassen - Grey: drain
+0 wait 64 1 Regen - Rain
+''')
+WIDEST = [Cell(c.father, c.kind, 1023, c.d, c.label) for c in FULL]
+
 # name, plan, allowance; the width where document 01 gives it
 COMPUTED = [('F-0', F, 0, 30), ('pond', POND, 12, None), ('full', FULL, 20, None)]
+
+# name, plan, allowance, of those in the wide form
+IN_WIDE = [('bilingual', BILINGUAL, 40), ('widest', WIDEST, 0)]
 
 
 # ---- what each refusal is put to, and the edges
@@ -309,9 +336,13 @@ REFUSED = [
     (plan_file(ONE)[1:], 2, 0),                                        # 15 bytes
     (plan_file(ONE, letters=b' ' * 16369), 2, 0),                      # 16,385
     (plan_file(ONE, mark=b'ST'[::-1]), 3, 0),
+    (plan_file(ONE, mark=b'\x53\x56'), 3, 0),
     (plan_file(ONE, count=0), 4, 0),
     (plan_file(ONE, begin=1), 4, 0),
     (plan_file(brothers('run', 256)), 4, 0),                           # 257 cells
+    (plan_file(ONE, mark=WIDE)[1:], 4, 0),                             # 17 bytes
+    (plan_file(ONE)[:-2] + WIDE, 4, 0),                                # old records, wide mark
+    (plan_file(ONE, mark=WIDE)[:-2] + OLD, 4, 0),                      # wide records, old mark
     (plan_file(ONE, letters=b'\x1f'), 5, 0),
     (plan_file(ONE, letters=b'\x7f'), 5, 0),
     (plan_file(changed(B, 0, father=0)), 6, 0),
@@ -322,6 +353,8 @@ REFUSED = [
     (plan_file(changed(B, 1, w=0)), 8, 1),
     (plan_file(changed(B, 1, d=0)), 8, 1),
     (plan_file(changed(B, 2, d=16)), 8, 2),
+    (plan_file(changed(B, 2, w=1024), mark=WIDE), 8, 2),
+    (plan_file(B, mark=WIDE, spares={1: 1}), 8, 1),
     (plan_file(changed(B, 1, w=255), letters=b'x' * 41, labels=[(0, 0), (0, 41), (0, 0)]), 9, 1),
     (plan_file(B, letters=b'x', labels=[(0, 0), (1, 1), (0, 0)]), 9, 1),
     (plan_file(B, letters=b'x', labels=[(2, 0), (0, 1), (0, 0)]), 9, 0),
@@ -357,12 +390,12 @@ def main():
         files.append(file)
         lists.append(text)
 
-    def store(name, cells, allowance, text):
+    def store(name, cells, allowance, text, mark=OLD):
         border = {KINDS[k]: b for k, b in BORDER.items()}
         assert all(c.w >= len(c.label) + border[c.kind] for c in cells), name                        # question 10
-        (plans / (name + '.plan')).write_bytes(plan_file(cells, allowance))
+        (plans / (name + '.plan')).write_bytes(plan_file(cells, allowance, mark=mark))
         (plans / (name + '.txt')).write_text(text)
-        keep(plan_file(cells, allowance), text)
+        keep(plan_file(cells, allowance, mark=mark), text)
 
     for name, cells, allowance, x, width, rows in WORKED:
         found = placement(cells, allowance)
@@ -372,8 +405,15 @@ def main():
         found = placement(cells, allowance)
         assert width in (None, found[2]), (name, found)
         store(name, cells, allowance, listing(cells, allowance, *found))
+    for name, cells, allowance in IN_WIDE:
+        store(name, cells, allowance, listing(cells, allowance, *placement(cells, allowance)), WIDE)
     for cells, allowance, letters in ACCEPTED:
         keep(plan_file(cells, allowance, letters), listing(cells, allowance, *placement(cells, allowance)))
+    for name, cells, allowance, _, _, _ in WORKED:
+        keep(plan_file(cells, allowance, mark=WIDE), (plans / (name + '.txt')).read_text())          # the same plan, the same listing
+    for w in (255, 256, 1023):
+        one = [Cell(ROOT, 'step', w)]
+        keep(plan_file(one, mark=WIDE), listing(one, 0, *placement(one, 0)))
     for file, number, cell in REFUSED:
         keep(file, 'refused %d %d\n' % (number, cell))
 
@@ -385,7 +425,7 @@ def main():
     many = Path('crates/sheet_tests')
     (many / 'stdin').write_bytes(b''.join(struct.pack('<H', len(f)) + f for f in files))
     (many / 'stdout').write_text(''.join(lists))
-    print('%d plans in plans/, %d files for sheet_tests' % (len(WORKED) + len(COMPUTED), len(files)))
+    print('%d plans in plans/, %d files for sheet_tests' % (len(WORKED) + len(COMPUTED) + len(IN_WIDE), len(files)))
 
 
 if __name__ == '__main__':

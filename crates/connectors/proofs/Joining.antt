@@ -15,7 +15,7 @@ use Rattle.whole.specs.Bias.{bias}
 use Rattle.whole.specs.Range.{Within}
 use Rattle.plan.specs.declared.Columns.{Columns}
 use Rattle.plan.specs.declared.Refusal.{Refusal}
-use Rattle.plan.specs.Limits.{farthest}
+use Rattle.plan.specs.Limits.{farthest, most-cells, most-width}
 use Rattle.plan.specs.Plan.{parent, W, D}
 use Rattle.plan.specs.Fit.{Fit}
 use Rattle.plan.specs.Near.{Near}
@@ -37,7 +37,7 @@ module _ (z : ℤ) (w : Within farthest z) (by : ℕ) where
   pub moved-is : pos (bias farthest z + by) -ℤ pos farthest ≡ z +ℤ pos by
   moved-is = omega (whole, w .low, neg-plus (pos farthest), neg-minus (pos farthest), diff (pos (bias farthest z + by)) (pos farthest), sum z (pos by))
 
-  moved-fits : by ≤ 255 → SFits w32 (z +ℤ pos by)
+  moved-fits : by ≤ most-width → SFits w32 (z +ℤ pos by)
   moved-fits l =
       let lo = w .low in
       let hi = w .high in
@@ -46,14 +46,14 @@ module _ (z : ℤ) (w : Within farthest z) (by : ℕ) where
       (omega (whole, narrow (z +ℤ pos by), narrow z, sum z (pos by), neg-plus (pos farthest), neg-minus (pos farthest)))
 
   -- as the machine reads it back from its bits
-  pub moved-back : (r : ℤ) → by ≤ 255 → r ≡ z +ℤ pos by → toZ w32 (ofZ w32 r) ≡ z +ℤ pos by
+  pub moved-back : (r : ℤ) → by ≤ most-width → r ≡ z +ℤ pos by → toZ w32 (ofZ w32 r) ≡ z +ℤ pos by
   moved-back r l e = rw e (toZ-ofZ w32 (z +ℤ pos by) (moved-fits l))
 
 module _ (t : Columns) (fit : Fit (table-of t)) where
-  pub width-low : (c : ℕ) → c < t .count → half (getD (t .width) c 0) ≤ 255
+  pub width-low : (c : ℕ) → c < t .count → half (getD (t .width) c 0) ≤ most-width
   width-low c l = omega (arith, half-close (getD (t .width) c 0) .low, width-is t c l, fit .wide c (omega (arith, length-is t)) .1)
 
-  pub depth-low : (c : ℕ) → c < t .count → getD (t .depth) c 0 ≤ 255
+  pub depth-low : (c : ℕ) → c < t .count → getD (t .depth) c 0 ≤ most-width
   depth-low c l = omega (arith, depth-is t c l, fit .deep c (omega (arith, length-is t)) .1)
 
   pub joined-is : (ps : List ℤ) (c f h d k : ℕ) {u v x y : ℤ} → c < t .count → f < t .count → f ≡ getD (t .parent) c 0
@@ -72,7 +72,7 @@ pub record Endable (t : Columns) (ps : List ℤ) (c : ℕ) : Type 0 where
   pub fit : Fit (table-of t)
   pub near : Near ps (t .count)
   pub room : 2 * t .count ≤ length ps
-  pub few : t .count ≤ 256
+  pub few : t .count ≤ most-cells
   pub is : c < t .count
   pub lower : getD (t .parent) c 0 < c
 

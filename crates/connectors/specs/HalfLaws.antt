@@ -90,7 +90,7 @@ unfoldable pub computed : Row → Row
 computed r = row (r .width) (half (r .width))
 
 unfoldable pub widths : List Row
-widths = row 1 0 ∷ row 3 2 ∷ row 5 2 ∷ row 7 4 ∷ row 2 1 ∷ row 4 2 ∷ row 6 3 ∷ row most-width 128 ∷ []
+widths = row 1 0 ∷ row 3 2 ∷ row 5 2 ∷ row 7 4 ∷ row 2 1 ∷ row 4 2 ∷ row 6 3 ∷ row 255 128 ∷ row most-width 512 ∷ []
 
 pub worked : map computed widths ≡ widths
 unfolding row computed widths half

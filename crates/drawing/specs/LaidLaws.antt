@@ -10,7 +10,7 @@ use mathlib.Core.Bool.{Bool, true, false}
 use lib.Dec.{T, leb}
 use borrow.Author.Tests.{eq-eqb, ne-eqb}
 use Rattle.whole.specs.Whole.{plus}
-use Rattle.plan.specs.Limits.{scratch-size, most-allowance}
+use Rattle.plan.specs.Limits.{scratch-size, most-allowance, most-cells}
 use Rattle.plan.specs.Plan.{Table, Is, row, bottom}
 use Rattle.plan.specs.Columns.{table-of}
 use Rattle.plan.specs.ColumnLaws.{table-length, parent-at, depth-at}
@@ -79,13 +79,13 @@ module _ (t : Columns) (fit : Fit (table-of t)) where
 
   module _ (tops : List ℕ) (rows : Column tops (t .count) (row (table-of t))) where
     -- a cleared scratch and marks of zeros
-    pub markable : (s : List ℕ) → s ≡ replicate scratch-size 0 → Markable t tops s (replicate 1024 0)
+    pub markable : (s : List ℕ) → s ≡ replicate scratch-size 0 → Markable t tops s (replicate (4 * most-cells) 0)
     markable s e = record {
       fit = fit;
       top-of = λ c i. rows .each c (omega (arith, size));
       scratch = rw (e, length-replicate {A = ℕ} scratch-size 0) (omega arith);
       clear = λ i. rw e (zeros-get scratch-size i);
-      blank = zeros-get 1024;
+      blank = zeros-get (4 * most-cells);
     }
 
     topped : (al : ℕ) → Topped tops (t .count) (sheet (table-of t) al .y)

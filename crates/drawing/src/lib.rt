@@ -1,7 +1,9 @@
 // LAYOUT: a table and an allowance to positions, width and rows.
+use marks::MARKS;
 use marks::marks_of;
 use plan::Columns;
 use plan::Refusal;
+use plan::limits::MOST_CELLS;
 use plan::limits::SCRATCH_SIZE;
 use plan::questions::allowance_refusal;
 use plan::questions::asked;
@@ -60,11 +62,16 @@ pub fn layout_refusal(t: Columns, allowance: u32, scratch: usize, positions: usi
 }
 
 // The x of each cell, from the marks of a walk over a scratch of zeros.
-pub fn place(t: Columns, tops: &[u16; 256], allowance: u32, scratch: &mut [u32]) -> [u32; 256]
+pub fn place(
+    t: Columns,
+    tops: &[u16; MOST_CELLS],
+    allowance: u32,
+    scratch: &mut [u32],
+) -> [u32; MOST_CELLS]
     requires { ⌜ Placeable t (now tops) (now scratch) ⌝ }
     ensures { λ r. ⌜ Raised r (t .count) (sheet (table-of t) allowance .x) × (now (scratch .exit) ≡ replicate scratch-size 0) ⌝ }
 {
-    let mut marks = [0u32; 1024];
+    let mut marks = [0u32; MARKS];
     marks_of(t, tops, allowance, scratch, &mut marks);
     raised(t, &marks)
 }
@@ -80,9 +87,9 @@ pub fn draw_over_zeros(
     ensures { λ r. ⌜ Drawn (table-of t) allowance (now (scratch .exit)) (now (positions .entry)) (now (positions .exit)) r ⌝ }
 {
     let n = t.count;
-    let mut counts = [0u16; 256];
-    let mut levels = [0u16; 256];
-    let mut tops = [0u16; 256];
+    let mut counts = [0u16; MOST_CELLS];
+    let mut levels = [0u16; MOST_CELLS];
+    let mut tops = [0u16; MOST_CELLS];
     survey(&t.parent, &t.depth, n, &mut counts, &mut levels, &mut tops);
     let xs = place(t, &tops, allowance, scratch);
     write_positions(&xs, &tops, n, positions);

@@ -103,7 +103,7 @@ module _ (f : List ℕ) (room : ℕ) where
 
 -- ---- a file that was read, and the table filled from it
 module _ (f : List ℕ) (t : List Record) (p : Parsed) (e : p ≡ read-of f (length t)) where
-  pub parsed-fits : (p .reading .columns .count ≤ length t) × (p .reading .columns .count ≤ 256)
+  pub parsed-fits : (p .reading .columns .count ≤ length t) × (p .reading .columns .count ≤ most-cells)
   unfolding read-of
   parsed-fits = rw e (count-fits f (length t))
 

@@ -87,7 +87,7 @@ pub record Halving (t : Table) (f low size : ℕ) : Type 0 where
   pub bounds : Halved t (fit .some-cell) (fit .sound) f low (low + size - 1)
 
 module _ (t : Table) (f : ℕ) where
-  pub halving-start : Fit t → T (fits t f most-allowance) → Halving t f 0 65536
+  pub halving-start : Fit t → T (fits t f most-allowance) → Halving t f 0 (suc most-allowance)
   halving-start fit h = record { fit = fit; left = 16; turns = omega arith; power = refl; some = omega arith; bounds = halved-start t (fit .some-cell) (fit .sound) f h }
 
   -- a size above 1 is even, and its half a power of two
@@ -106,7 +106,7 @@ module _ (t : Table) (f : ℕ) where
 
   module _ (low size : ℕ) (h : Halving t f low size) (l : 1 < size) where
     -- the greatest allowance looked at is below 65,536
-    pub halving-room : (1 ≤ size / 2) × (low + size / 2 ≤ 65536)
+    pub halving-room : (1 ≤ size / 2) × (low + size / 2 ≤ suc most-allowance)
     halving-room = omega (arith, h .bounds .most, evens size (h .left) (h .power) l .some-half)
 
     pub halving-turn : (low′ : ℕ) → low′ ≡ cond (fits t f (low + size / 2 - 1)) low (low + size / 2) → Halving t f low′ (size / 2)

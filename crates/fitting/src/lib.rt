@@ -4,6 +4,7 @@ use drawing::place;
 use plan::Columns;
 use plan::Refusal;
 use plan::limits::MOST_ALLOWANCE;
+use plan::limits::MOST_CELLS;
 use plan::limits::SCRATCH_SIZE;
 use plan::questions::asked;
 use plan::questions::counted_refusal;
@@ -11,7 +12,7 @@ use plan::tree::survey;
 use positions::sheet_width;
 ghost use mathlib.Core.Path.{_≡_};
 ghost use mathlib.Core.Bool.{cond};
-ghost use Prim.Native.Nat.{_+_, _-_, _≤_};
+ghost use Prim.Native.Nat.{suc, _+_, _-_, _≤_};
 ghost use lib.Dec.{T};
 ghost use lib.ListN.{length, replicate};
 ghost use Rattle.plan.specs.Limits.{scratch-size, most-allowance};
@@ -47,13 +48,13 @@ fn frame_refusal(t: Columns, squares: u32, scratch: usize) -> Refusal
 }
 
 // The row of each cell.
-fn tops_of(t: Columns) -> [u16; 256]
+fn tops_of(t: Columns) -> [u16; MOST_CELLS]
     requires { ⌜ Fit (table-of t) ⌝ }
     ensures { λ r. ⌜ Column r (t .count) (row (table-of t)) ⌝ }
 {
-    let mut counts = [0u16; 256];
-    let mut levels = [0u16; 256];
-    let mut tops = [0u16; 256];
+    let mut counts = [0u16; MOST_CELLS];
+    let mut levels = [0u16; MOST_CELLS];
+    let mut tops = [0u16; MOST_CELLS];
     survey(
         &t.parent,
         &t.depth,
@@ -66,7 +67,13 @@ fn tops_of(t: Columns) -> [u16; 256]
 }
 
 // Whether the sheet for this allowance is no wider than the frame, over a scratch of zeros. No position is written.
-fn fits(t: Columns, tops: &[u16; 256], squares: u32, allowance: u32, scratch: &mut [u32]) -> bool
+fn fits(
+    t: Columns,
+    tops: &[u16; MOST_CELLS],
+    squares: u32,
+    allowance: u32,
+    scratch: &mut [u32],
+) -> bool
     requires { ⌜ Placeable t (now tops) (now scratch) ⌝ }
     ensures { λ r. ⌜ (r ≡ fits (table-of t) squares allowance) × (now (scratch .exit) ≡ replicate scratch-size 0) ⌝ }
 {
@@ -74,16 +81,19 @@ fn fits(t: Columns, tops: &[u16; 256], squares: u32, allowance: u32, scratch: &m
     sheet_width(&xs, &t.width, t.count) <= squares
 }
 
+// How many allowances there are, from 0 on.
+const ALLOWANCES: u32 = MOST_ALLOWANCE + 1;
+
 // One turn of the halving: of the 2 · half allowances from low on, the first of the half that has the answer.
 fn half_from(
     t: Columns,
-    tops: &[u16; 256],
+    tops: &[u16; MOST_CELLS],
     squares: u32,
     low: u32,
     half: u32,
     scratch: &mut [u32],
 ) -> u32
-    requires { ⌜ Placeable t (now tops) (now scratch) × (1 ≤ half) × (low + half ≤ 65536) ⌝ }
+    requires { ⌜ Placeable t (now tops) (now scratch) × (1 ≤ half) × (low + half ≤ suc most-allowance) ⌝ }
     ensures { λ r. ⌜ (r ≡ cond (fits (table-of t) squares (low + half - 1)) low (low + half)) × (now (scratch .exit) ≡ replicate scratch-size 0) ⌝ }
 {
     if fits(t, tops, squares, low + half - 1, scratch) {
@@ -92,14 +102,14 @@ fn half_from(
     low + half
 }
 
-// The least allowance that fits, where 65,535 does. 65,536 allowances are halved sixteen times.
-fn halved(t: Columns, tops: &[u16; 256], squares: u32, scratch: &mut [u32]) -> u32
+// The least allowance that fits, where the greatest does. Their number is halved sixteen times.
+fn halved(t: Columns, tops: &[u16; MOST_CELLS], squares: u32, scratch: &mut [u32]) -> u32
     requires { ⌜ Placeable t (now tops) (now scratch) ⌝ }
     requires { ⌜ T (fits (table-of t) squares most-allowance) ⌝ }
     ensures { λ r. ⌜ (least-allowance (table-of t) squares ≡ found r) × (now (scratch .exit) ≡ replicate scratch-size 0) ⌝ }
 {
     let mut low = 0;
-    let mut size = 65536;
+    let mut size = ALLOWANCES;
     while 1 < size {
         size = size / 2;
         low = half_from(t, tops, squares, low, size, scratch);

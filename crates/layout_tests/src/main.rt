@@ -123,6 +123,21 @@ fn parent_of(shape: u8, c: usize, seed: u32) -> u16
     }
 }
 
+// Every box of one width.
+fn all_of(t: Columns, w: u16) -> Columns {
+    let parent = t.parent;
+    let kind = t.kind;
+    let width = [w; 256];
+    let depth = t.depth;
+    Columns {
+        count: t.count,
+        parent,
+        kind,
+        width,
+        depth,
+    }
+}
+
 // n cells of a shape, of depth d, as wide as the numbers after the seed say, up to most.
 fn plan_of(shape: u8, n: usize, d: u8, most: u16) -> Columns
     requires { ⌜ 0 < most ⌝ }
@@ -330,7 +345,8 @@ fn edges() {
     show(b"allowance 65,536", t, 65536);
     buffers(t);
     show(b"depth 16", plan_of(2, 100, 16, 40), 0);
-    show(b"width 256", table(2, &[65535, 0], &[4, 256]), 0);
+    show(b"width 1,023", table(2, &[65535, 0], &[4, 1023]), 0);
+    show(b"width 1,024", table(2, &[65535, 0], &[4, 1024]), 0);
     show(b"late parent", table(3, &[65535, 2, 0], &[4, 4, 4]), 0);
     show(b"root has a parent", table(2, &[0, 0], &[4, 4]), 0);
 }
@@ -343,6 +359,11 @@ fn larger() {
     show(b"256 cells, any, at 9", plan_of(2, 256, 1, 255), 9);
     show(b"256 cells, any, at 65,535", plan_of(2, 256, 1, 255), 65535);
     show(b"256 cells, broad, at 100", plan_of(1, 256, 15, 100), 100);
+    show(
+        b"256 cells of 1,023",
+        all_of(plan_of(1, 256, 1, 1), 1023),
+        0,
+    );
 }
 
 fn main() {

@@ -154,7 +154,7 @@ placed-small ks ls n c h e eq = rw (eq, e, placed-later ks ls c c (omega arith))
 pub appointed-small : (kind k : ℕ) → k ≤ most-cells → (1 ≤ appointed kind k) × (appointed kind k ≤ most-cells)
 appointed-small kind k l = let h = appointed-within kind k in (omega arith, omega arith)
 
-pub count-fits : (fs ls : List ℕ) (n c p : ℕ) {ms : List ℕ} → Building fs n ls → 0 < c → c < n → ms ≡ counted fs ls (c - 1) → getD ms (4 * p + 3) 0 ≤ 256
+pub count-fits : (fs ls : List ℕ) (n c p : ℕ) {ms : List ℕ} → Building fs n ls → 0 < c → c < n → ms ≡ counted fs ls (c - 1) → getD ms (4 * p + 3) 0 ≤ most-cells
 count-fits fs ls n c p h l lt e =
     rw e (omega (arith, h .few, count-low fs ls (h .none) (c - 1) (omega (arith, h .room, h .few)) (λ x a b. h .before x a (omega arith)) p))
 

@@ -1,12 +1,16 @@
 // The links of a table, made once: how the walk finds a cell's children. Only this crate knows the order of siblings.
 
 use plan::kinds::appointed;
+use plan::limits::MOST_CELLS;
 ghost use mathlib.Core.Path.{_≡_};
 ghost use Prim.Native.Nat.{_+_, _-_, _*_, _≤_, _<_};
 ghost use lib.ListN.{length, getD};
 ghost use Rattle.links.specs.Links.{link};
 ghost use Rattle.links.specs.Built.{Built};
 ghost use Rattle.links.specs.Build.{chained, counted, placed, Building, Appointing, Linking};
+
+// Four links a cell.
+pub const LINKS: usize = 4 * MOST_CELLS;
 
 fn wide32(x: u16) -> u32
     ensures { λ r. ⌜ r ≡ x ⌝ }

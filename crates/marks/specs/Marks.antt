@@ -58,7 +58,7 @@ pub record Long (t : Columns) : Type 0 where
   pub depths : most-cells ≤ length (t .depth)
 
 module _ (t : Columns) (tops : List ℕ) (al : ℕ) (xs ms : List ℕ) (h : Markable t tops xs ms) (long : Long t) where
-  pub linking : Linking (t .parent) (t .kind) (t .count) (replicate 1024 0)
+  pub linking : Linking (t .parent) (t .kind) (t .count) (replicate (4 * most-cells) 0)
   linking =
       let n = table-length t in
       record {
@@ -66,12 +66,12 @@ module _ (t : Columns) (tops : List ℕ) (al : ℕ) (xs ms : List ℕ) (h : Mark
           some = omega (arith, h .fit .some-cell);
           few = omega (arith, h .fit .not-too-many);
           parents = omega (arith, h .fit .not-too-many, long .parents);
-          room = rw (length-replicate {A = ℕ} 1024 0) (omega arith);
+          room = rw (length-replicate {A = ℕ} (4 * most-cells) 0) (omega arith);
           before = λ c p l. let i : Is (table-of t) c = omega arith in omega (arith, parent-is t c i, h .fit .sound c p i);
-          none = λ f. zeros-get 1024 (4 * f + 3);
+          none = λ f. zeros-get (4 * most-cells) (4 * f + 3);
         };
         kinds = omega (arith, h .fit .not-too-many, long .kinds);
-        clear = zeros-get 1024;
+        clear = zeros-get (4 * most-cells);
       }
 
   reads : Reads (table-of t) (t .parent) (t .kind) (t .count)

@@ -9,12 +9,12 @@ use lib.Dec.{leb, ltb}
 use lib.ListN.{length, getD}
 use lib.IntN.{ℤ, pos}
 use Rattle.plan.specs.declared.Refusal.{Refusal}
-use Rattle.plan.specs.Limits.{between, most-cells, scratch-size, listing-size, most-allowance}
+use Rattle.plan.specs.Limits.{between, most-cells, most-width, scratch-size, listing-size, most-allowance}
 use Rattle.plan.specs.Lists.{from, some, mem}
 use Rattle.plan.specs.Plan.{Table, parent, kind, W, D}
 use Rattle.plan.specs.Kinds.{known}
 use Rattle.plan.specs.Questions.{Call, Given, Question, parent-lower, kind-known, box-sized, label-inside, label-fits, children-allowed, level-low, rows-few, frame-wide, buffers-long, file-sized, file-marked, cells-counted, positions-long, letters-printable, allowance-small, cell-named, root-too, coordinates-near, roomy, all-roomy, enough, in-table, in-file, once, each, sequence, take-steps, puts, number, holds, lower, ask, ask-all, take-step}
-use Rattle.plan.specs.Questions.{none, asked, or-else, at-each, near, framed, refusal, layout, check, ends, list, frame, layout-given, check-given, ends-given, list-given, frame-given}
+use Rattle.plan.specs.Questions.{lent, widest-in, sized, none, asked, or-else, at-each, near, framed, refusal, layout, check, ends, list, frame, layout-given, check-given, ends-given, list-given, frame-given}
 use Rattle.plan.specs.QuestionLaws.{first-none, first-some, each-same}
 use Rattle.plan.specs.Steps.{cell-refusal, cells-refusal, children-refusal, levels-refusal, rows-refusal, tree-refusal, table-refusal, counted-refusal, lent-refusal, near-refusal}
 
@@ -27,6 +27,12 @@ asked-last n false c = first-some (record { number = suc n; cell = c }) none (om
 pub and-true : (b : Bool) → b && true ≡ b
 and-true true = refl
 and-true false = refl
+
+-- a question of two parts is the two, one after the other
+pub asked-both : (n : ℕ) (a b : Bool) (c : ℕ) → asked (suc n) (a && b) c ≡ or-else (asked (suc n) a c) (asked (suc n) b c)
+unfolding asked
+asked-both n true b c = sym (first-none none _ refl)
+asked-both n false b c = sym (first-some (record { number = suc n; cell = c }) _ (omega arith))
 
 pub or-assoc : (a b c : Refusal) → or-else (or-else a b) c ≡ or-else a (or-else b c)
 or-assoc a b c = go (ℕ-discrete (a .number) 0)
@@ -80,12 +86,13 @@ module _ (call : Call) (g : Given) where
       let e = each-same (ask-all call g (rows-few ∷ [])) _ n (λ c i. put-one rows-few c (h .p13) ∙ asked-last 12 _ c) in
       simp or-assoc (cc (b, d, e))
 
-  module _ (h : Tabled call) where
+  -- a lent table
+  module _ (h : Tabled call) (l : g .source ≡ lent) where
     at-cells : (c : ℕ) → ask-all call g (parent-lower ∷ kind-known ∷ box-sized ∷ label-inside ∷ label-fits ∷ []) c
-        ≡ cell-refusal c (parent (g .table) c) (kind (g .table) c) (W (g .table) c) (D (g .table) c)
-    unfolding ask-all ask holds number cell-refusal
+        ≡ cell-refusal most-width c (parent (g .table) c) (kind (g .table) c) (W (g .table) c) (D (g .table) c)
+    unfolding ask-all ask holds widest-in in-file number cell-refusal
     at-cells c =
-        rw (h .p6, h .p7, h .p8, h .p9, h .p10)
+        rw (h .p6, h .p7, h .p8, h .p9, h .p10, l, and-true (sized most-width (W (g .table) c) (D (g .table) c)))
         (ap (λ (x : Refusal). or-else (asked 6 (lower c (parent (g .table) c)) c) (or-else (asked 7 (known (kind (g .table) c)) c) x)) (asked-last 7 _ c))
 
     table-steps : (rest : Refusal)
@@ -156,7 +163,7 @@ module _ (t : Table) where
         once-put layout g cells-counted 3 (between 1 most-cells (length t)) refl (and-true _) refl,
         once-put layout g positions-long 0 (leb (2 * length t) p) refl refl refl,
         once-none layout g letters-printable refl,
-        table-steps layout g layout-puts,
+        table-steps layout g layout-puts refl,
         once-none layout g frame-wide refl,
         once-put layout g allowance-small 13 (leb al most-allowance) refl refl refl,
         step-none layout g coordinates-near refl,
@@ -181,7 +188,7 @@ module _ (t : Table) where
         once-put check g cells-counted 3 (between 1 most-cells (length t)) refl (and-true _) refl,
         once-put check g positions-long 0 (leb (2 * length t) (length ps)) refl refl refl,
         once-none check g letters-printable refl,
-        table-steps check g check-puts,
+        table-steps check g check-puts refl,
         once-none check g frame-wide refl,
         once-put check g allowance-small 13 (leb al most-allowance) refl refl refl,
         near-put check g refl,
@@ -208,7 +215,7 @@ module _ (t : Table) where
         once-put ends g cells-counted 3 (between 1 most-cells (length t)) refl (and-true _) refl,
         once-put ends g positions-long 0 (leb (2 * length t) (length ps)) refl refl refl,
         once-none ends g letters-printable refl,
-        table-steps ends g ends-puts,
+        table-steps ends g ends-puts refl,
         once-none ends g frame-wide refl,
         once-none ends g allowance-small refl,
         near-put ends g refl,
@@ -259,7 +266,7 @@ frame-refusal t f s =
       once-put frame g cells-counted 3 (between 1 most-cells (length t)) refl (and-true _) refl,
       once-put frame g positions-long 0 true refl refl refl,
       once-none frame g letters-printable refl,
-      table-steps frame g frame-puts,
+      table-steps frame g frame-puts refl,
       once-put frame g frame-wide 18 (leb 1 f) refl refl refl,
       once-none frame g allowance-small refl,
       step-none frame g coordinates-near refl,

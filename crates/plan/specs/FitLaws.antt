@@ -4,7 +4,7 @@ use Prim.Native.Nat.{ℕ, _+_, _*_, _≤_}
 use lib.Dec.{T, leb, leb→le}
 use lib.ListN.{length}
 use Rattle.plan.specs.declared.Refusal.{Refusal}
-use Rattle.plan.specs.Limits.{between, most-cells, most-level, last-row}
+use Rattle.plan.specs.Limits.{between, most-cells, most-width, most-level, last-row}
 use Rattle.plan.specs.Plan.{Table, Is, parent, kind, W, D, children, level, row}
 use Rattle.plan.specs.Kinds.{allows}
 use Rattle.plan.specs.Questions.{asked}
@@ -19,9 +19,9 @@ pub record Lent (t : Table) (p : ℕ) : Type 0 where
   pub room : 2 * length t ≤ p
 
 module _ (t : Table) where
-  at-cell : cells-refusal t .number ≡ 0 → (c : ℕ) → Is t c → Passed c (parent t c) (kind t c) (W t c) (D t c)
+  at-cell : cells-refusal t .number ≡ 0 → (c : ℕ) → Is t c → Passed most-width c (parent t c) (kind t c) (W t c) (D t c)
   unfolding cells-refusal
-  at-cell e c i = cell-passed c _ _ _ _ (each-none (λ c. cell-refusal c (parent t c) (kind t c) (W t c) (D t c)) (length t) e c i)
+  at-cell e c i = cell-passed most-width c _ _ _ _ (each-none (λ c. cell-refusal most-width c (parent t c) (kind t c) (W t c) (D t c)) (length t) e c i)
 
   family : children-refusal t .number ≡ 0 → (c : ℕ) → Is t c → T (allows (kind t c) (length (children t c)))
   unfolding children-refusal
@@ -47,8 +47,8 @@ module _ (t : Table) where
         some-cell = some;
         not-too-many = few;
         sound = λ c l i. lower-read c (parent t c) l (at-cell cells c i .is-lower);
-        wide = λ c i. sized-wide (W t c) (D t c) (at-cell cells c i .is-sized);
-        deep = λ c i. sized-deep (W t c) (D t c) (at-cell cells c i .is-sized);
+        wide = λ c i. sized-wide most-width (W t c) (D t c) (at-cell cells c i .is-sized);
+        deep = λ c i. sized-deep most-width (W t c) (D t c) (at-cell cells c i .is-sized);
         family = family sons;
         not-too-low = not-too-low levels;
         rows-few = rows-few rows;

@@ -1,4 +1,6 @@
 pub mod Limits
+pub mod Forms
+pub mod FormLaws
 pub mod Lists
 pub mod Plan
 pub mod Kinds

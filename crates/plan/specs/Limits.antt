@@ -11,9 +11,12 @@ between low high n = leb low n && leb n high
 abbrev pub most-cells : ℕ
 most-cells = 256
 
--- W and D of a box (question 8)
+-- W and D of a box (question 8): W in the old form of the file, and in the wide one and in tables (document 02, E7)
+abbrev pub old-width : ℕ
+old-width = 255
+
 abbrev pub most-width : ℕ
-most-width = 255
+most-width = 1023
 
 abbrev pub most-depth : ℕ
 most-depth = 15
@@ -36,7 +39,7 @@ most-allowance = 65535
 
 -- a coordinate, either way (question 15)
 abbrev pub farthest : ℕ
-farthest = 65535
+farthest = 262143
 
 -- numbers of 32 bits in Layout's scratch (question 1)
 abbrev pub scratch-size : ℕ
@@ -53,13 +56,19 @@ least-file = 16
 abbrev pub most-file : ℕ
 most-file = 16384
 
--- the file's mark, hexadecimal 53 54, low byte first (question 3)
-abbrev pub file-mark : ℕ
-file-mark = 0x5453
+-- the file's marks, hexadecimal 53 54 and, of the wide form, 53 55, low byte first (question 3)
+abbrev pub old-mark : ℕ
+old-mark = 0x5453
 
--- bytes of a record and of the trailer (question 4)
-abbrev pub record-size : ℕ
-record-size = 8
+abbrev pub wide-mark : ℕ
+wide-mark = 0x5553
+
+-- bytes of a record, in either form, and of the trailer (question 4)
+abbrev pub old-size : ℕ
+old-size = 8
+
+abbrev pub wide-size : ℕ
+wide-size = 10
 
 abbrev pub trailer-size : ℕ
 trailer-size = 8

@@ -7,7 +7,8 @@ use lib.ListN.{length, getD}
 use lib.Dec.{eqb, leb, ltb}
 use lib.IntN.{ℤ, pos}
 use Rattle.whole.specs.Range.{within}
-use Rattle.plan.specs.Limits.{between, most-cells, most-width, most-depth, most-level, last-row, most-allowance, farthest, scratch-size, listing-size, least-file, most-file, file-mark, record-size, trailer-size, first-letter, last-letter, most-label, no-parent}
+use Rattle.plan.specs.Limits.{between, most-cells, most-width, most-depth, most-level, last-row, most-allowance, farthest, scratch-size, listing-size, least-file, most-file, trailer-size, first-letter, last-letter, most-label, no-parent}
+use Rattle.plan.specs.Forms.{marked, form-of, record-size, widest}
 use Rattle.plan.specs.Lists.{from, mem}
 use Rattle.plan.specs.Plan.{Table, parent, kind, W, D, children, level, row}
 use Rattle.plan.specs.Kinds.{known, allows, bordered}
@@ -40,8 +41,9 @@ pub record File : Type 0 where
   -- the place where the records begin, and the bytes before it
   pub begin : ℕ
   pub letters : List ℕ
-  -- of each record
+  -- of each record: its label, and the byte that the wide form has for nothing yet
   pub labels : List Label
+  pub spares : List ℕ
 
 -- a table lent, or a table in a file
 pub data Source : Type 0 where
@@ -166,9 +168,13 @@ unfoldable pub lower : ℕ → ℕ → Bool
 lower zero p = eqb p no-parent
 lower (suc m) p = ltb p (suc m)
 
--- question 8
-unfoldable pub sized : (width depth : ℕ) → Bool
-sized w d = between 1 most-width w && between 1 most-depth d
+-- question 8: the greatest W, which in a file its form gives; is a box sized
+unfoldable pub widest-in : Source → ℕ
+widest-in lent = most-width
+widest-in (file f) = widest (form-of (f .mark))
+
+unfoldable pub sized : (most width depth : ℕ) → Bool
+sized m w d = between 1 m w && between 1 most-depth d
 
 -- question 15, for one number
 unfoldable pub near : ℤ → Bool
@@ -191,15 +197,16 @@ module _ (call : Call) (g : Given) where
   unfoldable pub holds : Question → ℕ → Bool
   holds buffers-long c = all-roomy (g .buffers)
   holds file-sized c = in-file (g .source) (λ f. between least-file most-file (f .size))
-  holds file-marked c = in-file (g .source) (λ f. eqb (f .mark) file-mark)
+  holds file-marked c = in-file (g .source) (λ f. marked (f .mark))
   holds cells-counted c =
       between 1 most-cells (length (g .table))
-      && in-file (g .source) (λ f. eqb (f .begin + record-size * length (g .table) + trailer-size) (f .size))
+      && in-file (g .source) (λ f. eqb (f .begin + record-size (form-of (f .mark)) * length (g .table) + trailer-size) (f .size))
   holds positions-long c = enough (g .positions) (2 * length (g .table))
   holds letters-printable c = in-file (g .source) (λ f. every (between first-letter last-letter) (f .letters))
   holds parent-lower c = lower c (parent (g .table) c)
   holds kind-known c = known (kind (g .table) c)
-  holds box-sized c = sized (W (g .table) c) (D (g .table) c)
+  holds box-sized c =
+      sized (widest-in (g .source)) (W (g .table) c) (D (g .table) c) && in-file (g .source) (λ f. eqb (getD (f .spares) c 0) 0)
   holds label-inside c =
       in-file (g .source) (λ f. leb (label-of f c .size) most-label && leb (label-of f c .start + label-of f c .size) (f .begin))
   holds label-fits c = in-file (g .source) (λ f. bordered (kind (g .table) c) (label-of f c .size) (W (g .table) c))

@@ -6,6 +6,7 @@ use Prim.Native.Nat.{ℕ, zero, suc, _*_, _≤_, _<_}
 use native.Mathlib.Omega.{arith}
 use lib.Dec.{T, leb, ltb→lt, leb→le}
 use lib.ListN.{length, getD}
+use Rattle.whole.specs.Says.{both, says-le}
 use Rattle.plan.specs.Questions.{lower, sized, asked, or-else, at-each}
 use Rattle.plan.specs.Limits.{between, most-cells, most-width, most-depth}
 use Rattle.plan.specs.Kinds.{known}
@@ -44,14 +45,14 @@ lower-read zero p h t = absurd (omega arith)
 lower-read (suc m) p h t = ltb→lt p (suc m) t
 
 -- the answers at one cell, if none is no
-pub record Passed (c p k w d : ℕ) : Type 0 where
+pub record Passed (m c p k w d : ℕ) : Type 0 where
   pub is-lower : T (lower c p)
   pub is-known : T (known k)
-  pub is-sized : T (sized w d)
+  pub is-sized : T (sized m w d)
 
-pub cell-passed : (c p k w d : ℕ) → cell-refusal c p k w d .number ≡ 0 → Passed c p k w d
+pub cell-passed : (m c p k w d : ℕ) → cell-refusal m c p k w d .number ≡ 0 → Passed m c p k w d
 unfolding cell-refusal
-cell-passed c p k w d e =
+cell-passed m c p k w d e =
     let (x, r) = both-none (asked 6 (lower c p) c) _ e in
     let (y, z) = both-none (asked 7 (known k) c) _ r in
     record { is-lower = asked-yes 5 _ c x; is-known = asked-yes 6 _ c y; is-sized = asked-yes 7 _ c z }
@@ -64,23 +65,30 @@ pub and-right : (a b : Bool) → T (a && b) → T b
 and-right true b h = h
 and-right false b h = absurd h
 
-pub sized-deep : (w d : ℕ) → T (sized w d) → (1 ≤ d) × (d ≤ most-depth)
+pub sized-deep : (m w d : ℕ) → T (sized m w d) → (1 ≤ d) × (d ≤ most-depth)
 unfolding sized
-sized-deep w d h = let k = and-right (between 1 most-width w) _ h in (leb→le 1 d (and-left (leb 1 d) _ k), leb→le d most-depth (and-right (leb 1 d) _ k))
+sized-deep m w d h = let k = and-right (between 1 m w) _ h in (leb→le 1 d (and-left (leb 1 d) _ k), leb→le d most-depth (and-right (leb 1 d) _ k))
 
-pub sized-wide : (w d : ℕ) → T (sized w d) → (1 ≤ w) × (w ≤ most-width)
+pub sized-wide : (m w d : ℕ) → T (sized m w d) → (1 ≤ w) × (w ≤ m)
 unfolding sized
-sized-wide w d h = let k = and-left (between 1 most-width w) _ h in (leb→le 1 w (and-left (leb 1 w) _ k), leb→le w most-width (and-right (leb 1 w) _ k))
+sized-wide m w d h = let k = and-left (between 1 m w) _ h in (leb→le 1 w (and-left (leb 1 w) _ k), leb→le w m (and-right (leb 1 w) _ k))
+
+-- a wider limit passes what a narrower one does
+pub sized-within : (m k w d : ℕ) → m ≤ k → T (sized m w d) → T (sized k w d)
+unfolding sized
+sized-within m k w d l h =
+    let (a, b) = sized-wide m w d h in
+    both (both (says-le 1 w) (says-le w k)) (both (says-le 1 d) (says-le d most-depth)) .show ((a, omega arith), sized-deep m w d h)
 
 module _ (ps ks ws ds : List ℕ) (n : ℕ) (e : cells-refusal (table ps ks ws ds n) .number ≡ 0) where
-  at-cell : (c : ℕ) → c < n → Passed c (getD ps c 0) (getD ks c 0) (getD ws c 0) (getD ds c 0)
-  at-cell c h = cell-passed c _ _ _ _ (each-none (cells-at ps ks ws ds) n (ap (λ (r : Refusal). r .number) (sym (cells-columns ps ks ws ds n)) ∙ e) c h)
+  at-cell : (c : ℕ) → c < n → Passed most-width c (getD ps c 0) (getD ks c 0) (getD ws c 0) (getD ds c 0)
+  at-cell c h = cell-passed most-width c _ _ _ _ (each-none (cells-at ps ks ws ds) n (ap (λ (r : Refusal). r .number) (sym (cells-columns ps ks ws ds n)) ∙ e) c h)
 
-  pub cells-lower : 1 ≤ n → n ≤ 256 → Lower ps n
+  pub cells-lower : 1 ≤ n → n ≤ most-cells → Lower ps n
   cells-lower a b = record { some = a; few = b; lower = λ c p h. lower-read c (getD ps c 0) p (at-cell c h .is-lower) }
 
   pub cells-flat : Flat ds n
-  cells-flat = record { flat = λ c h. sized-deep (getD ws c 0) (getD ds c 0) (at-cell c h .is-sized) .1 }
+  cells-flat = record { flat = λ c h. sized-deep most-width (getD ws c 0) (getD ds c 0) (at-cell c h .is-sized) .1 }
 
 pub rows-short : (ps ks ws ds rs : List ℕ) (n : ℕ) → Lower ps n → Flat ds n → Column rs n (row (table ps ks ws ds n)) → Short rs n
 rows-short ps ks ws ds rs n low flat col = record { short = λ c h. rw (col .each c h) (omega (arith, row-small ps ks ws ds n low flat c h, low .few)) }

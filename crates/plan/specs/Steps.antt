@@ -6,19 +6,19 @@ use Prim.Native.Nat.{ℕ, _+_, _*_}
 use lib.Dec.{leb}
 use lib.ListN.{length, getD}
 use lib.IntN.{ℤ, pos}
-use Rattle.plan.specs.Limits.{between, most-cells, most-level, last-row}
+use Rattle.plan.specs.Limits.{between, most-cells, most-width, most-level, last-row}
 use Rattle.plan.specs.Plan.{Table, parent, kind, W, D, children, level, row}
 use Rattle.plan.specs.Kinds.{known, allows}
 use Rattle.plan.specs.Questions.{lower, sized, near, asked, or-else, at-each}
 use Rattle.plan.specs.declared.Refusal.{Refusal}
 
--- questions 6 to 8 at one cell
-unfoldable pub cell-refusal : (c p k w d : ℕ) → Refusal
-cell-refusal c p k w d = or-else (asked 6 (lower c p) c) (or-else (asked 7 (known k) c) (asked 8 (sized w d) c))
+-- questions 6 to 8 at one cell, of a width of at most m
+unfoldable pub cell-refusal : (m c p k w d : ℕ) → Refusal
+cell-refusal m c p k w d = or-else (asked 6 (lower c p) c) (or-else (asked 7 (known k) c) (asked 8 (sized m w d) c))
 
 -- questions 6 to 8, 11, 12 and 13 of a table
 unfoldable pub cells-refusal : Table → Refusal
-cells-refusal t = at-each (λ c. cell-refusal c (parent t c) (kind t c) (W t c) (D t c)) 0 (length t)
+cells-refusal t = at-each (λ c. cell-refusal most-width c (parent t c) (kind t c) (W t c) (D t c)) 0 (length t)
 
 unfoldable pub children-refusal : Table → Refusal
 children-refusal t = at-each (λ c. asked 11 (allows (kind t c) (length (children t c))) c) 0 (length t)
@@ -54,7 +54,7 @@ near-refusal ps n = at-each (near-at ps) 0 n
 
 -- the questions of a table at one cell, from columns
 abbrev pub cells-at : (ps ks ws ds : List ℕ) (c : ℕ) → Refusal
-cells-at ps ks ws ds c = cell-refusal c (getD ps c 0) (getD ks c 0) (getD ws c 0) (getD ds c 0)
+cells-at ps ks ws ds c = cell-refusal most-width c (getD ps c 0) (getD ks c 0) (getD ws c 0) (getD ds c 0)
 
 abbrev pub children-at : (kinds counts : List ℕ) (c : ℕ) → Refusal
 children-at ks ns c = asked 11 (allows (getD ks c 0) (getD ns c 0)) c

@@ -3,6 +3,7 @@ use mathlib.Core.Path.{_≡_, sym, _∙_}
 use Prim.Native.Nat.{ℕ, _≤_, _<_}
 use native.Mathlib.Omega.{arith}
 use lib.ListN.{length, getD}
+use Rattle.plan.specs.Limits.{most-cells}
 use Rattle.plan.specs.declared.Columns.{Columns}
 use Rattle.plan.specs.Plan.{parent, kind, W, D}
 use Rattle.plan.specs.PlanLaws.{Child}
@@ -30,7 +31,7 @@ module _ (t : Columns) where
     pub count-some : 1 ≤ t .count
     count-some = omega (arith, fit .some-cell, length-is)
 
-    pub count-few : t .count ≤ 256
+    pub count-few : t .count ≤ most-cells
     count-few = omega (arith, fit .not-too-many, length-is)
 
     pub parent-lower : (c : ℕ) → 1 ≤ c → c < t .count → getD (t .parent) c 0 < c

@@ -13,7 +13,7 @@ use lib.Dec.{eqb}
 use borrow.Author.Tests.{eq-eqb, ne-eqb}
 use Rattle.plan.specs.Lists.{from, keep}
 use Rattle.plan.specs.Plan.{Table, Is, Sound, parent, D, children, path, level, row}
-use Rattle.plan.specs.Limits.{most-depth}
+use Rattle.plan.specs.Limits.{most-depth, most-cells}
 use Rattle.plan.specs.Paths.{lower, from-parents, path-zero, path-suc, row-suc}
 use Rattle.plan.specs.Columns.{table}
 use Rattle.plan.specs.ColumnLaws.{table-length, parent-at, depth-at}
@@ -21,10 +21,10 @@ use Rattle.plan.specs.ColumnLaws.{table-length, parent-at, depth-at}
 -- n cells, 1 to 256, whose parents are lower
 pub record Lower (ps : List ℕ) (n : ℕ) : Type 0 where
   pub some : 1 ≤ n
-  pub few : n ≤ 256
+  pub few : n ≤ most-cells
   pub lower : (c : ℕ) → 1 ≤ c → c < n → getD ps c 0 < c
 
-pub parent-few : {ps : List ℕ} {n c : ℕ} → Lower ps n → 1 ≤ c → c < n → getD ps c 0 < 256
+pub parent-few : {ps : List ℕ} {n c : ℕ} → Lower ps n → 1 ≤ c → c < n → getD ps c 0 < most-cells
 parent-few {ps} {n} {c} h b l = omega (arith, h .lower c b l, h .few)
 
 -- n depths that question 8 passes
@@ -37,7 +37,7 @@ pub record Short (rs : List ℕ) (n : ℕ) : Type 0 where
 
 -- a column of 256 numbers whose first n are those of f
 pub record Column (xs : List ℕ) (n : ℕ) (f : ℕ → ℕ) : Type 0 where
-  pub long : length xs ≡ 256
+  pub long : length xs ≡ most-cells
   pub each : (c : ℕ) → c < n → getD xs c 0 ≡ f c
 
 pub lower-sound : (ps ks ws ds : List ℕ) (n : ℕ) → Lower ps n → Sound (table ps ks ws ds n)
@@ -92,8 +92,8 @@ seen-children ps ks ws ds n f =
     (λ s p q. ap (λ (x : ℕ). eqb x f) (parent-at ps ks ws ds n s (omega arith)))))
 
 -- one cell more is counted
-module _ (ps xs : List ℕ) (n c : ℕ) (h : Lower ps n) (p : 1 ≤ c) (l : c < n) (long : length xs ≡ 256) (so : (f : ℕ) → f < 256 → getD xs f 0 ≡ seen ps (c - 1) f) where
-  pub seen-more : (f : ℕ) → f < 256 → getD (set xs (getD ps c 0) (getD xs (getD ps c 0) 0 + 1)) f 0 ≡ seen ps (c + 1 - 1) f
+module _ (ps xs : List ℕ) (n c : ℕ) (h : Lower ps n) (p : 1 ≤ c) (l : c < n) (long : length xs ≡ most-cells) (so : (f : ℕ) → f < most-cells → getD xs f 0 ≡ seen ps (c - 1) f) where
+  pub seen-more : (f : ℕ) → f < most-cells → getD (set xs (getD ps c 0) (getD xs (getD ps c 0) 0 + 1)) f 0 ≡ seen ps (c + 1 - 1) f
   unfolding seen
   seen-more f g = go c refl (ℕ-discrete (getD ps c 0) f)
     where
@@ -131,7 +131,7 @@ module _ (t : Table) (sound : Sound t) where
       (λ m g i. let j : Is t (parent t (suc m)) = omega (arith, lower t sound m) in omega (arith, row-suc t sound m, lower t sound m, g j, flat (parent t (suc m)) j))
 
 -- a column that grows from parents to children: the value at a cell is made of its parent's
-module _ (ps xs : List ℕ) (n c : ℕ) (h : Lower ps n) (p : 1 ≤ c) (l : c < n) (long : length xs ≡ 256) (f : ℕ → ℕ) (so : (x : ℕ) → x < c → getD xs x 0 ≡ f x) where
+module _ (ps xs : List ℕ) (n c : ℕ) (h : Lower ps n) (p : 1 ≤ c) (l : c < n) (long : length xs ≡ most-cells) (f : ℕ → ℕ) (so : (x : ℕ) → x < c → getD xs x 0 ≡ f x) where
   pub parent-so : getD xs (getD ps c 0) 0 ≡ f (getD ps c 0)
   parent-so = so (getD ps c 0) (h .lower c p l)
 
@@ -163,7 +163,7 @@ module _ (ps ks ws ds : List ℕ) (n : ℕ) (h : Lower ps n) where
       let g : getD ps (suc m) 0 < n = omega (arith, h .lower (suc m) p l) in
       row-suc (table ps ks ws ds n) (lower-sound ps ks ws ds n h) m ∙ rw (parent-at ps ks ws ds n (suc m) l, depth-at ps ks ws ds n (getD ps (suc m) 0) g) (omega arith)
 
-  module _ (xs : List ℕ) (c : ℕ) (b : 1 ≤ c) (l : c < n) (long : length xs ≡ 256) where
+  module _ (xs : List ℕ) (c : ℕ) (b : 1 ≤ c) (l : c < n) (long : length xs ≡ most-cells) where
     pub level-value : ((x : ℕ) → x < c → getD xs x 0 ≡ level (table ps ks ws ds n) x) → getD xs (getD ps c 0) 0 + 1 ≡ level (table ps ks ws ds n) c
     level-value so = rw (parent-so ps xs n c h b l long (level (table ps ks ws ds n)) so) (sym (level-next c b l))
 

@@ -1,4 +1,7 @@
 // The table of a plan as the code has it, and the questions put to it.
+use crate::limits::MOST_CELLS;
+
+pub mod forms;
 pub mod kinds;
 pub mod limits;
 pub mod questions;
@@ -19,10 +22,10 @@ pub struct Record {
 // A table of more than 256 records has its count here, and no numbers: question 4 refuses it.
 pub struct Columns {
     pub count: usize,
-    pub parent: [u16; 256],
-    pub kind: [u8; 256],
-    pub width: [u16; 256],
-    pub depth: [u8; 256],
+    pub parent: [u16; MOST_CELLS],
+    pub kind: [u8; MOST_CELLS],
+    pub width: [u16; MOST_CELLS],
+    pub depth: [u8; MOST_CELLS],
 }
 
 // A question's number and the lowest cell at fault; 0 and 0 where nothing is refused.

@@ -5,8 +5,10 @@ ghost use Rattle.plan.specs.Limits.{between};
 // Cells of a table (question 4).
 pub const MOST_CELLS: usize = 256;
 
-// W and D of a box (question 8).
-pub const MOST_WIDTH: u16 = 255;
+// W and D of a box (question 8): W in the old form of the file, and in the wide one and in tables.
+pub const OLD_WIDTH: u16 = 255;
+
+pub const MOST_WIDTH: u16 = 1023;
 
 pub const MOST_DEPTH: u16 = 15;
 
@@ -21,7 +23,7 @@ pub const LAST_ROW: u16 = 255;
 // The allowance (14), and a coordinate, either way (15).
 pub const MOST_ALLOWANCE: u32 = 65535;
 
-pub const FARTHEST: u32 = 65535;
+pub const FARTHEST: u32 = 262143;
 
 // Numbers of 32 bits in Layout's scratch (1).
 pub const SCRATCH_SIZE: usize = 16384;
@@ -32,16 +34,20 @@ pub const LISTING_SIZE: usize = 17408;
 // The parent of the root (6).
 pub const NO_PARENT: u16 = 65535;
 
-// Bytes of a file (2), of a record and of the trailer (4), and the mark, low byte first (3).
+// Bytes of a file (2), of a record in either form and of the trailer (4), and the marks, low byte first (3).
 pub const LEAST_FILE: usize = 16;
 
 pub const MOST_FILE: usize = 16384;
 
-pub const RECORD_SIZE: usize = 8;
+pub const OLD_SIZE: usize = 8;
+
+pub const WIDE_SIZE: usize = 10;
 
 pub const TRAILER_SIZE: usize = 8;
 
-pub const FILE_MARK: u16 = 0x5453;
+pub const OLD_MARK: u16 = 0x5453;
+
+pub const WIDE_MARK: u16 = 0x5553;
 
 // A label's bytes (5) and length (9).
 pub const FIRST_LETTER: u8 = 32;

@@ -16,7 +16,7 @@ use whole::within;
 ghost use mathlib.Core.Path.{_≡_};
 ghost use mathlib.Core.List.{List};
 ghost use mathlib.Core.Bool.{Bool, true, false, _&&_};
-ghost use Prim.Native.Nat.{ℕ, _+_, _*_, _≤_, _<_};
+ghost use Prim.Native.Nat.{ℕ, _+_, _*_, _^_, _≤_, _<_};
 ghost use lib.Dec.{leb};
 ghost use lib.ListN.{length, getD};
 ghost use lib.IntN.{pos};
@@ -28,7 +28,7 @@ ghost use Rattle.plan.specs.Steps.{«cell-refusal», «cells-refusal», 
 
 // Question `number` at a cell, answered.
 pub fn asked(number: u8, yes: bool, cell: usize) -> Refusal
-    requires { ⌜ cell < 65536 ⌝ }
+    requires { ⌜ cell < 2 ^ 16 ⌝ }
     ensures { λ r. ⌜ r ≡ asked number yes cell ⌝ }
 {
     if yes {
@@ -61,10 +61,10 @@ fn lower(cell: usize, parent: u16) -> bool
 }
 
 // Question 8.
-fn sized(width: u16, depth: u8) -> bool
-    ensures { λ r. ⌜ r ≡ sized width depth ⌝ }
+fn sized(most: u16, width: u16, depth: u8) -> bool
+    ensures { λ r. ⌜ r ≡ sized most width depth ⌝ }
 {
-    if !between(1, MOST_WIDTH, width) {
+    if !between(1, most, width) {
         return false;
     }
     between(1, MOST_DEPTH, depth as u16)
@@ -84,13 +84,13 @@ fn box_bottom(row: u16, depth: u8) -> u16
     row + (depth as u16)
 }
 
-// Questions 6 to 8 at one cell.
-pub fn cell_refusal(cell: usize, parent: u16, kind: u8, width: u16, depth: u8) -> Refusal
-    requires { ⌜ cell < 65536 ⌝ }
-    ensures { λ r. ⌜ r ≡ cell-refusal cell parent kind width depth ⌝ }
+// Questions 6 to 8 at one cell, of a width of at most `most`.
+pub fn cell_refusal(most: u16, cell: usize, parent: u16, kind: u8, width: u16, depth: u8) -> Refusal
+    requires { ⌜ cell < 2 ^ 16 ⌝ }
+    ensures { λ r. ⌜ r ≡ cell-refusal most cell parent kind width depth ⌝ }
 {
     let known_kind = asked(7, known(kind), cell);
-    let box_size = asked(8, sized(width, depth), cell);
+    let box_size = asked(8, sized(most, width, depth), cell);
     or_else(
         asked(6, lower(cell, parent), cell),
         or_else(known_kind, box_size),
@@ -99,18 +99,18 @@ pub fn cell_refusal(cell: usize, parent: u16, kind: u8, width: u16, depth: u8) -
 
 // Questions 6 to 8, cell by cell.
 pub fn cells_refusal(
-    parents: &[u16; 256],
-    kinds: &[u8; 256],
-    widths: &[u16; 256],
-    depths: &[u8; 256],
+    parents: &[u16; MOST_CELLS],
+    kinds: &[u8; MOST_CELLS],
+    widths: &[u16; MOST_CELLS],
+    depths: &[u8; MOST_CELLS],
     n: usize,
 ) -> Refusal
-    requires { ⌜ n ≤ 256 ⌝ }
+    requires { ⌜ n ≤ most-cells ⌝ }
     ensures { λ r. ⌜ r ≡ cells-refusal (table (now (parents .entry)) (now (kinds .entry)) (now (widths .entry)) (now (depths .entry)) n) ⌝ }
 {
     let mut c = 0;
     while c < n {
-        let r = cell_refusal(c, parents[c], kinds[c], widths[c], depths[c]);
+        let r = cell_refusal(MOST_WIDTH, c, parents[c], kinds[c], widths[c], depths[c]);
         if r.number != 0 {
             return r;
         }
@@ -120,8 +120,8 @@ pub fn cells_refusal(
 }
 
 // Question 11, from the numbers of children.
-fn children_refusal(kinds: &[u8; 256], counts: &[u16; 256], n: usize) -> Refusal
-    requires { ⌜ n ≤ 256 ⌝ }
+fn children_refusal(kinds: &[u8; MOST_CELLS], counts: &[u16; MOST_CELLS], n: usize) -> Refusal
+    requires { ⌜ n ≤ most-cells ⌝ }
     ensures { λ r. ⌜ r ≡ at-each (children-at (now (kinds .entry)) (now (counts .entry))) 0 n ⌝ }
 {
     let mut c = 0;
@@ -136,8 +136,8 @@ fn children_refusal(kinds: &[u8; 256], counts: &[u16; 256], n: usize) -> Refusal
 }
 
 // Question 12, from the levels.
-fn levels_refusal(levels: &[u16; 256], n: usize) -> Refusal
-    requires { ⌜ n ≤ 256 ⌝ }
+fn levels_refusal(levels: &[u16; MOST_CELLS], n: usize) -> Refusal
+    requires { ⌜ n ≤ most-cells ⌝ }
     ensures { λ r. ⌜ r ≡ at-each (levels-at (now (levels .entry))) 0 n ⌝ }
 {
     let mut c = 0;
@@ -152,8 +152,8 @@ fn levels_refusal(levels: &[u16; 256], n: usize) -> Refusal
 }
 
 // Question 13, from the rows.
-fn rows_refusal(rows: &[u16; 256], depths: &[u8; 256], n: usize) -> Refusal
-    requires { ⌜ (n ≤ 256) × Short (now rows) n ⌝ }
+fn rows_refusal(rows: &[u16; MOST_CELLS], depths: &[u8; MOST_CELLS], n: usize) -> Refusal
+    requires { ⌜ (n ≤ most-cells) × Short (now rows) n ⌝ }
     ensures { λ r. ⌜ r ≡ at-each (rows-at (now (rows .entry)) (now (depths .entry))) 0 n ⌝ }
 {
     let mut c = 0;
@@ -169,18 +169,18 @@ fn rows_refusal(rows: &[u16; 256], depths: &[u8; 256], n: usize) -> Refusal
 
 // Questions 11 to 13, put to cells that 6 to 8 have passed.
 pub fn tree_refusal<'a>(
-    parents: &'a [u16; 256],
-    kinds: &'a [u8; 256],
-    depths: &'a [u8; 256],
+    parents: &'a [u16; MOST_CELLS],
+    kinds: &'a [u8; MOST_CELLS],
+    depths: &'a [u8; MOST_CELLS],
     n: usize,
 ) -> Refusal
     requires { ⌜ Lower (now parents) n ⌝ }
     requires { ⌜ Flat (now depths) n ⌝ }
     ensures { λ r. ⌜ ((ws : List ℕ) → r ≡ tree-refusal (table (now (parents .entry)) (now (kinds .entry)) ws (now (depths .entry)) n)) ⌝ }
 {
-    let mut counts = [0u16; 256];
-    let mut levels = [0u16; 256];
-    let mut rows = [0u16; 256];
+    let mut counts = [0u16; MOST_CELLS];
+    let mut levels = [0u16; MOST_CELLS];
+    let mut rows = [0u16; MOST_CELLS];
     survey(parents, depths, n, &mut counts, &mut levels, &mut rows);
     let at_children = children_refusal(kinds, &counts, n);
     if at_children.number != 0 {
@@ -195,13 +195,13 @@ pub fn tree_refusal<'a>(
 
 // Questions 6 to 8 and 11 to 13.
 fn table_refusal<'a>(
-    parents: &'a [u16; 256],
-    kinds: &'a [u8; 256],
-    widths: &'a [u16; 256],
-    depths: &'a [u8; 256],
+    parents: &'a [u16; MOST_CELLS],
+    kinds: &'a [u8; MOST_CELLS],
+    widths: &'a [u16; MOST_CELLS],
+    depths: &'a [u8; MOST_CELLS],
     n: usize,
 ) -> Refusal
-    requires { ⌜ (1 ≤ n) × (n ≤ 256) ⌝ }
+    requires { ⌜ (1 ≤ n) × (n ≤ most-cells) ⌝ }
     ensures { λ r. ⌜ r ≡ table-refusal (table (now (parents .entry)) (now (kinds .entry)) (now (widths .entry)) (now (depths .entry)) n) ⌝ }
 {
     let at_cells = cells_refusal(parents, kinds, widths, depths, n);
@@ -223,10 +223,10 @@ fn counted(n: usize) -> bool
 
 // Questions 4, 6 to 8 and 11 to 13, put to a lent table by a call without positions.
 pub fn counted_refusal<'a>(
-    parents: &'a [u16; 256],
-    kinds: &'a [u8; 256],
-    widths: &'a [u16; 256],
-    depths: &'a [u8; 256],
+    parents: &'a [u16; MOST_CELLS],
+    kinds: &'a [u8; MOST_CELLS],
+    widths: &'a [u16; MOST_CELLS],
+    depths: &'a [u8; MOST_CELLS],
     n: usize,
 ) -> Refusal
     ensures { λ r. ⌜ r ≡ counted-refusal (table (now (parents .entry)) (now (kinds .entry)) (now (widths .entry)) (now (depths .entry)) n) ⌝ }
@@ -241,10 +241,10 @@ pub fn counted_refusal<'a>(
 // Questions 4, 1 (of so many positions), 6 to 8 and 11 to 13, put to a lent table.
 // One lifetime, so that a caller can lend the fields of its columns.
 pub fn lent_refusal<'a>(
-    parents: &'a [u16; 256],
-    kinds: &'a [u8; 256],
-    widths: &'a [u16; 256],
-    depths: &'a [u8; 256],
+    parents: &'a [u16; MOST_CELLS],
+    kinds: &'a [u8; MOST_CELLS],
+    widths: &'a [u16; MOST_CELLS],
+    depths: &'a [u8; MOST_CELLS],
     n: usize,
     positions: usize,
 ) -> Refusal
@@ -278,7 +278,7 @@ fn near(positions: &[i32], i: usize) -> bool
 
 // The same for both of a cell.
 fn both_near(positions: &[i32], c: usize) -> bool
-    requires { ⌜ (2 * c + 1 < length (now positions)) × (c < 256) ⌝ }
+    requires { ⌜ (2 * c + 1 < length (now positions)) × (c < most-cells) ⌝ }
     ensures { λ r. ⌜ r ≡ (near (getD (now (positions .entry)) (2 * c) (pos 0)) && near (getD (now (positions .entry)) (2 * c + 1) (pos 0))) ⌝ }
 {
     if !near(positions, 2 * c) {
@@ -289,7 +289,7 @@ fn both_near(positions: &[i32], c: usize) -> bool
 
 // Question 15, cell by cell.
 pub fn near_refusal(positions: &[i32], n: usize) -> Refusal
-    requires { ⌜ (n ≤ 256) × (2 * n ≤ length (now positions)) ⌝ }
+    requires { ⌜ (n ≤ most-cells) × (2 * n ≤ length (now positions)) ⌝ }
     ensures { λ r. ⌜ r ≡ near-refusal (now (positions .entry)) n ⌝ }
 {
     let mut c = 0;

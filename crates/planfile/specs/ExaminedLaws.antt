@@ -9,7 +9,8 @@ use lib.Dec.{T, eqb, leb, leb→le, eqb→eq}
 use lib.ListN.{length, getD, set, length-set, length-replicate}
 use lib.Seq.{getD-set-same, getD-set-other}
 use borrow.Author.Tests.{eq-eqb, ne-eqb}
-use Rattle.plan.specs.Limits.{between, most-cells, most-allowance, least-file, most-file, file-mark, record-size, trailer-size}
+use Rattle.plan.specs.Limits.{between, most-cells, most-allowance, least-file, most-file, trailer-size}
+use Rattle.plan.specs.Forms.{marked, form-of, record-size, widest}
 use Rattle.plan.specs.Lists.{from}
 use Rattle.plan.specs.Plan.{Cell, Table}
 use Rattle.plan.specs.Records.{bare, cells-of}
@@ -21,9 +22,10 @@ use Rattle.plan.specs.StepLaws.{Passed, cell-passed, lower-read, sized-deep, an
 use Rattle.plan.specs.Trees.{Lower, Flat}
 use Rattle.plan.specs.declared.Record.{Record}
 use Rattle.plan.specs.declared.Refusal.{Refusal}
+use Rattle.plan.specs.declared.forms.Form.{Form}
 use Rattle.planfile.specs.declared.Reading.{Reading}
 use Rattle.planfile.specs.declared.Trailer.{Trailer}
-use Rattle.planfile.specs.Format.{trailer-of, record-at, entry, records-of}
+use Rattle.planfile.specs.Format.{trailer-of, form, record-at, entry, spare, records-of}
 use Rattle.planfile.specs.Reading.{column, columns-of}
 use Rattle.planfile.specs.FormatLaws.{column-more}
 use Rattle.planfile.specs.FileSteps.{inside, counted, record-refusal, entry-refusal, records-at, columns-refusal, blank-reading, header-refusal, body-refusal, file-refusal, examined}
@@ -36,14 +38,14 @@ pub sized-read : (size : ℕ) (r : Refusal) → r ≡ asked 2 (between least-fil
 sized-read size r e z = leb→le least-file size (and-left (leb least-file size) _ (asked-yes 1 _ 0 (zero-of r _ e z)))
 
 -- n records from begin on, up to the trailer
-pub record Full (size begin n : ℕ) : Type 0 where
+pub record Full (form : Form) (size begin n : ℕ) : Type 0 where
   pub some : 1 ≤ n
   pub few : n ≤ most-cells
-  pub exact : begin + record-size * n + trailer-size ≡ size
+  pub exact : begin + record-size form * n + trailer-size ≡ size
 
-pub full-read : (size begin n : ℕ) (r : Refusal) → r ≡ asked 4 (counted size begin n) 0 → r .number ≡ 0 → Full size begin n
-full-read size begin n r e z =
-    let h = asked-yes 3 (counted size begin n) 0 (zero-of r _ e z) in
+pub full-read : (form : Form) (size begin n : ℕ) (r : Refusal) → r ≡ asked 4 (counted form size begin n) 0 → r .number ≡ 0 → Full form size begin n
+full-read form size begin n r e z =
+    let h = asked-yes 3 (counted form size begin n) 0 (zero-of r _ e z) in
     let k = and-left (between 1 most-cells n) _ h in
     record {
       some = leb→le 1 n (and-left (leb 1 n) _ k);
@@ -53,38 +55,38 @@ full-read size begin n r e z =
 
 pub record Headed (f : List ℕ) : Type 0 where
   pub long : least-file ≤ length f
-  pub full : Full (length f) (trailer-of f .begin) (trailer-of f .count)
+  pub full : Full (form f) (length f) (trailer-of f .begin) (trailer-of f .count)
 
 pub header-read : (f : List ℕ) → header-refusal f .number ≡ 0 → Headed f
 unfolding header-refusal
 header-read f e =
     let (a, r) = both-none (asked 2 (between least-file most-file (length f)) 0) _ e in
-    let (b, s) = both-none (asked 3 (eqb (trailer-of f .mark) file-mark) 0) _ r in
-    let (c, d) = both-none (asked 4 (counted (length f) (trailer-of f .begin) (trailer-of f .count)) 0) _ s in
-    record { long = sized-read (length f) _ refl a; full = full-read (length f) _ _ _ refl c }
+    let (b, s) = both-none (asked 3 (marked (trailer-of f .mark)) 0) _ r in
+    let (c, d) = both-none (asked 4 (counted (form f) (length f) (trailer-of f .begin) (trailer-of f .count)) 0) _ s in
+    record { long = sized-read (length f) _ refl a; full = full-read (form f) (length f) _ _ _ refl c }
 
 -- ---- questions 6 to 10, from columns
-record-passed : (begin c p k w d l s : ℕ) → record-refusal begin c p k w d l s .number ≡ 0 → Passed c p k w d
+record-passed : (form : Form) (begin c p k w d l s z : ℕ) → record-refusal form begin c p k w d l s z .number ≡ 0 → Passed (widest form) c p k w d
 unfolding record-refusal
-record-passed begin c p k w d l s e = cell-passed c p k w d (both-none (cell-refusal c p k w d) _ e .0)
+record-passed form begin c p k w d l s z e = cell-passed (widest form) c p k w d (both-none (cell-refusal (widest form) c p k w d) _ e .0)
 
-module _ (begin n : ℕ) (ps ks ws ds ls ss : List ℕ) (r : Refusal) (e : r ≡ at-each (records-at begin ps ks ws ds ls ss) 0 n) (z : r .number ≡ 0) where
-  passed : (c : ℕ) → c < n → Passed c (getD ps c 0) (getD ks c 0) (getD ws c 0) (getD ds c 0)
-  passed c h = record-passed begin c _ _ _ _ (getD ls c 0) (getD ss c 0) (each-none (records-at begin ps ks ws ds ls ss) n (zero-of r _ e z) c h)
+module _ (form : Form) (f : List ℕ) (begin n : ℕ) (ps ks ws ds ls ss : List ℕ) (r : Refusal) (e : r ≡ at-each (records-at form f begin ps ks ws ds ls ss) 0 n) (z : r .number ≡ 0) where
+  passed : (c : ℕ) → c < n → Passed (widest form) c (getD ps c 0) (getD ks c 0) (getD ws c 0) (getD ds c 0)
+  passed c h = record-passed form begin c _ _ _ _ (getD ls c 0) (getD ss c 0) _ (each-none (records-at form f begin ps ks ws ds ls ss) n (zero-of r _ e z) c h)
 
-  pub records-lower : 1 ≤ n → n ≤ 256 → Lower ps n
+  pub records-lower : 1 ≤ n → n ≤ most-cells → Lower ps n
   records-lower a b = record { some = a; few = b; lower = λ c p h. lower-read c (getD ps c 0) p (passed c h .is-lower) }
 
   pub records-flat : Flat ds n
-  records-flat = record { flat = λ c h. sized-deep (getD ws c 0) (getD ds c 0) (passed c h .is-sized) .1 }
+  records-flat = record { flat = λ c h. sized-deep (widest form) (getD ws c 0) (getD ds c 0) (passed c h .is-sized) .1 }
 
 -- ---- the columns of a file
-column-length : (g : ℕ → ℕ) (n : ℕ) → length (column g n) ≡ 256
+column-length : (g : ℕ → ℕ) (n : ℕ) → length (column g n) ≡ most-cells
 unfolding column
-column-length g zero = length-replicate {A = ℕ} 256 0
+column-length g zero = length-replicate {A = ℕ} most-cells 0
 column-length g (suc n) = length-set (column g n) n (g n) ∙ column-length g n
 
-pub column-at : (g : ℕ → ℕ) (n c : ℕ) → n ≤ 256 → c < n → getD (column g n) c 0 ≡ g c
+pub column-at : (g : ℕ → ℕ) (n c : ℕ) → n ≤ most-cells → c < n → getD (column g n) c 0 ≡ g c
 unfolding column
 column-at g zero c h l = absurd (omega arith)
 column-at g (suc n) c h l = go (ℕ-discrete c n) (column-at g n c (omega arith))
@@ -105,7 +107,7 @@ module _ (f : List ℕ) (h : Headed f) where
   abbrev plan : Reading
   plan = columns-of none (trailer-of f .allowance) n (entry f)
 
-  few : n ≤ 256
+  few : n ≤ most-cells
   few = h .full .few
 
   pub same-table : table-of (plan .columns) ≡ cells-of (records-of f)
@@ -115,10 +117,10 @@ module _ (f : List ℕ) (h : Headed f) where
       let l : c < n = omega arith in
       rw (column-at (λ c. entry f c .parent) n c few l, column-at (λ c. entry f c .kind) n c few l, column-at (λ c. entry f c .width) n c few l, column-at (λ c. entry f c .depth) n c few l))
 
-  pub plan-refusal : columns-refusal plan (trailer-of f .begin) ≡ body-refusal f
-  unfolding columns-refusal body-refusal columns-of
+  pub plan-refusal : columns-refusal plan (form f) f (trailer-of f .begin) ≡ body-refusal f
+  unfolding columns-refusal body-refusal columns-of spare
   plan-refusal =
-      rw same-table (ap (λ (x : Refusal). or-else x (or-else (tree-refusal (cells-of (records-of f))) (asked 14 (leb (trailer-of f .allowance) most-allowance) 0))) (each-same _ (λ c. entry-refusal (trailer-of f .begin) c (entry f c)) n (λ c l.
+      rw same-table (ap (λ (x : Refusal). or-else x (or-else (tree-refusal (cells-of (records-of f))) (asked 14 (leb (trailer-of f .allowance) most-allowance) 0))) (each-same _ (entry-refusal f) n (λ c l.
       rw (column-at (λ c. entry f c .parent) n c few l, column-at (λ c. entry f c .kind) n c few l, column-at (λ c. entry f c .width) n c few l, column-at (λ c. entry f c .depth) n c few l, column-at (λ c. entry f c .«label_length») n c few l, column-at (λ c. entry f c .«label_start») n c few l))))
 
 -- ---- the answer of 2 to 14
@@ -133,19 +135,19 @@ module _ (f : List ℕ) (r : Refusal) (e : r ≡ file-refusal f) where
 
 -- ---- the same, as the code has it: the trailer and the plan in locals
 module _ (f : List ℕ) (h : header-refusal f .number ≡ 0) (t : Trailer) (e : t ≡ trailer-of f) where
-  pub room-read : (t .count ≤ 256) × (t .begin + 8 * t .count ≤ length f)
+  pub room-read : (t .count ≤ most-cells) × (t .begin + record-size (form-of (t .mark)) * t .count ≤ length f)
   room-read = let k = header-read f h .full in rw e (k .few, omega (arith, k .exact))
 
-  module _ (p : Reading) (q : p ≡ columns-of none (t .allowance) (t .count) (λ c. record-at f (t .begin + 8 * c))) where
+  module _ (p : Reading) (q : p ≡ columns-of none (t .allowance) (t .count) (λ c. record-at (form-of (t .mark)) f (t .begin + record-size (form-of (t .mark)) * c))) where
     plan-is : p ≡ columns-of none (trailer-of f .allowance) (trailer-of f .count) (entry f)
     unfolding entry
     plan-is = rw e at q
 
-    pub count-read : (1 ≤ p .columns .count) × (p .columns .count ≤ 256)
+    pub count-read : (1 ≤ p .columns .count) × (p .columns .count ≤ most-cells) × (t .begin + record-size (form-of (t .mark)) * p .columns .count ≤ length f)
     unfolding columns-of
-    count-read = let k = header-read f h .full in rw plan-is (k .some, k .few)
+    count-read = let k = header-read f h .full in rw (plan-is, e) (k .some, k .few, omega (arith, k .exact))
 
-    pub body-is : columns-refusal p (t .begin) ≡ body-refusal f
+    pub body-is : columns-refusal p (form-of (t .mark)) f (t .begin) ≡ body-refusal f
     body-is = rw (plan-is, e) (plan-refusal f (header-read f h))
 
     pub plan-examined : (r : Refusal) → r ≡ file-refusal f → r .number ≡ 0 → p ≡ examined f

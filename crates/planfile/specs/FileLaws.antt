@@ -7,18 +7,19 @@ use native.Mathlib.Omega.{arith}
 use lib.Dec.{eqb, leb, ltb}
 use native.Mathlib.Nat.{zero-add}
 use lib.ListN.{length, getD, take, length-map, List·getD-map}
-use Rattle.plan.specs.Limits.{between, most-cells, most-allowance, least-file, most-file, file-mark, first-letter, last-letter}
+use Rattle.plan.specs.Limits.{between, most-cells, most-allowance, least-file, most-file, first-letter, last-letter}
+use Rattle.plan.specs.Forms.{marked}
 use Rattle.plan.specs.Lists.{from, some, mem}
 use Rattle.plan.specs.Plan.{Cell, Table, blank, parent, kind, W, D}
 use Rattle.plan.specs.Records.{bare, cells-of}
-use Rattle.plan.specs.Questions.{Buffer, to-fill, Subject, nothing, named, Call, read, label, Given, Label, no-label, buffers-long, file-sized, file-marked, cells-counted, positions-long, letters-printable, parent-lower, kind-known, box-sized, label-inside, label-fits, children-allowed, level-low, rows-few, frame-wide, allowance-small, coordinates-near, cell-named, once, each, sequence, puts, root-too, number, enough, roomy, all-roomy, in-table, in-file, holds, none, asked, or-else, at-each, every, ask, ask-all, take-step, take-steps, refusal}
+use Rattle.plan.specs.Questions.{Buffer, to-fill, Subject, nothing, named, Call, read, label, Given, Label, no-label, buffers-long, file-sized, file-marked, cells-counted, positions-long, letters-printable, parent-lower, kind-known, box-sized, label-inside, label-fits, children-allowed, level-low, rows-few, frame-wide, allowance-small, coordinates-near, cell-named, once, each, sequence, puts, root-too, number, enough, roomy, all-roomy, in-table, in-file, widest-in, holds, none, asked, or-else, at-each, every, ask, ask-all, take-step, take-steps, refusal}
 use Rattle.plan.specs.ColumnLaws.{length-from, getD-from}
 use Rattle.plan.specs.QuestionLaws.{each-same}
-use Rattle.plan.specs.CallLaws.{Treed, asked-last, asked-true, none-first, and-true, or-assoc, once-put, once-none, step-none, tree-steps}
+use Rattle.plan.specs.CallLaws.{Treed, asked-last, asked-both, asked-true, none-first, and-true, or-assoc, once-put, once-none, step-none, tree-steps}
 use Rattle.plan.specs.Steps.{cell-refusal, tree-refusal}
 use Rattle.plan.specs.declared.Record.{Record}
 use Rattle.plan.specs.declared.Refusal.{Refusal}
-use Rattle.planfile.specs.Format.{trailer-of, entry, records-of, label-in, file-given}
+use Rattle.planfile.specs.Format.{trailer-of, form, entry, spare, records-of, label-in, file-given}
 use Rattle.planfile.specs.Reading.{label-refusal}
 use Rattle.planfile.specs.FileSteps.{counted, record-refusal, entry-refusal, header-refusal, body-refusal, file-refusal}
 
@@ -54,6 +55,9 @@ module _ (f : List ℕ) where
     unfolding no-record
     label-is = List·getD-map label-in (records-of f) c no-record ∙ ap label-in record-is
 
+    pub spare-is : getD (map (spare f) (from 0 n)) c 0 ≡ spare f c
+    spare-is = rw zero-add at (getD-from (spare f) 0 0 n c h)
+
     pub parent-is : parent t c ≡ entry f c .parent
     unfolding parent bare
     parent-is = ap (λ (x : Cell). x .parent) cell-is
@@ -72,15 +76,15 @@ module _ (f : List ℕ) where
 
   -- ---- questions 6 to 10, which a call on a file puts
   module _ (call : Call) (bs : List Buffer) (s : Subject) (p6 : mem 6 (puts call) ≡ true) (p7 : mem 7 (puts call) ≡ true) (p8 : mem 8 (puts call) ≡ true) (p9 : mem 9 (puts call) ≡ true) (p10 : mem 10 (puts call) ≡ true) where
-    at-record : (c : ℕ) → c < n → ask-all call (file-given f bs s) (parent-lower ∷ kind-known ∷ box-sized ∷ label-inside ∷ label-fits ∷ []) c ≡ entry-refusal (trailer-of f .begin) c (entry f c)
-    unfolding ask-all ask holds number in-file file-given cell-refusal record-refusal
+    at-record : (c : ℕ) → c < n → ask-all call (file-given f bs s) (parent-lower ∷ kind-known ∷ box-sized ∷ label-inside ∷ label-fits ∷ []) c ≡ entry-refusal f c
+    unfolding ask-all ask holds number in-file widest-in file-given cell-refusal record-refusal
     at-record c h =
-        rw (p6, p7, p8, p9, p10, parent-is c h, kind-is c h, width-is c h, depth-is c h, label-is c h) (simp (or-assoc, asked-last 9))
+        rw (p6, p7, p8, p9, p10, parent-is c h, kind-is c h, width-is c h, depth-is c h, label-is c h, spare-is c h) (simp (asked-both 7, or-assoc, asked-last 9))
 
     records-step : take-step call (file-given f bs s) (each (parent-lower ∷ kind-known ∷ box-sized ∷ label-inside ∷ label-fits ∷ []))
-        ≡ at-each (λ c. entry-refusal (trailer-of f .begin) c (entry f c)) 0 n
+        ≡ at-each (entry-refusal f) 0 n
     unfolding take-step file-given
-    records-step = rw cells-length (each-same _ (λ c. entry-refusal (trailer-of f .begin) c (entry f c)) n (λ c h. at-record c h))
+    records-step = rw cells-length (each-same _ (entry-refusal f) n (λ c h. at-record c h))
 
     -- questions 6 to 13, then the rest of the call's
     pub body-steps : Treed call → (rest : Refusal)
@@ -88,7 +92,7 @@ module _ (f : List ℕ) where
         (or-else (take-step call (file-given f bs s) (each (children-allowed ∷ [])))
         (or-else (take-step call (file-given f bs s) (each (level-low ∷ [])))
         (or-else (take-step call (file-given f bs s) (each (rows-few ∷ []))) rest)))
-        ≡ or-else (at-each (λ c. entry-refusal (trailer-of f .begin) c (entry f c)) 0 n) (or-else (tree-refusal t) rest)
+        ≡ or-else (at-each (entry-refusal f) 0 n) (or-else (tree-refusal t) rest)
     body-steps h rest =
         let e : file-given f bs s .table ≡ t = unfold file-given in refl in
         cc (records-step, tree-steps call (file-given f bs s) h rest)
@@ -105,8 +109,8 @@ module _ (f : List ℕ) where
       simp (
         once-put read g buffers-long 0 (leb most-cells room) refl (and-true _) refl,
         once-put read g file-sized 1 (between least-file most-file (length f)) refl refl refl,
-        once-put read g file-marked 2 (eqb (trailer-of f .mark) file-mark) refl refl refl,
-        once-put read g cells-counted 3 (counted (length f) (trailer-of f .begin) n) refl (rw cells-length) refl,
+        once-put read g file-marked 2 (marked (trailer-of f .mark)) refl refl refl,
+        once-put read g cells-counted 3 (counted (form f) (length f) (trailer-of f .begin) n) refl (rw cells-length) refl,
         once-put read g positions-long 0 true refl refl refl,
         once-put read g letters-printable 4 (every (between first-letter last-letter) (take (trailer-of f .begin) f)) refl refl refl,
         body-steps read (to-fill room ∷ []) nothing refl refl refl refl refl read-treed,
@@ -132,8 +136,8 @@ module _ (f : List ℕ) where
       simp (
         once-none label g buffers-long refl,
         once-put label g file-sized 1 (between least-file most-file (length f)) refl refl refl,
-        once-put label g file-marked 2 (eqb (trailer-of f .mark) file-mark) refl refl refl,
-        once-put label g cells-counted 3 (counted (length f) (trailer-of f .begin) n) refl (rw cells-length) refl,
+        once-put label g file-marked 2 (marked (trailer-of f .mark)) refl refl refl,
+        once-put label g cells-counted 3 (counted (form f) (length f) (trailer-of f .begin) n) refl (rw cells-length) refl,
         once-none label g positions-long refl,
         once-put label g letters-printable 4 (every (between first-letter last-letter) (take (trailer-of f .begin) f)) refl refl refl,
         body-steps label [] (named c) refl refl refl refl refl label-treed,

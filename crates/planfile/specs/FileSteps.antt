@@ -5,7 +5,8 @@ use mathlib.Core.Bool.{Bool, _&&_, cond}
 use Prim.Native.Nat.{ℕ, _+_, _*_}
 use lib.Dec.{eqb, leb}
 use lib.ListN.{length, getD, take}
-use Rattle.plan.specs.Limits.{between, most-cells, most-allowance, least-file, most-file, file-mark, record-size, trailer-size, first-letter, last-letter, most-label}
+use Rattle.plan.specs.Limits.{between, most-cells, most-allowance, least-file, most-file, trailer-size, first-letter, last-letter, most-label}
+use Rattle.plan.specs.Forms.{marked, record-size, widest}
 use Rattle.plan.specs.Records.{cells-of}
 use Rattle.plan.specs.Columns.{table-of}
 use Rattle.plan.specs.Kinds.{bordered}
@@ -13,8 +14,10 @@ use Rattle.plan.specs.Questions.{none, asked, or-else, at-each, every}
 use Rattle.plan.specs.Steps.{cell-refusal, tree-refusal}
 use Rattle.plan.specs.declared.Record.{Record}
 use Rattle.plan.specs.declared.Refusal.{Refusal}
+use Rattle.plan.specs.declared.forms.Form.{Form}
+use Rattle.plan.specs.declared.forms.Form.the-variants.{Old}
 use Rattle.planfile.specs.declared.Reading.{Reading}
-use Rattle.planfile.specs.Format.{trailer-of, record-at, entry, records-of}
+use Rattle.planfile.specs.Format.{trailer-of, form, record-at, spare-at, entry, spare, records-of}
 use Rattle.planfile.specs.Reading.{columns-of}
 
 -- question 9, for a label of so many bytes at a start
@@ -22,42 +25,46 @@ abbrev pub inside : (begin size start : ℕ) → Bool
 inside begin l s = leb l most-label && leb (s + l) begin
 
 -- questions 6 to 10 at one record
-unfoldable pub record-refusal : (begin c p k w d l s : ℕ) → Refusal
-record-refusal begin c p k w d l s = or-else (cell-refusal c p k w d) (or-else (asked 9 (inside begin l s) c) (asked 10 (bordered k l w) c))
+unfoldable pub record-refusal : (form : Form) (begin c p k w d l s z : ℕ) → Refusal
+record-refusal form begin c p k w d l s z =
+    or-else (cell-refusal (widest form) c p k w d) (or-else (asked 8 (eqb z 0) c) (or-else (asked 9 (inside begin l s) c) (asked 10 (bordered k l w) c)))
 
-abbrev pub entry-refusal : ℕ → ℕ → Record → Refusal
-entry-refusal begin c r = record-refusal begin c (r .parent) (r .kind) (r .width) (r .depth) (r .«label_length») (r .«label_start»)
+abbrev pub entry-refusal : List ℕ → ℕ → Refusal
+entry-refusal f c =
+    let r = entry f c in
+    record-refusal (form f) (trailer-of f .begin) c (r .parent) (r .kind) (r .width) (r .depth) (r .«label_length») (r .«label_start») (spare f c)
 
-abbrev pub records-at : (begin : ℕ) (ps ks ws ds ls ss : List ℕ) (c : ℕ) → Refusal
-records-at begin ps ks ws ds ls ss c = record-refusal begin c (getD ps c 0) (getD ks c 0) (getD ws c 0) (getD ds c 0) (getD ls c 0) (getD ss c 0)
+abbrev pub records-at : (form : Form) (f : List ℕ) (begin : ℕ) (ps ks ws ds ls ss : List ℕ) (c : ℕ) → Refusal
+records-at form f begin ps ks ws ds ls ss c =
+    record-refusal form begin c (getD ps c 0) (getD ks c 0) (getD ws c 0) (getD ds c 0) (getD ls c 0) (getD ss c 0) (spare-at form f (begin + record-size form * c))
 
--- questions 6 to 14, from columns
-unfoldable pub columns-refusal : Reading → (begin : ℕ) → Refusal
-columns-refusal p begin =
+-- questions 6 to 14, from columns and the file that they were read from
+unfoldable pub columns-refusal : Reading → Form → List ℕ → (begin : ℕ) → Refusal
+columns-refusal p form f begin =
     let t = p .columns in
-    or-else (at-each (records-at begin (t .parent) (t .kind) (t .width) (t .depth) (p .«label_length») (p .«label_start»)) 0 (t .count))
+    or-else (at-each (records-at form f begin (t .parent) (t .kind) (t .width) (t .depth) (p .«label_length») (p .«label_start»)) 0 (t .count))
     (or-else (tree-refusal (table-of t)) (asked 14 (leb (p .allowance) most-allowance) 0))
 
 abbrev pub blank-reading : Refusal → Reading
-blank-reading r = columns-of r 0 0 (record-at [])
+blank-reading r = columns-of r 0 0 (record-at Old [])
 
 -- question 4
-abbrev pub counted : (size begin n : ℕ) → Bool
-counted size begin n = between 1 most-cells n && eqb (begin + record-size * n + trailer-size) size
+abbrev pub counted : (form : Form) (size begin n : ℕ) → Bool
+counted form size begin n = between 1 most-cells n && eqb (begin + record-size form * n + trailer-size) size
 
 module _ (f : List ℕ) where
   -- questions 2 to 5
   unfoldable pub header-refusal : Refusal
   header-refusal =
       or-else (asked 2 (between least-file most-file (length f)) 0)
-      (or-else (asked 3 (eqb (trailer-of f .mark) file-mark) 0)
-      (or-else (asked 4 (counted (length f) (trailer-of f .begin) (trailer-of f .count)) 0)
+      (or-else (asked 3 (marked (trailer-of f .mark)) 0)
+      (or-else (asked 4 (counted (form f) (length f) (trailer-of f .begin) (trailer-of f .count)) 0)
       (asked 5 (every (between first-letter last-letter) (take (trailer-of f .begin) f)) 0)))
 
   -- questions 6 to 14
   unfoldable pub body-refusal : Refusal
   body-refusal =
-      or-else (at-each (λ c. entry-refusal (trailer-of f .begin) c (entry f c)) 0 (trailer-of f .count))
+      or-else (at-each (entry-refusal f) 0 (trailer-of f .count))
       (or-else (tree-refusal (cells-of (records-of f))) (asked 14 (leb (trailer-of f .allowance) most-allowance) 0))
 
   -- questions 2 to 14

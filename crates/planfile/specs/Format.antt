@@ -1,12 +1,15 @@
--- Document 01, "File": what the bytes of a plan file say. Every definition is total; the questions say which files are plans. Assumes nothing.
+-- Document 01, "File", with the wide form of document 02, E7: what the bytes of a plan file say. Every definition is total; the questions say which files are plans. Assumes nothing.
 use mathlib.Core.List.{List, [], map}
 use Prim.Native.Nat.{ℕ, _+_, _-_, _*_}
 use lib.ListN.{length, getD, take}
-use Rattle.plan.specs.Limits.{record-size, trailer-size}
+use Rattle.plan.specs.Limits.{trailer-size}
+use Rattle.plan.specs.Forms.{form-of, record-size}
 use Rattle.plan.specs.Lists.{from}
 use Rattle.plan.specs.Records.{cells-of}
 use Rattle.plan.specs.Questions.{Buffer, absent, Subject, Label, File, file, Given}
 use Rattle.plan.specs.declared.Record.{Record}
+use Rattle.plan.specs.declared.forms.Form.{Form}
+use Rattle.plan.specs.declared.forms.Form.the-variants.{Old, Wide}
 use Rattle.planfile.specs.declared.Trailer.{Trailer}
 
 -- numbers of two bytes have the low byte first
@@ -19,9 +22,14 @@ trailer-of f =
     let at = length f - trailer-size in
     record { begin = pair f at; count = pair f (at + 2); allowance = pair f (at + 4); mark = pair f (at + 6) }
 
--- the record at a place: bytes 0-1 father, 2 kind, 3 W, 4 D, 5 label length, 6-7 label start
-unfoldable pub record-at : List ℕ → ℕ → Record
-record-at f at =
+-- the mark decides the form
+abbrev pub form : List ℕ → Form
+form f = form-of (trailer-of f .mark)
+
+-- the record at a place. Old form: bytes 0-1 father, 2 kind, 3 W, 4 D, 5 label length, 6-7 label start;
+-- wide form: 0-1 father, 2 kind, 3 D, 4-5 W, 6 label length, 7 zero, 8-9 label start
+unfoldable pub record-at : Form → List ℕ → ℕ → Record
+record-at Old f at =
     record {
       parent = pair f at;
       kind = getD f (at + 2) 0;
@@ -30,10 +38,30 @@ record-at f at =
       «label_length» = getD f (at + 5) 0;
       «label_start» = pair f (at + 6);
     }
+record-at Wide f at =
+    record {
+      parent = pair f at;
+      kind = getD f (at + 2) 0;
+      depth = getD f (at + 3) 0;
+      width = pair f (at + 4);
+      «label_length» = getD f (at + 6) 0;
+      «label_start» = pair f (at + 8);
+    }
+
+-- the byte that question 8 asks to be zero: byte 7 of the wide form, and the old one has none
+unfoldable pub spare-at : Form → List ℕ → ℕ → ℕ
+spare-at Old f at = 0
+spare-at Wide f at = getD f (at + 7) 0
 
 -- record c of the file
+abbrev pub place : List ℕ → ℕ → ℕ
+place f c = trailer-of f .begin + record-size (form f) * c
+
 unfoldable pub entry : List ℕ → ℕ → Record
-entry f c = record-at f (trailer-of f .begin + record-size * c)
+entry f c = record-at (form f) f (place f c)
+
+unfoldable pub spare : List ℕ → ℕ → ℕ
+spare f c = spare-at (form f) f (place f c)
 
 unfoldable pub records-of : List ℕ → List Record
 records-of f = map (entry f) (from 0 (trailer-of f .count))
@@ -51,6 +79,7 @@ file-given f buffers subject =
         begin = trailer-of f .begin;
         letters = take (trailer-of f .begin) f;
         labels = map label-in (records-of f);
+        spares = map (spare f) (from 0 (trailer-of f .count));
       });
       table = cells-of (records-of f);
       allowance = trailer-of f .allowance;

@@ -5,20 +5,23 @@ use mathlib.Core.Bool.{Bool}
 use Prim.Native.Nat.{ℕ, _+_, _*_, _≤_, _<_}
 use native.Mathlib.Omega.{arith}
 use native.Mathlib.Decide.{ℕ-discrete}
-use lib.Dec.{T, leb, ltb, leb→le, ltb→lt}
+use lib.Dec.{T, eqb, leb, ltb, leb→le, ltb→lt}
 use lib.ListN.{length}
 use borrow.Author.Tests.{eq-eqb, ne-eqb}
-use Rattle.plan.specs.Limits.{most-cells, most-label, record-size}
+use Rattle.plan.specs.Limits.{most-cells, most-label, trailer-size}
+use Rattle.plan.specs.Forms.{form-of, record-size, widest}
+use Rattle.plan.specs.FormLaws as forms
 use Rattle.plan.specs.Questions.{to-fill, nothing, none, read, refusal, asked, or-else}
 use Rattle.plan.specs.QuestionLaws.{first-none, first-some, both-none, asked-yes, each-none}
 use Rattle.plan.specs.Steps.{cell-refusal}
 use Rattle.plan.specs.StepLaws.{and-right}
 use Rattle.plan.specs.declared.Record.{Record}
 use Rattle.plan.specs.declared.Refusal.{Refusal}
+use Rattle.plan.specs.declared.forms.Form.{Form}
 use Rattle.planfile.specs.declared.Reading.{Reading}
 use Rattle.planfile.specs.declared.Part.{Part}
 use Rattle.planfile.specs.declared.Trailer.{Trailer}
-use Rattle.planfile.specs.Format.{trailer-of, record-at, entry, file-given}
+use Rattle.planfile.specs.Format.{trailer-of, form, record-at, entry, file-given}
 use Rattle.planfile.specs.Reading.{column, columns-of, reading-of, label-refusal, label-part}
 use Rattle.planfile.specs.FileSteps.{inside, record-refusal, entry-refusal, blank-reading, header-refusal, body-refusal, file-refusal, examined}
 use Rattle.planfile.specs.FileLaws.{read-refusal, label-refusal-is}
@@ -75,11 +78,12 @@ pub record Labelled (f : List ℕ) (c : ℕ) : Type 0 where
   pub is : c < trailer-of f .count
   pub inside-file : entry f c .«label_start» + entry f c .«label_length» ≤ length f
 
-record-inside : (begin c p k w d l s : ℕ) → record-refusal begin c p k w d l s .number ≡ 0 → s + l ≤ begin
+record-inside : (form : Form) (begin c p k w d l s z : ℕ) → record-refusal form begin c p k w d l s z .number ≡ 0 → s + l ≤ begin
 unfolding record-refusal
-record-inside begin c p k w d l s e =
-    let (a, r) = both-none (cell-refusal c p k w d) _ e in
-    let (b, q) = both-none (asked 9 (inside begin l s) c) _ r in
+record-inside form begin c p k w d l s z e =
+    let (a, r) = both-none (cell-refusal (widest form) c p k w d) _ e in
+    let (u, v) = both-none (asked 8 (eqb z 0) c) _ r in
+    let (b, q) = both-none (asked 9 (inside begin l s) c) _ v in
     leb→le (s + l) begin (and-right (leb l most-label) _ (asked-yes 8 (inside begin l s) c b))
 
 pub label-read : (f : List ℕ) (c : ℕ) → label-refusal f c .number ≡ 0 → Labelled f c
@@ -90,7 +94,7 @@ label-read f c z =
     let (records, rest) = both-none _ _ body in
     let i : c < trailer-of f .count = ltb→lt c _ (asked-yes 15 _ 0 named) in
     let h = header-read f header in
-    let r = record-inside (trailer-of f .begin) c _ _ _ _ (entry f c .«label_length») (entry f c .«label_start») (each-none (λ c. entry-refusal (trailer-of f .begin) c (entry f c)) (trailer-of f .count) records c i) in
+    let r = record-inside (form f) (trailer-of f .begin) c _ _ _ _ (entry f c .«label_length») (entry f c .«label_start») _ (each-none (entry-refusal f) (trailer-of f .count) records c i) in
     record { headed = h; is = i; inside-file = omega (arith, h .full .exact) }
 
 module _ (f : List ℕ) (c : ℕ) (r : Refusal) (e : r ≡ label-refusal f c) where
@@ -117,14 +121,17 @@ module _ (f : List ℕ) (c : ℕ) (r : Refusal) (e : r ≡ label-refusal f c) (z
   labelled : Labelled f c
   labelled = label-read f c (zero-of r _ e z)
 
-  pub trailer-there : 8 ≤ length f
+  pub trailer-there : trailer-size ≤ length f
   trailer-there = omega (arith, labelled .headed .long)
 
   module _ (t : Trailer) (q : t ≡ trailer-of f) where
-    -- the cell's record ends before the trailer
-    pub record-there : (c < 256) × (t .begin + 8 * c + 16 ≤ length f)
-    record-there = let h = labelled .headed .full in let i = labelled .is in rw q (omega arith, omega (arith, h .exact))
+    -- the cell's record stands in the file
+    pub record-there : (c < most-cells) × (t .begin + record-size (form-of (t .mark)) * c + record-size (form-of (t .mark)) ≤ length f)
+    record-there =
+        let h = labelled .headed .full in
+        let i = labelled .is in
+        rw q (omega (arith, h .few), omega (arith, h .exact, forms.record-inside (form f) c (trailer-of f .count) i))
 
-    pub record-is : record-at f (t .begin + 8 * c) ≡ entry f c
+    pub record-is : record-at (form-of (t .mark)) f (t .begin + record-size (form-of (t .mark)) * c) ≡ entry f c
     unfolding entry
     record-is = rw q

@@ -9,16 +9,18 @@ use lib.Dec.{T, leb, le→leb, lt→ltb}
 use lib.ListN.{length}
 use borrow.Author.Tests.{eq-eqb}
 use Rattle.whole.specs.Says.{both, says-le}
-use Rattle.plan.specs.Limits.{between, most-cells, most-allowance, scratch-size}
+use Rattle.plan.specs.Limits.{between, most-cells, most-width, most-allowance, scratch-size}
+use Rattle.plan.specs.Forms.{widest}
+use Rattle.plan.specs.FormLaws.{widest-low}
 use Rattle.plan.specs.Plan.{Table, parent, kind}
 use Rattle.plan.specs.Records.{cells-of}
 use Rattle.plan.specs.Questions.{to-fill, nothing, none, asked, or-else, at-each, read, layout, refusal, layout-given}
 use Rattle.plan.specs.QuestionLaws.{first-none, both-none, asked-yes, each-none, each-same}
 use Rattle.plan.specs.Steps.{cell-refusal, cells-refusal, children-refusal, levels-refusal, rows-refusal, tree-refusal, table-refusal, lent-refusal}
-use Rattle.plan.specs.StepLaws.{Passed, cell-passed}
+use Rattle.plan.specs.StepLaws.{Passed, cell-passed, sized-within}
 use Rattle.plan.specs.CallLaws.{none-first, each-nothing, layout-refusal}
 use Rattle.plan.specs.declared.Refusal.{Refusal}
-use Rattle.planfile.specs.Format.{trailer-of, entry, records-of, file-given}
+use Rattle.planfile.specs.Format.{trailer-of, form, entry, records-of, file-given}
 use Rattle.planfile.specs.Reading.{label-refusal, label-part}
 use Rattle.planfile.specs.FileSteps.{record-refusal, entry-refusal, header-refusal, body-refusal, file-refusal}
 use Rattle.planfile.specs.FileLaws.{cells-length, parent-is, kind-is, width-is, depth-is, read-refusal, label-refusal-is}
@@ -36,11 +38,12 @@ each-are-none f n h = each-same f (λ _. none) n h ∙ each-nothing (λ _. none)
 none-both : (a b : Refusal) → a ≡ none → b ≡ none → or-else a b ≡ none
 none-both a b e f = rw (e, f) (none-first none)
 
-cell-none : (c p k w d : ℕ) → cell-refusal c p k w d .number ≡ 0 → cell-refusal c p k w d ≡ none
+-- a width that a narrower limit passes, a wider one passes too
+cell-none : (m n c p k w d : ℕ) → m ≤ n → cell-refusal m c p k w d .number ≡ 0 → cell-refusal n c p k w d ≡ none
 unfolding cell-refusal
-cell-none c p k w d z =
-    let h : Passed c p k w d = unfold cell-refusal in cell-passed c p k w d z in
-    none-both _ _ (asked-none 6 _ c (h .is-lower)) (none-both _ _ (asked-none 7 _ c (h .is-known)) (asked-none 8 _ c (h .is-sized)))
+cell-none m n c p k w d l z =
+    let h : Passed m c p k w d = unfold cell-refusal in cell-passed m c p k w d z in
+    none-both _ _ (asked-none 6 _ c (h .is-lower)) (none-both _ _ (asked-none 7 _ c (h .is-known)) (asked-none 8 _ c (sized-within m n w d l (h .is-sized))))
 
 tree-none : (t : Table) → tree-refusal t .number ≡ 0 → tree-refusal t ≡ none
 unfolding tree-refusal children-refusal levels-refusal rows-refusal
@@ -64,16 +67,16 @@ module _ (f : List ℕ) (z : file-refusal f .number ≡ 0) where
   unfolding file-refusal
   body = both-none (header-refusal f) (body-refusal f) z .1
 
-  record-passes : (c : ℕ) → c < n → cell-refusal c (entry f c .parent) (entry f c .kind) (entry f c .width) (entry f c .depth) .number ≡ 0
+  record-passes : (c : ℕ) → c < n → cell-refusal (widest (form f)) c (entry f c .parent) (entry f c .kind) (entry f c .width) (entry f c .depth) .number ≡ 0
   unfolding body-refusal record-refusal
-  record-passes c h = both-none _ _ (each-none (λ c. entry-refusal (trailer-of f .begin) c (entry f c)) n (both-none _ _ body .0) c h) .0
+  record-passes c h = both-none _ _ (each-none (entry-refusal f) n (both-none _ _ body .0) c h) .0
 
   cells-none : cells-refusal (cells-of (records-of f)) ≡ none
   unfolding cells-refusal
   cells-none =
       each-are-none _ (length (cells-of (records-of f))) (λ c i.
       let h : c < n = omega (arith, cells-length f) in
-      rw (parent-is f c h, kind-is f c h, width-is f c h, depth-is f c h) (cell-none c _ _ _ _ (record-passes c h)))
+      rw (parent-is f c h, kind-is f c h, width-is f c h, depth-is f c h) (cell-none (widest (form f)) most-width c _ _ _ _ (widest-low (form f)) (record-passes c h)))
 
   trees-none : tree-refusal (cells-of (records-of f)) ≡ none
   unfolding body-refusal

@@ -1,9 +1,12 @@
 // The reading place: each field that is read moves it on and hands it back.
 use plan::Record;
+use plan::forms::Form;
 ghost use mathlib.Core.Path.{_≡_};
 ghost use Prim.Native.Nat.{ℕ, _+_, _*_, _≤_, _<_};
 ghost use lib.ListN.{length, getD};
-ghost use Rattle.planfile.specs.Format.{pair, «trailer-of», «record-at»};
+ghost use Rattle.plan.specs.Limits.{«old-size», «wide-size»};
+ghost use Rattle.plan.specs.Forms.{«record-size»};
+ghost use Rattle.planfile.specs.Format.{pair, «trailer-of», «record-at», «spare-at»};
 
 pub struct Cursor {
     pub at: usize,
@@ -65,10 +68,10 @@ impl Cursor {
         }
     }
 
-    // A record of 8 bytes.
-    pub fn entry(self, file: &[u8]) -> Entry
-        requires { ⌜ self .at + 8 ≤ length (now file) ⌝ }
-        ensures { λ r. ⌜ (r .fields ≡ record-at (now (file .entry)) (self .at)) × (r .next .at ≡ self .at + 8) ⌝ }
+    // A record of the old form.
+    fn old_entry(self, file: &[u8]) -> Entry
+        requires { ⌜ self .at + old-size ≤ length (now file) ⌝ }
+        ensures { λ r. ⌜ (r .fields ≡ record-at Form.Old (now (file .entry)) (self .at)) × (r .next .at ≡ self .at + old-size) ⌝ }
     {
         let parent = self.pair(file);
         let after_parent = parent.next;
@@ -91,5 +94,58 @@ impl Cursor {
             label_start: label_start.value,
         };
         Entry { fields, next }
+    }
+
+    // A record of the wide form, whose byte 7 is passed over.
+    fn wide_entry(self, file: &[u8]) -> Entry
+        requires { ⌜ self .at + wide-size ≤ length (now file) ⌝ }
+        ensures { λ r. ⌜ (r .fields ≡ record-at Form.Wide (now (file .entry)) (self .at)) × (r .next .at ≡ self .at + wide-size) ⌝ }
+    {
+        let parent = self.pair(file);
+        let after_parent = parent.next;
+        let kind = after_parent.byte(file);
+        let after_kind = kind.next;
+        let depth = after_kind.byte(file);
+        let after_depth = depth.next;
+        let width = after_depth.pair(file);
+        let after_width = width.next;
+        let label_length = after_width.byte(file);
+        let after_length = label_length.next;
+        let spare = after_length.byte(file);
+        let after_spare = spare.next;
+        let label_start = after_spare.pair(file);
+        let next = label_start.next;
+        let fields = Record {
+            parent: parent.value,
+            kind: kind.value,
+            width: width.value,
+            depth: depth.value,
+            label_length: label_length.value,
+            label_start: label_start.value,
+        };
+        Entry { fields, next }
+    }
+
+    // A record of either form.
+    pub fn entry(self, file: &[u8], form: Form) -> Entry
+        requires { ⌜ self .at + record-size form ≤ length (now file) ⌝ }
+        ensures { λ r. ⌜ (r .fields ≡ record-at form (now (file .entry)) (self .at)) × (r .next .at ≡ self .at + record-size form) ⌝ }
+    {
+        match form {
+            Form::Old => self.old_entry(file),
+            Form::Wide => self.wide_entry(file),
+        }
+    }
+
+    // The byte of a record that question 8 asks to be zero.
+    pub fn spare(self, file: &[u8], form: Form) -> u8
+        requires { ⌜ self .at + record-size form ≤ length (now file) ⌝ }
+        ensures { λ r. ⌜ r ≡ spare-at form (now (file .entry)) (self .at) ⌝ }
+    {
+        let at = self.at;
+        match form {
+            Form::Old => 0,
+            Form::Wide => file[at + 7],
+        }
     }
 }

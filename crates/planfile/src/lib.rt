@@ -6,11 +6,12 @@ mod table;
 use crate::cursor::Cursor;
 use crate::questions::examined;
 use crate::questions::refused;
+use crate::table::place;
 use crate::table::trailer;
 use plan::Columns;
 use plan::Refusal;
+use plan::forms::form_of;
 use plan::limits::MOST_CELLS;
-use plan::limits::RECORD_SIZE;
 use plan::questions::asked;
 ghost use mathlib.Core.Path.{_≡_};
 ghost use Prim.Native.Nat.{_-_};
@@ -30,8 +31,8 @@ pub struct Reading {
     pub refusal: Refusal,
     pub allowance: u16,
     pub columns: Columns,
-    pub label_length: [u8; 256],
-    pub label_start: [u16; 256],
+    pub label_length: [u8; MOST_CELLS],
+    pub label_start: [u16; MOST_CELLS],
 }
 
 // The bytes of a file from start to end.
@@ -73,10 +74,11 @@ pub fn label_part(file: &[u8], cell: usize) -> Part
         return Part { start: 0, end: 0 };
     }
     let t = trailer(file);
+    let form = form_of(t.mark);
     let cursor = Cursor {
-        at: (t.begin as usize) + RECORD_SIZE * cell,
+        at: place(form, t.begin as usize, cell),
     };
-    let entry = cursor.entry(file);
+    let entry = cursor.entry(file, form);
     let fields = entry.fields;
     let start = fields.label_start as usize;
     Part {

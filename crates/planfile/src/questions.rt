@@ -1,18 +1,23 @@
 // The questions put to a file, each as a refusal. A refusal of number 0 is none.
 use crate::Reading;
+use crate::cursor::Cursor;
+use crate::table::place;
 use crate::table::records;
 use crate::table::trailer;
 use plan::Columns;
 use plan::Refusal;
+use plan::forms::Form;
+use plan::forms::form_of;
+use plan::forms::marked;
+use plan::forms::record_size;
+use plan::forms::widest;
 use plan::kinds::bordered;
-use plan::limits::FILE_MARK;
 use plan::limits::FIRST_LETTER;
 use plan::limits::LAST_LETTER;
 use plan::limits::LEAST_FILE;
 use plan::limits::MOST_CELLS;
 use plan::limits::MOST_FILE;
 use plan::limits::MOST_LABEL;
-use plan::limits::RECORD_SIZE;
 use plan::limits::TRAILER_SIZE;
 use plan::questions::allowance_refusal;
 use plan::questions::asked;
@@ -22,11 +27,13 @@ use plan::questions::tree_refusal;
 ghost use mathlib.Core.Path.{_≡_};
 ghost use mathlib.Core.List.{List};
 ghost use mathlib.Core.Bool.{Bool, true, false, _&&_};
-ghost use Prim.Native.Nat.{ℕ, _+_, _*_, _≤_, _<_};
+ghost use Prim.Native.Nat.{ℕ, _+_, _*_, _^_, _≤_, _<_};
 ghost use lib.Dec.{leb, eqb};
 ghost use lib.ListN.{length, getD, take};
-ghost use Rattle.plan.specs.Limits.{between, «first-letter», «last-letter», «least-file», «most-file»};
+ghost use Rattle.plan.specs.Limits.{between, «first-letter», «last-letter», «least-file», «most-file», «most-cells»};
+ghost use Rattle.plan.specs.Forms.{«record-size»};
 ghost use Rattle.plan.specs.Questions.{every, «at-each»};
+ghost use Rattle.planfile.specs.Format.{«spare-at»};
 ghost use Rattle.planfile.specs.FileSteps.{inside, counted, «record-refusal», «records-at», «header-refusal», «columns-refusal», «blank-reading», examined};
 
 // Question 2.
@@ -40,9 +47,9 @@ fn file_sized(size: usize) -> bool
 }
 
 // Question 4.
-fn counted(size: usize, begin: usize, n: usize) -> bool
-    requires { ⌜ (begin < 65536) × (n < 65536) ⌝ }
-    ensures { λ r. ⌜ r ≡ counted size begin n ⌝ }
+fn counted(form: Form, size: usize, begin: usize, n: usize) -> bool
+    requires { ⌜ begin < 2 ^ 16 ⌝ }
+    ensures { λ r. ⌜ r ≡ counted form size begin n ⌝ }
 {
     if n < 1 {
         return false;
@@ -50,7 +57,7 @@ fn counted(size: usize, begin: usize, n: usize) -> bool
     if MOST_CELLS < n {
         return false;
     }
-    begin + RECORD_SIZE * n + TRAILER_SIZE == size
+    begin + record_size(form) * n + TRAILER_SIZE == size
 }
 
 // Question 5, for one byte.
@@ -87,8 +94,20 @@ fn inside(begin: usize, size: u8, start: u16) -> bool
     (start as usize) + (size as usize) <= begin
 }
 
+// The byte of a cell's record that question 8 asks to be zero.
+fn spare(file: &[u8], form: Form, begin: usize, cell: usize) -> u8
+    requires { ⌜ (cell < most-cells) × (begin + record-size form * cell + record-size form ≤ length (now file)) ⌝ }
+    ensures { λ r. ⌜ r ≡ spare-at form (now (file .entry)) (begin + record-size form * cell) ⌝ }
+{
+    let cursor = Cursor {
+        at: place(form, begin, cell),
+    };
+    cursor.spare(file, form)
+}
+
 // Questions 6 to 10 at one record.
 fn record_refusal(
+    form: Form,
     begin: usize,
     cell: usize,
     parent: u16,
@@ -97,35 +116,41 @@ fn record_refusal(
     depth: u8,
     size: u8,
     start: u16,
+    spare: u8,
 ) -> Refusal
-    requires { ⌜ cell < 65536 ⌝ }
-    ensures { λ r. ⌜ r ≡ record-refusal begin cell parent kind width depth size start ⌝ }
+    requires { ⌜ cell < 2 ^ 16 ⌝ }
+    ensures { λ r. ⌜ r ≡ record-refusal form begin cell parent kind width depth size start spare ⌝ }
 {
+    let at_cell = cell_refusal(widest(form), cell, parent, kind, width, depth);
+    let spare_zero = asked(8, spare == 0, cell);
     let label_inside = asked(9, inside(begin, size, start), cell);
     let label_fits = asked(10, bordered(kind, size, width), cell);
     or_else(
-        cell_refusal(cell, parent, kind, width, depth),
-        or_else(label_inside, label_fits),
+        at_cell,
+        or_else(spare_zero, or_else(label_inside, label_fits)),
     )
 }
 
 // Questions 6 to 10, record by record.
-fn records_refusal<'a>(
-    parents: &'a [u16; 256],
-    kinds: &'a [u8; 256],
-    widths: &'a [u16; 256],
-    depths: &'a [u8; 256],
-    sizes: &'a [u8; 256],
-    starts: &'a [u16; 256],
-    n: usize,
+fn records_refusal<'a, 'b>(
+    file: &'b [u8],
+    form: Form,
     begin: usize,
+    parents: &'a [u16; MOST_CELLS],
+    kinds: &'a [u8; MOST_CELLS],
+    widths: &'a [u16; MOST_CELLS],
+    depths: &'a [u8; MOST_CELLS],
+    sizes: &'a [u8; MOST_CELLS],
+    starts: &'a [u16; MOST_CELLS],
+    n: usize,
 ) -> Refusal
-    requires { ⌜ n ≤ 256 ⌝ }
-    ensures { λ r. ⌜ r ≡ at-each (records-at begin (now (parents .entry)) (now (kinds .entry)) (now (widths .entry)) (now (depths .entry)) (now (sizes .entry)) (now (starts .entry))) 0 n ⌝ }
+    requires { ⌜ (n ≤ most-cells) × (begin + record-size form * n ≤ length (now file)) ⌝ }
+    ensures { λ r. ⌜ r ≡ at-each (records-at form (now (file .entry)) begin (now (parents .entry)) (now (kinds .entry)) (now (widths .entry)) (now (depths .entry)) (now (sizes .entry)) (now (starts .entry))) 0 n ⌝ }
 {
     let mut c = 0;
     while c < n {
         let r = record_refusal(
+            form,
             begin,
             c,
             parents[c],
@@ -134,6 +159,7 @@ fn records_refusal<'a>(
             depths[c],
             sizes[c],
             starts[c],
+            spare(file, form, begin, c),
         );
         if r.number != 0 {
             return r;
@@ -153,12 +179,16 @@ fn header_refusal(file: &[u8]) -> Refusal
         return sized;
     }
     let t = trailer(file);
-    let marked = asked(3, t.mark == FILE_MARK, 0);
-    if marked.number != 0 {
-        return marked;
+    let right = asked(3, marked(t.mark), 0);
+    if right.number != 0 {
+        return right;
     }
     let begin = t.begin as usize;
-    let full = asked(4, counted(size, begin, t.count as usize), 0);
+    let full = asked(
+        4,
+        counted(form_of(t.mark), size, begin, t.count as usize),
+        0,
+    );
     if full.number != 0 {
         return full;
     }
@@ -166,12 +196,16 @@ fn header_refusal(file: &[u8]) -> Refusal
 }
 
 // Questions 6 to 14, put to the records that were read.
-fn body_refusal(plan: Reading, begin: usize) -> Refusal
-    requires { ⌜ (1 ≤ plan .columns .count) × (plan .columns .count ≤ 256) ⌝ }
-    ensures { λ r. ⌜ r ≡ columns-refusal plan begin ⌝ }
+fn body_refusal(plan: Reading, file: &[u8], form: Form, begin: usize) -> Refusal
+    requires { ⌜ (1 ≤ plan .columns .count) × (plan .columns .count ≤ most-cells) × (begin + record-size form * plan .columns .count ≤ length (now file)) ⌝ }
+    ensures { λ r. ⌜ r ≡ columns-refusal plan form (now (file .entry)) begin ⌝ }
 {
     let n = plan.columns.count;
+    let allowance = plan.allowance as u32;
     let at_records = records_refusal(
+        file,
+        form,
+        begin,
         &plan.columns.parent,
         &plan.columns.kind,
         &plan.columns.width,
@@ -179,7 +213,6 @@ fn body_refusal(plan: Reading, begin: usize) -> Refusal
         &plan.label_length,
         &plan.label_start,
         n,
-        begin,
     );
     if at_records.number != 0 {
         return at_records;
@@ -193,7 +226,7 @@ fn body_refusal(plan: Reading, begin: usize) -> Refusal
     if at_tree.number != 0 {
         return at_tree;
     }
-    allowance_refusal(plan.allowance as u32)
+    allowance_refusal(allowance)
 }
 
 // No cell, with the refusal.
@@ -205,13 +238,13 @@ pub fn refused(refusal: Refusal) -> Reading
         allowance: 0,
         columns: Columns {
             count: 0,
-            parent: [0u16; 256],
-            kind: [0u8; 256],
-            width: [0u16; 256],
-            depth: [0u8; 256],
+            parent: [0u16; MOST_CELLS],
+            kind: [0u8; MOST_CELLS],
+            width: [0u16; MOST_CELLS],
+            depth: [0u8; MOST_CELLS],
         },
-        label_length: [0u8; 256],
-        label_start: [0u16; 256],
+        label_length: [0u8; MOST_CELLS],
+        label_start: [0u16; MOST_CELLS],
     }
 }
 
@@ -225,8 +258,9 @@ pub fn examined(file: &[u8]) -> Reading
     }
     let t = trailer(file);
     let begin = t.begin as usize;
-    let plan = records(file, begin, t.count as usize, t.allowance);
-    let at_body = body_refusal(plan, begin);
+    let form = form_of(t.mark);
+    let plan = records(file, form, begin, t.count as usize, t.allowance);
+    let at_body = body_refusal(plan, file, form, begin);
     if at_body.number != 0 {
         return refused(at_body);
     }

@@ -5,16 +5,21 @@ use crate::cursor::Cursor;
 use plan::Columns;
 use plan::Record;
 use plan::Refusal;
+use plan::forms::Form;
+use plan::forms::record_size;
+use plan::limits::MOST_CELLS;
 use plan::limits::TRAILER_SIZE;
 ghost use mathlib.Core.Path.{_≡_};
-ghost use Prim.Native.Nat.{ℕ, _+_, _*_, _≤_, _<_};
+ghost use Prim.Native.Nat.{ℕ, _+_, _*_, _^_, _≤_, _<_};
 ghost use lib.ListN.{length, getD};
+ghost use Rattle.plan.specs.Limits.{«most-cells», «trailer-size»};
+ghost use Rattle.plan.specs.Forms.{«record-size»};
 ghost use Rattle.plan.specs.Questions.{none};
 ghost use Rattle.planfile.specs.Format.{«trailer-of», «record-at»};
 ghost use Rattle.planfile.specs.Reading.{«columns-of»};
 
 pub fn trailer(file: &[u8]) -> Trailer
-    requires { ⌜ 8 ≤ length (now file) ⌝ }
+    requires { ⌜ trailer-size ≤ length (now file) ⌝ }
     ensures { λ r. ⌜ r ≡ trailer-of (now (file .entry)) ⌝ }
 {
     let start = Cursor {
@@ -35,21 +40,29 @@ pub fn trailer(file: &[u8]) -> Trailer
     }
 }
 
-// The columns of the n records from begin on, with a refusal of none.
-pub fn records(file: &[u8], begin: usize, n: usize, allowance: u16) -> Reading
-    requires { ⌜ (n ≤ 256) × (begin + 8 * n ≤ length (now file)) ⌝ }
-    ensures { λ r. ⌜ r ≡ columns-of none allowance n (λ c. record-at (now (file .entry)) (begin + 8 * c)) ⌝ }
+// Where the record of a cell stands.
+pub fn place(form: Form, begin: usize, cell: usize) -> usize
+    requires { ⌜ (cell < most-cells) × (begin + record-size form * cell < 2 ^ 64) ⌝ }
+    ensures { λ r. ⌜ r ≡ begin + record-size form * cell ⌝ }
 {
-    let mut parent = [0u16; 256];
-    let mut kind = [0u8; 256];
-    let mut width = [0u16; 256];
-    let mut depth = [0u8; 256];
-    let mut label_length = [0u8; 256];
-    let mut label_start = [0u16; 256];
+    begin + record_size(form) * cell
+}
+
+// The columns of the n records from begin on, with a refusal of none.
+pub fn records(file: &[u8], form: Form, begin: usize, n: usize, allowance: u16) -> Reading
+    requires { ⌜ (n ≤ most-cells) × (begin + record-size form * n ≤ length (now file)) ⌝ }
+    ensures { λ r. ⌜ r ≡ columns-of none allowance n (λ c. record-at form (now (file .entry)) (begin + record-size form * c)) ⌝ }
+{
+    let mut parent = [0u16; MOST_CELLS];
+    let mut kind = [0u8; MOST_CELLS];
+    let mut width = [0u16; MOST_CELLS];
+    let mut depth = [0u8; MOST_CELLS];
+    let mut label_length = [0u8; MOST_CELLS];
+    let mut label_start = [0u16; MOST_CELLS];
     let mut cursor = Cursor { at: begin };
     let mut c: usize = 0;
     while c < n {
-        let entry = cursor.entry(file);
+        let entry = cursor.entry(file, form);
         let fields = entry.fields;
         parent[c] = fields.parent;
         kind[c] = fields.kind;

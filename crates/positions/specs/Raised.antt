@@ -4,7 +4,7 @@ use mathlib.Core.List.{List}
 use Prim.Native.Nat.{ℕ, _*_, _≤_, _<_}
 use lib.ListN.{getD}
 use lib.IntN.{ℤ, pos, _+ℤ_}
-use Rattle.plan.specs.Limits.{farthest}
+use Rattle.plan.specs.Limits.{farthest, most-cells}
 
 -- n natural numbers, each an x from −65,535 to 65,535 moved up by 65,535
 pub record Raised (xs : List ℕ) (n : ℕ) (x : ℕ → ℤ) : Type 0 where
@@ -13,7 +13,7 @@ pub record Raised (xs : List ℕ) (n : ℕ) (x : ℕ → ℤ) : Type 0 where
 
 -- at most 256 numbers that leave room for a width
 pub record High (xs : List ℕ) (n : ℕ) : Type 0 where
-  pub few : n ≤ 256
+  pub few : n ≤ most-cells
   pub high : (c : ℕ) → c < n → getD xs c 0 ≤ 2 * farthest
 
 -- n rows, each a y

@@ -8,7 +8,7 @@ use lib.ListN.{length, getD, set}
 use lib.Seq.{getD-set-same, getD-set-other}
 use lib.IntN.{ℤ, pos, _+ℤ_, _-ℤ_}
 use Rattle.whole.specs.Whole.{whole, sum, diff}
-use Rattle.plan.specs.Limits.{farthest}
+use Rattle.plan.specs.Limits.{farthest, most-cells}
 use Rattle.plan.specs.Lists.{At}
 use Rattle.plan.specs.Plan.{Table, Is, parent, children}
 use Rattle.plan.specs.PlanLaws.{child-show}
@@ -93,7 +93,7 @@ module _ (t : Columns) (ms : List ℕ) (r : Raising (table-of t) ms) where
   count : length (table-of t) ≡ t .count
   count = table-length (t .parent) (t .kind) (t .width) (t .depth) (t .count)
 
-  pub counted : (1 ≤ t .count) × (t .count ≤ 256)
+  pub counted : (1 ≤ t .count) × (t .count ≤ most-cells)
   counted = (omega (arith, count, r .fit .some-cell), omega (arith, count, r .fit .not-too-many))
 
   pub raised-start : (xs : List ℕ) → getD xs 0 0 ≡ farthest → (al : ℕ) → Marked (table-of t) al ms → Raised xs 1 (sheet (table-of t) al .x)
@@ -101,18 +101,18 @@ module _ (t : Columns) (ms : List ℕ) (r : Raising (table-of t) ms) where
 
   -- the cell c, whose parent is f, once all before it stand
   pub record Turn (xs : List ℕ) (c f : ℕ) : Type 0 where
-    pub room : c < 256
+    pub room : c < most-cells
     pub lower : f < c
     pub low : getD xs f 0 + mark ms c 3 ≤ 3 * farthest
     pub enough : mark ms f 0 ≤ getD xs f 0 + mark ms c 3
     pub again : (al : ℕ) → Marked (table-of t) al ms → Raised (set xs c (child-at ms xs c f)) (c + 1) (sheet (table-of t) al .x)
 
-  pub turn : (xs : List ℕ) (c f : ℕ) → length xs ≡ 256 → 1 ≤ c → c < t .count → f ≡ getD (t .parent) c 0
+  pub turn : (xs : List ℕ) (c f : ℕ) → length xs ≡ most-cells → 1 ≤ c → c < t .count → f ≡ getD (t .parent) c 0
       → ((al : ℕ) → Marked (table-of t) al ms → Raised xs c (sheet (table-of t) al .x)) → Turn xs c f
   turn xs c f long some l e so =
       let is : Is (table-of t) c = omega (arith, count) in
       let of : f ≡ parent (table-of t) c = e ∙ sym (parent-at (t .parent) (t .kind) (t .width) (t .depth) (t .count) c l) in
-      let few : c < 256 = omega (arith, count, r .fit .not-too-many) in
+      let few : c < most-cells = omega (arith, count, r .fit .not-too-many) in
       let n = next-x (table-of t) (r .fit) (r .allowance) ms (r .marks) xs c f some is of (so (r .allowance) (r .marks)) in
       record {
         room = few;

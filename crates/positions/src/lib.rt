@@ -1,16 +1,18 @@
 // Where the cells of a plan stand: their x's from the marks of the walk, written out, and the width and the rows measured from them.
 // An x lies from −65,535 to 65,535, and is held here moved up by 65,535.
 use joining::mark_of;
+use marks::MARKS;
 use plan::Columns;
 use plan::limits::FARTHEST;
+use plan::limits::MOST_CELLS;
 use rows::greater;
 use whole::difference;
 ghost use mathlib.Core.Path.{_≡_};
 ghost use mathlib.Core.List.{List};
-ghost use Prim.Native.Nat.{ℕ, _+_, _-_, _*_, _≤_, _<_, min};
+ghost use Prim.Native.Nat.{ℕ, _+_, _-_, _*_, _^_, _≤_, _<_, min};
 ghost use lib.ListN.{length, getD, set};
 ghost use lib.IntN.{pos, _-ℤ_};
-ghost use Rattle.plan.specs.Limits.{farthest};
+ghost use Rattle.plan.specs.Limits.{farthest, «most-cells»};
 ghost use Rattle.plan.specs.Plan.{Sound, row, bottom};
 ghost use Rattle.plan.specs.Columns.{table, «table-of»};
 ghost use Rattle.plan.specs.Trees.{Column};
@@ -28,13 +30,13 @@ fn wide(x: u16) -> usize
 }
 
 fn wide32(x: u16) -> u32
-    ensures { λ r. ⌜ (r ≡ x) × (r < 65536) ⌝ }
+    ensures { λ r. ⌜ (r ≡ x) × (r < 2 ^ 16) ⌝ }
 {
     x as u32
 }
 
 fn wide8(x: u8) -> u32
-    ensures { λ r. ⌜ (r ≡ x) × (r < 256) ⌝ }
+    ensures { λ r. ⌜ (r ≡ x) × (r < most-cells) ⌝ }
 {
     x as u32
 }
@@ -46,19 +48,19 @@ fn lesser(a: u32, b: u32) -> u32
 }
 
 // The parent of a cell.
-fn parent_of(parents: &[u16; 256], c: usize) -> usize
-    requires { ⌜ c < 256 ⌝ }
+fn parent_of(parents: &[u16; MOST_CELLS], c: usize) -> usize
+    requires { ⌜ c < most-cells ⌝ }
     ensures { λ r. ⌜ r ≡ getD (now (parents .entry)) c 0 ⌝ }
 {
     wide(parents[c])
 }
 
 // The x of each cell: its parent's, and its distance from its first sibling less that of the appointed one.
-pub fn raised(t: Columns, marks: &[u32; 1024]) -> [u32; 256]
+pub fn raised(t: Columns, marks: &[u32; MARKS]) -> [u32; MOST_CELLS]
     requires { ⌜ Raising (table-of t) (now marks) ⌝ }
     ensures { λ r. ⌜ ((al : ℕ) → Marked (table-of t) al (now (marks .entry)) → Raised r (t .count) (sheet (table-of t) al .x)) ⌝ }
 {
-    let mut xs = [FARTHEST; 256];
+    let mut xs = [FARTHEST; MOST_CELLS];
     let mut c: usize = 1;
     while c < t.count {
         let f = parent_of(&t.parent, c);
@@ -70,16 +72,16 @@ pub fn raised(t: Columns, marks: &[u32; 1024]) -> [u32; 256]
 }
 
 // The x of the cell c.
-fn x_of(xs: &[u32; 256], c: usize) -> i32
-    requires { ⌜ (c < 256) × (getD (now xs) c 0 ≤ 2 * farthest) ⌝ }
+fn x_of(xs: &[u32; MOST_CELLS], c: usize) -> i32
+    requires { ⌜ (c < most-cells) × (getD (now xs) c 0 ≤ 2 * farthest) ⌝ }
     ensures { λ r. ⌜ r ≡ pos (getD (now (xs .entry)) c 0) -ℤ pos farthest ⌝ }
 {
     difference(xs[c], FARTHEST)
 }
 
 // Its y.
-fn y_of(tops: &[u16; 256], c: usize) -> i32
-    requires { ⌜ c < 256 ⌝ }
+fn y_of(tops: &[u16; MOST_CELLS], c: usize) -> i32
+    requires { ⌜ c < most-cells ⌝ }
     ensures { λ r. ⌜ r ≡ pos (getD (now (tops .entry)) c 0) ⌝ }
 {
     difference(wide32(tops[c]), 0)
@@ -95,7 +97,12 @@ fn put_corner(positions: &mut [i32], c: usize, x: i32, y: i32)
 }
 
 // x and y of each cell, written: x, then y, cell after cell.
-pub fn write_positions(xs: &[u32; 256], tops: &[u16; 256], n: usize, positions: &mut [i32])
+pub fn write_positions(
+    xs: &[u32; MOST_CELLS],
+    tops: &[u16; MOST_CELLS],
+    n: usize,
+    positions: &mut [i32],
+)
     requires { ⌜ High (now xs) n × (2 * n ≤ length (now positions)) ⌝ }
     ensures { λ _. ⌜ ((p : Placement) → Raised (now (xs .entry)) n (p .x) → Topped (now (tops .entry)) n (p .y) → now (positions .exit) ≡ written (now (positions .entry)) p n) ⌝ }
 {
@@ -107,15 +114,15 @@ pub fn write_positions(xs: &[u32; 256], tops: &[u16; 256], n: usize, positions: 
 }
 
 // The last column of a box, moved up.
-fn right_edge(xs: &[u32; 256], widths: &[u16; 256], c: usize) -> u32
-    requires { ⌜ (c < 256) × (getD (now xs) c 0 ≤ 2 * farthest) ⌝ }
+fn right_edge(xs: &[u32; MOST_CELLS], widths: &[u16; MOST_CELLS], c: usize) -> u32
+    requires { ⌜ (c < most-cells) × (getD (now xs) c 0 ≤ 2 * farthest) ⌝ }
     ensures { λ r. ⌜ r ≡ getD (now (xs .entry)) c 0 + getD (now (widths .entry)) c 0 ⌝ }
 {
     xs[c] + wide32(widths[c])
 }
 
 // The greatest right edge less the least x.
-pub fn sheet_width(xs: &[u32; 256], widths: &[u16; 256], n: usize) -> u32
+pub fn sheet_width(xs: &[u32; MOST_CELLS], widths: &[u16; MOST_CELLS], n: usize) -> u32
     requires { ⌜ High (now xs) n × (1 ≤ n) ⌝ }
     ensures { λ r. ⌜ ((p : Placement) (ps ks ds : List ℕ) → Raised (now (xs .entry)) n (p .x) → pos r ≡ width (table ps ks (now (widths .entry)) ds n) p) ⌝ }
 {
@@ -131,16 +138,16 @@ pub fn sheet_width(xs: &[u32; 256], widths: &[u16; 256], n: usize) -> u32
 }
 
 // The last row of a box.
-fn last_row(tops: &[u16; 256], depths: &[u8; 256], c: usize) -> u32
-    requires { ⌜ c < 256 ⌝ }
+fn last_row(tops: &[u16; MOST_CELLS], depths: &[u8; MOST_CELLS], c: usize) -> u32
+    requires { ⌜ c < most-cells ⌝ }
     ensures { λ r. ⌜ (r ≡ getD (now (tops .entry)) c 0 + getD (now (depths .entry)) c 0) × (r ≤ 65790) ⌝ }
 {
     wide32(tops[c]) + wide8(depths[c])
 }
 
 // The last row of all, and one.
-pub fn sheet_rows(tops: &[u16; 256], depths: &[u8; 256], n: usize) -> u32
-    requires { ⌜ (1 ≤ n) × (n ≤ 256) ⌝ }
+pub fn sheet_rows(tops: &[u16; MOST_CELLS], depths: &[u8; MOST_CELLS], n: usize) -> u32
+    requires { ⌜ (1 ≤ n) × (n ≤ most-cells) ⌝ }
     ensures { λ r. ⌜ ((ps ks ws : List ℕ) → Sound (table ps ks ws (now (depths .entry)) n) → Column (now (tops .entry)) n (row (table ps ks ws (now (depths .entry)) n)) → r ≡ bottom (table ps ks ws (now (depths .entry)) n) 0 + 1) ⌝ }
 {
     let mut last = last_row(tops, depths, 0);

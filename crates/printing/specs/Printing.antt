@@ -88,7 +88,7 @@ pub record Taken (p : Reading) (f : Bytes) : Type 0 where
 
 -- bytes of a cell's line, at most
 abbrev pub cell-size : ℕ
-cell-size = 63
+cell-size = 65
 
 -- the lines of the first n cells
 unfoldable pub cells-text : Reading → (file : Bytes) → ℕ → Bytes

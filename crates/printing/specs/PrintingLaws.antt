@@ -4,11 +4,12 @@ use mathlib.Core.List.{List}
 use Prim.Native.Nat.{ℕ, _+_, _*_, _≤_, _<_}
 use native.Mathlib.Omega.{arith}
 use native.Mathlib.Decide.{ℕ-discrete}
-use lib.Dec.{leb, leb→le, ltb→lt}
+use lib.Dec.{eqb, leb, leb→le, ltb→lt}
 use lib.IntN.{ℤ, pos}
 use lib.ListN.{length, getD, length-take}
 use borrow.Author.Tests.{eq-eqb, ne-eqb}
 use Rattle.plan.specs.Limits.{most-cells, most-label}
+use Rattle.plan.specs.Forms.{widest}
 use Rattle.plan.specs.ColumnLaws.{table-length, width-at, depth-at}
 use Rattle.plan.specs.Questions.{asked}
 use Rattle.plan.specs.QuestionLaws.{both-none, asked-yes, each-none}
@@ -18,8 +19,9 @@ use Rattle.rules.specs.Placement.{placed}
 use Rattle.positions.specs.WrittenLaws.{written-agree}
 use Rattle.drawing.specs.declared.Measures.{Measures}
 use Rattle.drawing.specs.LaidLaws.{Drawn}
+use Rattle.plan.specs.declared.forms.Form.{Form}
 use Rattle.planfile.specs.declared.Reading.{Reading}
-use Rattle.planfile.specs.Format.{trailer-of, entry}
+use Rattle.planfile.specs.Format.{trailer-of, form, entry}
 use Rattle.planfile.specs.Reading.{label-refusal, label-part}
 use Rattle.planfile.specs.FileSteps.{inside, record-refusal, entry-refusal, header-refusal, body-refusal, file-refusal}
 use Rattle.planfile.specs.FileLaws.{label-refusal-is}
@@ -28,11 +30,12 @@ use Rattle.listing.specs.Printed.{Bytes, sheet-line, cell-line}
 use Rattle.printing.specs.Printing.{label-of, cells, ours, first-of, cell-of, Placed, Measured}
 
 -- a label
-record-short : (begin c p k w d l s : ℕ) → record-refusal begin c p k w d l s .number ≡ 0 → l ≤ most-label
+record-short : (form : Form) (begin c p k w d l s z : ℕ) → record-refusal form begin c p k w d l s z .number ≡ 0 → l ≤ most-label
 unfolding record-refusal
-record-short begin c p k w d l s e =
-    let (a, r) = both-none (cell-refusal c p k w d) _ e in
-    let (b, q) = both-none (asked 9 (inside begin l s) c) _ r in
+record-short form begin c p k w d l s z e =
+    let (a, r) = both-none (cell-refusal (widest form) c p k w d) _ e in
+    let (u, v) = both-none (asked 8 (eqb z 0) c) _ r in
+    let (b, q) = both-none (asked 9 (inside begin l s) c) _ v in
     leb→le l most-label (and-left (leb l most-label) _ (asked-yes 8 (inside begin l s) c b))
 
 entry-short : (f : Bytes) (c : ℕ) → label-refusal f c .number ≡ 0 → entry f c .«label_length» ≤ most-label
@@ -42,7 +45,7 @@ entry-short f c z =
     let (header, body) = both-none (header-refusal f) (body-refusal f) files in
     let (records, rest) = both-none _ _ body in
     let i : c < trailer-of f .count = ltb→lt c _ (asked-yes 15 _ 0 named) in
-    record-short (trailer-of f .begin) c _ _ _ _ (entry f c .«label_length») (entry f c .«label_start») (each-none (λ c. entry-refusal (trailer-of f .begin) c (entry f c)) (trailer-of f .count) records c i)
+    record-short (form f) (trailer-of f .begin) c _ _ _ _ (entry f c .«label_length») (entry f c .«label_start») _ (each-none (entry-refusal f) (trailer-of f .count) records c i)
 
 pub label-short : (f : Bytes) (c : ℕ) → length (label-of f c) ≤ most-label
 unfolding label-part

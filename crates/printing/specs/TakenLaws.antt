@@ -12,7 +12,7 @@ use lib.Seq.{take-append-seam, sets-eq}
 use Rattle.whole.specs.Whole.{whole}
 use Rattle.whole.specs.Range.{Within}
 use Rattle.whole.specs.Says.{is-true, is-false, says-le}
-use Rattle.plan.specs.Limits.{most-cells, farthest, scratch-size, listing-size}
+use Rattle.plan.specs.Limits.{most-cells, last-row, farthest, scratch-size, listing-size}
 use Rattle.plan.specs.Lists.{from}
 use Rattle.plan.specs.Plan.{Is, W, D, row}
 use Rattle.plan.specs.Records.{cells-of}
@@ -53,16 +53,16 @@ spaced-length l = go (ℕ-discrete (length l) 0)
     go (yes z) = rw (spaced-empty l z) (omega arith)
     go (no z) = rw (spaced-label l z) (omega arith)
 
-signed-six : (x : ℤ) → Within farthest x → length (signed x) ≤ 6
+signed-far : (x : ℤ) → Within farthest x → length (signed x) ≤ 7
 unfolding signed
-signed-six (pos n) h = let l : n ≤ 65535 = omega (whole, h .high) in omega (arith, at-most 4 n (omega arith))
-signed-six (negsuc n) h = let l : suc n ≤ 65535 = omega (whole, h .low) in omega (arith, at-most 4 (suc n) (omega arith))
+signed-far (pos n) h = let l : n ≤ farthest = omega (whole, h .high) in omega (arith, at-most 5 n (omega arith))
+signed-far (negsuc n) h = let l : suc n ≤ farthest = omega (whole, h .low) in omega (arith, at-most 5 (suc n) (omega arith))
 
-signed-row : (n : ℕ) → n ≤ 255 → length (signed (pos n)) ≤ 3
+signed-row : (n : ℕ) → n ≤ last-row → length (signed (pos n)) ≤ 3
 unfolding signed
 signed-row n h = at-most 2 n (omega arith)
 
-line-short : (c : ℕ) (x y : ℤ) (w d : ℕ) (l : Bytes) → length (decimal c) ≤ 3 → length (signed x) ≤ 6 → length (signed y) ≤ 3 → length (decimal w) ≤ 3 → length (decimal d) ≤ 2 → length l ≤ 40
+line-short : (c : ℕ) (x y : ℤ) (w d : ℕ) (l : Bytes) → length (decimal c) ≤ 3 → length (signed x) ≤ 7 → length (signed y) ≤ 3 → length (decimal w) ≤ 4 → length (decimal d) ≤ 2 → length l ≤ 40
     → length (cell-line c x y w d l) ≤ cell-size
 line-short c x y w d l hc hx hy hw hd hl = rw (← cell-line-is c x y w d l) (simp length-append (omega (arith, spaced-length l)))
 
@@ -91,7 +91,7 @@ module _ (p : Reading) (f : Bytes) (h : Taken p f) where
   unfolding columns-of
   count-is = ap (λ (x : Reading). x .columns .count) (told .1)
 
-  pub taken-few : p .columns .count ≤ 256
+  pub taken-few : p .columns .count ≤ most-cells
   taken-few = omega (arith, count-is, headed .full .few)
 
   cells-are : cells p ≡ cells-of (records-of f)
@@ -109,7 +109,7 @@ module _ (p : Reading) (f : Bytes) (h : Taken p f) where
   fit = layout-asks (cells p) (p .allowance) scratch-size (2 * p .columns .count) .0 (taken-layout _ _ (omega arith) (omega arith)) .table .fit
 
   -- so it can be drawn
-  pub taken-drawable : (s n : ℕ) → s ≡ scratch-size → 512 ≤ n → Drawable (cells p) s n
+  pub taken-drawable : (s n : ℕ) → s ≡ scratch-size → 2 * most-cells ≤ n → Drawable (cells p) s n
   taken-drawable s n e h =
       let t = p .columns in
       record { fit = fit; room = omega (arith, taken-few, table-length (t .parent) (t .kind) (t .width) (t .depth) (t .count)); scratch = e }
@@ -149,9 +149,9 @@ module _ (p : Reading) (f : Bytes) (h : Taken p f) where
     cell-short =
         line-short c (ours p .x c) (ours p .y c) (W (cells p) c) (D (cells p) c) (label-of f c)
         (at-most 2 c (omega (arith, taken-few)))
-        (signed-six (ours p .x c) (sheet-inside (cells p) fit (p .allowance) c is-cell .0))
+        (signed-far (ours p .x c) (sheet-inside (cells p) fit (p .allowance) c is-cell .0))
         (signed-row (row (cells p) c) (omega (arith, fit .rows-few c is-cell)))
-        (at-most 2 (W (cells p) c) (omega (arith, fit .wide c is-cell)))
+        (at-most 3 (W (cells p) c) (omega (arith, fit .wide c is-cell)))
         (at-most 1 (D (cells p) c) (omega (arith, fit .deep c is-cell)))
         (label-short f c)
 

@@ -6,6 +6,7 @@ use planfile::Reading;
 ghost use mathlib.Core.Path.{_≡_};
 ghost use Prim.Native.Nat.{_<_, _≤_};
 ghost use lib.ListN.{length};
+ghost use Rattle.plan.specs.Limits.{«most-cells»};
 ghost use Rattle.records.specs.Apart.{«lent-at», blank, clipped, «lent-columns»};
 ghost use Rattle.records.specs.Together.{filled};
 
@@ -23,10 +24,10 @@ fn empty(count: usize) -> Columns
 {
     Columns {
         count,
-        parent: [0u16; 256],
-        kind: [0u8; 256],
-        width: [0u16; 256],
-        depth: [0u8; 256],
+        parent: [0u16; MOST_CELLS],
+        kind: [0u8; MOST_CELLS],
+        width: [0u16; MOST_CELLS],
+        depth: [0u8; MOST_CELLS],
     }
 }
 
@@ -58,7 +59,7 @@ pub fn columns_of(table: &[Record]) -> Columns
 
 // Writes the records of cells 0 to n - 1, and leaves the rest.
 pub fn fill(reading: Reading, n: usize, table: &mut [Record])
-    requires { ⌜ (n ≤ length (now table)) × (n ≤ 256) ⌝ }
+    requires { ⌜ (n ≤ length (now table)) × (n ≤ most-cells) ⌝ }
     ensures { λ _. ⌜ now (table .exit) ≡ filled reading n (now (table .entry)) ⌝ }
 {
     let mut c = 0;

@@ -4,6 +4,7 @@ use mathlib.Core.List.{List}
 use Prim.Native.Nat.{ℕ, suc, _+_, _-_, _≤_, _<_}
 use native.Mathlib.Omega.{arith}
 use lib.ListN.{length, getD, set, length-set}
+use Rattle.plan.specs.Limits.{most-cells}
 use Rattle.plan.specs.declared.Columns.{Columns}
 use Rattle.plan.specs.Plan.{Is}
 use Rattle.plan.specs.Fit.{Fit}
@@ -15,11 +16,11 @@ use Rattle.plan.specs.TableLaws.{length-is, count-some, count-few, child-of, pa
 pub record Folding (t : Columns) (c : ℕ) (size rest near head : List ℕ) : Type 0 where
   pub low : 1 ≤ c
   pub high : c ≤ t .count
-  pub few : t .count ≤ 256
-  pub size-long : length size ≡ 256
-  pub rest-long : length rest ≡ 256
-  pub near-long : length near ≡ 256
-  pub head-long : length head ≡ 256
+  pub few : t .count ≤ most-cells
+  pub size-long : length size ≡ most-cells
+  pub rest-long : length rest ≡ most-cells
+  pub near-long : length near ≡ most-cells
+  pub head-long : length head ≡ most-cells
   pub folded : Folded (table-of t) c (at size) (at rest) (at near) (at head)
 
 module _ (t : Columns) (fit : Fit (table-of t)) where
@@ -38,7 +39,7 @@ module _ (t : Columns) (fit : Fit (table-of t)) where
         (λ c i. all-at 1 c (short c i)) (λ c i. all-at 0 c (short c i)) (λ c i. all-at 0 c (short c i)));
   }
     where
-      short : (c : ℕ) → Is (table-of t) c → c < 256
+      short : (c : ℕ) → Is (table-of t) c → c < most-cells
       short c i = omega (arith, fit .not-too-many)
 
   module _ {c f : ℕ} {size rest near head : List ℕ} (h : Folding t c size rest near head) (more : 1 < c) (p : f ≡ getD (t .parent) (c - 1) 0) where
@@ -51,7 +52,7 @@ module _ (t : Columns) (fit : Fit (table-of t)) where
     pub size-some : 1 ≤ at size f
     size-some = h .folded .some f (is f (omega (arith, f-less)))
 
-    pub size-fits : at size f + at size (c - 1) ≤ 256
+    pub size-fits : at size f + at size (c - 1) ≤ most-cells
     size-fits =
         let e : suc (c - 1) ≡ c = omega arith in
         omega (arith, h .folded .room, ap (sum-to (at size)) e, sum-suc (at size) (c - 1), sum-part (at size) (c - 1) f f-less, fit .not-too-many)

@@ -1,11 +1,12 @@
 -- The pass that lays the spans: what its loop keeps. Assumes nothing.
 use mathlib.Core.Path.{_≡_, subst}
 use mathlib.Core.List.{List}
-use Prim.Native.Nat.{ℕ, suc, _+_, _-_, _≤_, _<_}
+use Prim.Native.Nat.{ℕ, suc, _+_, _-_, _≤_, _<_, _*_}
 use native.Mathlib.Omega.{arith}
 use native.Mathlib.Numerals.{add-one}
 use lib.ListN.{length, getD, set, length-set}
 use lib.Seq.{getD-set-same}
+use Rattle.plan.specs.Limits.{most-cells}
 use Rattle.plan.specs.declared.Columns.{Columns}
 use Rattle.plan.specs.Plan.{Is}
 use Rattle.plan.specs.Fit.{Fit}
@@ -21,12 +22,12 @@ use Rattle.plan.specs.TableLaws.{length-is, count-some, count-few, child-of, pa
 pub record Laying (t : Columns) (s : Sizes) (c : ℕ) (first end from to tail : List ℕ) : Type 0 where
   pub low : 1 ≤ c
   pub high : c ≤ t .count
-  pub few : t .count ≤ 256
-  pub first-long : length first ≡ 256
-  pub end-long : length end ≡ 256
-  pub from-long : length from ≡ 256
-  pub to-long : length to ≡ 256
-  pub tail-long : length tail ≡ 256
+  pub few : t .count ≤ most-cells
+  pub first-long : length first ≡ most-cells
+  pub end-long : length end ≡ most-cells
+  pub from-long : length from ≡ most-cells
+  pub to-long : length to ≡ most-cells
+  pub tail-long : length tail ≡ most-cells
   pub laid : Laid (table-of t) (at (s .size)) (at (s .rest)) (at (s .near)) c (at first) (at end) (at from) (at to) (at tail)
 
 module _ (t : Columns) (s : Sizes) (fit : Fit (table-of t)) (z : Sized (table-of t) (at (s .size)) (at (s .rest)) (at (s .near))) where
@@ -61,7 +62,7 @@ module _ (t : Columns) (s : Sizes) (fit : Fit (table-of t)) (z : Sized (table-of
     pub tail-fits : at tail f + (at (s .rest) c + own) ≤ at end f
     tail-fits = pass.tail-fits (table-of t) z f c (child-of t c f (h .low) more p) f-less (h .laid)
 
-    pub near-fits : at end f + at (s .near) c ≤ 512
+    pub near-fits : at end f + at (s .near) c ≤ 2 * most-cells
     near-fits = omega (arith, pass.near-fits (table-of t) z f c (child-of t c f (h .low) more p) f-less (h .laid), fit .not-too-many)
 
     pub laying-turns : Laying t s (c + 1) (set first c (after - own)) (set end c after) (set from c (after - own - at tail f)) (set to c (after + at (s .near) c)) (set tail f own)

@@ -5,6 +5,7 @@ use Prim.Native.Nat.{ℕ, suc, _+_, _-_, _≤_, _<_}
 use native.Mathlib.Omega.{arith}
 use native.Mathlib.Numerals.{add-one}
 use lib.ListN.{length, getD, set, length-set}
+use Rattle.plan.specs.Limits.{most-cells}
 use Rattle.plan.specs.declared.Columns.{Columns}
 use Rattle.plan.specs.Plan.{Is}
 use Rattle.plan.specs.Fit.{Fit}
@@ -16,9 +17,9 @@ use Rattle.plan.specs.TableLaws.{length-is, count-some, count-few, child-of, pa
 pub record Numbering (t : Columns) (c : ℕ) (nth many : List ℕ) : Type 0 where
   pub low : 1 ≤ c
   pub high : c ≤ t .count
-  pub few : t .count ≤ 256
-  pub nth-long : length nth ≡ 256
-  pub many-long : length many ≡ 256
+  pub few : t .count ≤ most-cells
+  pub nth-long : length nth ≡ most-cells
+  pub many-long : length many ≡ most-cells
   pub counting : Counting (table-of t) c (at nth) (at many)
 
 module _ (t : Columns) (fit : Fit (table-of t)) where
@@ -36,7 +37,7 @@ module _ (t : Columns) (fit : Fit (table-of t)) where
     f-less : f < c
     f-less = omega (arith, parent-lower t fit c (h .low) more)
 
-    pub many-fits : at many f ≤ 256
+    pub many-fits : at many f ≤ most-cells
     many-fits = omega (arith, h .counting .few f (omega (arith, f-less, length-is t)))
 
     pub numbering-turns : Numbering t (c + 1) (set nth c (at many f + 1)) (set many f (at many f + 1))

@@ -4,6 +4,7 @@ use mathlib.Core.List.{List}
 use Prim.Native.Nat.{ℕ, suc, _+_, _-_, _≤_, _<_, max}
 use native.Mathlib.Omega.{arith}
 use lib.ListN.{length, getD, set, length-set}
+use Rattle.plan.specs.Limits.{most-cells}
 use Rattle.plan.specs.declared.Columns.{Columns}
 use Rattle.plan.specs.Fit.{Fit}
 use Rattle.plan.specs.Columns.{table-of}
@@ -14,12 +15,12 @@ use Rattle.plan.specs.TableLaws.{length-is, count-some, count-few, child-of, pa
 pub record Sinking (t : Columns) (bases : List ℕ) (c : ℕ) (bottoms : List ℕ) : Type 0 where
   pub low : 1 ≤ c
   pub high : c ≤ t .count
-  pub few : t .count ≤ 256
-  pub long : length bottoms ≡ 256
+  pub few : t .count ≤ most-cells
+  pub long : length bottoms ≡ most-cells
   pub sunk : Sunk (table-of t) (at bases) c (at bottoms)
 
 module _ (t : Columns) (fit : Fit (table-of t)) where
-  pub sinking-starts : (bases : List ℕ) → length bases ≡ 256 → Sinking t bases (t .count) bases
+  pub sinking-starts : (bases : List ℕ) → length bases ≡ most-cells → Sinking t bases (t .count) bases
   sinking-starts bases l = record {
     low = count-some t fit;
     high = omega arith;

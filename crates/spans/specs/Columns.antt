@@ -7,6 +7,7 @@ use native.Mathlib.Omega.{arith}
 use native.Mathlib.Decide.{ℕ-discrete}
 use lib.ListN.{length, getD, set, replicate, length-replicate, getD-replicate}
 use lib.Seq.{getD-set-same, getD-set-other}
+use Rattle.plan.specs.Limits.{most-cells}
 
 -- number c of a column
 abbrev pub at : List ℕ → ℕ → ℕ
@@ -14,13 +15,13 @@ at xs c = getD xs c 0
 
 -- a column of one number
 abbrev pub all : ℕ → List ℕ
-all v = replicate 256 v
+all v = replicate most-cells v
 
-pub all-long : (v : ℕ) → length (all v) ≡ 256
-all-long v = length-replicate 256 v
+pub all-long : (v : ℕ) → length (all v) ≡ most-cells
+all-long v = length-replicate most-cells v
 
-pub all-at : (v c : ℕ) → c < 256 → at (all v) c ≡ v
-all-at v c h = getD-replicate 256 c v 0 h
+pub all-at : (v c : ℕ) → c < most-cells → at (all v) c ≡ v
+all-at v c h = getD-replicate most-cells c v 0 h
 
 -- g with v at i
 pub record Put (g g′ : ℕ → ℕ) (i v : ℕ) : Type 0 where

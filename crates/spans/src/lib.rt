@@ -1,8 +1,10 @@
 // Where the cells stand as seen from one another, told by numbers: passes over the cells, up or down.
 use plan::Columns;
+use plan::limits::MOST_CELLS;
 ghost use mathlib.Core.Path.{_≡_};
 ghost use Prim.Native.Nat.{_<_, max};
 ghost use lib.ListN.{getD};
+ghost use Rattle.plan.specs.Limits.{«most-cells»};
 ghost use Rattle.plan.specs.Columns.{«table-of»};
 ghost use Rattle.plan.specs.Fit.{Fit};
 ghost use Rattle.spans.specs.Columns.{at};
@@ -13,23 +15,23 @@ ghost use Rattle.spans.specs.Spans.{Spans};
 
 // size: how many cells are at or below a cell; rest: how many at or below its later siblings; near: at or below the next one.
 pub struct Sizes {
-    pub size: [u32; 256],
-    pub rest: [u32; 256],
-    pub near: [u32; 256],
+    pub size: [u32; MOST_CELLS],
+    pub rest: [u32; MOST_CELLS],
+    pub near: [u32; MOST_CELLS],
 }
 
 // The span of each cell, from first to before end; where the span of the sibling right before begins, and where that of the one right after ends.
 pub struct Standing {
-    pub first: [u32; 256],
-    pub end: [u32; 256],
-    pub from: [u32; 256],
-    pub to: [u32; 256],
+    pub first: [u32; MOST_CELLS],
+    pub end: [u32; MOST_CELLS],
+    pub from: [u32; MOST_CELLS],
+    pub to: [u32; MOST_CELLS],
 }
 
 // nth: a cell's number among its siblings, from 1, and 0 for the root; many: how many children it has.
 pub struct Numbers {
-    pub nth: [u32; 256],
-    pub many: [u32; 256],
+    pub nth: [u32; MOST_CELLS],
+    pub many: [u32; MOST_CELLS],
 }
 
 fn wide(x: u16) -> usize
@@ -39,8 +41,8 @@ fn wide(x: u16) -> usize
 }
 
 // The parent of a cell, which is lower.
-pub fn parent_of(parents: &[u16; 256], c: usize) -> usize
-    requires { ⌜ (c < 256) × (getD (now parents) c 0 < c) ⌝ }
+pub fn parent_of(parents: &[u16; MOST_CELLS], c: usize) -> usize
+    requires { ⌜ (c < most-cells) × (getD (now parents) c 0 < c) ⌝ }
     ensures { λ r. ⌜ (r ≡ getD (now (parents .entry)) c 0) × (r < c) ⌝ }
 {
     wide(parents[c])
@@ -51,10 +53,10 @@ pub fn measure(t: Columns) -> Sizes
     requires { ⌜ Fit (table-of t) ⌝ }
     ensures { λ r. ⌜ Sized (table-of t) (at (r .size)) (at (r .rest)) (at (r .near)) ⌝ }
 {
-    let mut size = [1u32; 256];
-    let mut rest = [0u32; 256];
-    let mut near = [0u32; 256];
-    let mut head = [0u32; 256];
+    let mut size = [1u32; MOST_CELLS];
+    let mut rest = [0u32; MOST_CELLS];
+    let mut near = [0u32; MOST_CELLS];
+    let mut head = [0u32; MOST_CELLS];
     let mut c = t.count;
     while 1 < c {
         c -= 1;
@@ -74,11 +76,11 @@ pub fn lay(t: Columns, s: Sizes) -> Standing
     requires { ⌜ Sized (table-of t) (at (s .size)) (at (s .rest)) (at (s .near)) ⌝ }
     ensures { λ r. ⌜ Spans (table-of t) (at (r .first)) (at (r .end)) (at (r .from)) (at (r .to)) ⌝ }
 {
-    let mut first = [0u32; 256];
-    let mut end = [0u32; 256];
-    let mut from = [0u32; 256];
-    let mut to = [0u32; 256];
-    let mut tail = [0u32; 256];
+    let mut first = [0u32; MOST_CELLS];
+    let mut end = [0u32; MOST_CELLS];
+    let mut from = [0u32; MOST_CELLS];
+    let mut to = [0u32; MOST_CELLS];
+    let mut tail = [0u32; MOST_CELLS];
     let whole = s.size[0];
     end[0] = whole;
     to[0] = whole;
@@ -110,7 +112,7 @@ pub fn greater(a: u32, b: u32) -> u32
 }
 
 // The greatest of the numbers in each subtree.
-pub fn sink(t: Columns, bases: [u32; 256]) -> [u32; 256]
+pub fn sink(t: Columns, bases: [u32; MOST_CELLS]) -> [u32; MOST_CELLS]
     requires { ⌜ Fit (table-of t) ⌝ }
     ensures { λ r. ⌜ Deepest (table-of t) (at bases) (at r) ⌝ }
 {
@@ -129,8 +131,8 @@ pub fn number(t: Columns) -> Numbers
     requires { ⌜ Fit (table-of t) ⌝ }
     ensures { λ r. ⌜ Counted (table-of t) (at (r .nth)) (at (r .many)) ⌝ }
 {
-    let mut nth = [0u32; 256];
-    let mut many = [0u32; 256];
+    let mut nth = [0u32; MOST_CELLS];
+    let mut many = [0u32; MOST_CELLS];
     let mut c: usize = 1;
     while c < t.count {
         let f = parent_of(&t.parent, c);

@@ -4,8 +4,11 @@ use drawing::layout_refusal;
 use io::print_decimal;
 use io::write_all;
 use libc::STDOUT_FILENO;
+use links::LINKS;
 use links::link_all;
+use marks::MARKS;
 use plan::Columns;
+use plan::limits::MOST_CELLS;
 use plan::limits::SCRATCH_SIZE;
 use plan::tree::survey;
 use walk::Chain;
@@ -18,6 +21,9 @@ ghost use Rattle.plan.specs.Limits.{scratch-size};
 ghost use Rattle.drawing.specs.LaidLaws.{Placeable};
 ghost use Rattle.walk.specs.Machine.{chart};
 ghost use Rattle.walk.specs.Walked.{Walking};
+
+// Positions of a whole table, two numbers a cell.
+const POSITIONS: usize = 2 * MOST_CELLS;
 
 fn word(text: &[u8]) {
     write_all(STDOUT_FILENO, text);
@@ -83,13 +89,13 @@ fn watch<'a>(
 }
 
 // The walk over a scratch and marks of zeros.
-fn tour(t: Columns, tops: &[u16; 256], allowance: u32)
+fn tour(t: Columns, tops: &[u16; MOST_CELLS], allowance: u32)
     requires { ⌜ Placeable t (now tops) (replicate scratch-size 0) ⌝ }
 {
-    let mut links = [0u16; 1024];
+    let mut links = [0u16; LINKS];
     link_all(&t.parent, &t.kind, t.count, &mut links);
-    let mut rows = [0u32; 16384];
-    let mut marks = [0u32; 1024];
+    let mut rows = [0u32; SCRATCH_SIZE];
+    let mut marks = [0u32; MARKS];
     watch(
         &links,
         &t.width,
@@ -105,9 +111,9 @@ fn tour(t: Columns, tops: &[u16; 256], allowance: u32)
 fn survey_and_tour(t: Columns, allowance: u32)
     requires { ⌜ Fit (table-of t) ⌝ }
 {
-    let mut counts = [0u16; 256];
-    let mut levels = [0u16; 256];
-    let mut tops = [0u16; 256];
+    let mut counts = [0u16; MOST_CELLS];
+    let mut levels = [0u16; MOST_CELLS];
+    let mut tops = [0u16; MOST_CELLS];
     survey(
         &t.parent,
         &t.depth,
@@ -120,7 +126,7 @@ fn survey_and_tour(t: Columns, allowance: u32)
 }
 
 fn show(t: Columns, allowance: u32) {
-    let refusal = layout_refusal(t, allowance, SCRATCH_SIZE, 512);
+    let refusal = layout_refusal(t, allowance, SCRATCH_SIZE, POSITIONS);
     if refusal.number != 0 {
         word(b"refused");
         number(refusal.number as usize);
@@ -134,6 +140,6 @@ fn show(t: Columns, allowance: u32) {
 fn main() {
     let mut file = [0u8; 16385];
     let n = io::read_full(0, &mut file);
-    let plan = planfile::read(&file[..n], 256);
+    let plan = planfile::read(&file[..n], MOST_CELLS);
     show(plan.columns, plan.allowance as u32);
 }

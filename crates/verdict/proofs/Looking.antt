@@ -12,7 +12,7 @@ use Rattle.whole.specs.Whole.{whole, neg-plus, neg-minus}
 use Rattle.whole.specs.Bias.{bias}
 use Rattle.whole.specs.Range.{Within}
 use Rattle.plan.specs.declared.Columns.{Columns}
-use Rattle.plan.specs.Limits.{farthest}
+use Rattle.plan.specs.Limits.{farthest, most-cells, most-width, most-depth}
 use Rattle.plan.specs.Plan.{Is, parent, kind, appointed, W, D}
 use Rattle.plan.specs.PlanLaws.{Child}
 use Rattle.plan.specs.Fit.{Fit}
@@ -31,7 +31,7 @@ use Rattle.verdict.specs.Sees.{Lifts, Short, Due, Sees, Looked, Tree-see
 pub made-none : (f : ℕ → ℕ) → Column (all 0) 0 f
 made-none f = record { long = all-long 0; each = λ c h. absurd (omega arith) }
 
-pub made-next : {xs : List ℕ} {c : ℕ} {f : ℕ → ℕ} (v : ℕ) → Column xs c f → c < 256 → v ≡ f c → Column (set xs c v) (c + 1) f
+pub made-next : {xs : List ℕ} {c : ℕ} {f : ℕ → ℕ} (v : ℕ) → Column xs c f → c < most-cells → v ≡ f c → Column (set xs c v) (c + 1) f
 made-next {xs} {c} {f} v h l e = record { long = simp length-set (h .long); each = λ i k. go i k (ℕ-discrete i c) }
   where
     p : Put (at xs) (at (set xs c v)) c v
@@ -59,7 +59,7 @@ low-lift z w = omega (whole, w .high)
 -- ---- boxes
 pub record Edging (t : Columns) (x y : List ℕ) (c : ℕ) (right base : List ℕ) : Type 0 where
   pub high : c ≤ t .count
-  pub few : t .count ≤ 256
+  pub few : t .count ≤ most-cells
   pub rights : Column right c (λ i. at x i + W (table-of t) i)
   pub bases : Column base c (λ i. at y i + D (table-of t) i)
 
@@ -76,18 +76,18 @@ module _ (t : Columns) (fit : Fit (table-of t)) (x y : List ℕ) where
     bases = made-next (at y c + w) (h .bases) (omega (arith, h .few)) (omega (arith, f, depth-is t c l));
   }
 
-  pub wide-low : {c v : ℕ} → c < t .count → v ≡ getD (t .width) c 0 → v ≤ 255
+  pub wide-low : {c v : ℕ} → c < t .count → v ≡ getD (t .width) c 0 → v ≤ most-width
   wide-low {c} l e = omega (arith, e, width-is t c l, fit .wide c (omega (arith, length-is t)) .1)
 
-  pub deep-low : {c v : ℕ} → c < t .count → v ≡ getD (t .depth) c 0 → v ≤ 255
+  pub deep-low : {c v : ℕ} → c < t .count → v ≡ getD (t .depth) c 0 → v ≤ most-depth
   deep-low {c} l e = omega (arith, e, depth-is t c l, fit .deep c (omega (arith, length-is t)) .1)
 
 -- ---- the rows that S1 asks
 pub record Duing (t : Columns) (base : List ℕ) (c : ℕ) (due : List ℕ) : Type 0 where
   pub low : 1 ≤ c
   pub high : c ≤ t .count
-  pub few : t .count ≤ 256
-  pub long : length due ≡ 256
+  pub few : t .count ≤ most-cells
+  pub long : length due ≡ most-cells
   pub root : at due 0 ≡ farthest
   pub each : (i f : ℕ) → Child (table-of t) f i → i < c → at due i ≡ at base f + 1
 
@@ -130,7 +130,7 @@ module _ (t : Columns) (fit : Fit (table-of t)) (base : List ℕ) where
 -- ---- parents and appointed children
 pub record Heading (t : Columns) (many : List ℕ) (c : ℕ) (parents middle : List ℕ) : Type 0 where
   pub high : c ≤ t .count
-  pub few : t .count ≤ 256
+  pub few : t .count ≤ most-cells
   pub heads : Column parents c (parent (table-of t))
   pub middles : Column middle c (λ i. appointed (kind (table-of t) i) (at many i))
 

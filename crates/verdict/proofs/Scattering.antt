@@ -8,18 +8,19 @@ use native.Mathlib.Omega.{arith}
 use native.Mathlib.Decide.{ℕ-discrete}
 use lib.ListN.{length, getD, set, length-set}
 use lib.Seq.{getD-set-same, getD-set-other}
+use Rattle.plan.specs.Limits.{most-cells}
 use Rattle.verdict.specs.Passes.{sight, Scattered}
 
 -- ---- a column, cell by cell
 pub record Scattering (column : List ℕ) (n k : ℕ) (xs ys : List ℕ) (c : ℕ) : Type 0 where
   pub high : c ≤ n
-  pub few : n ≤ 256
+  pub few : n ≤ most-cells
   pub small : k < sight
-  pub long : length ys ≡ 256 * sight
+  pub long : length ys ≡ most-cells * sight
   pub here : (i : ℕ) → i < c → getD ys (sight * i + k) 0 ≡ getD column i 0
   pub off : (j i : ℕ) → j < sight → j ≢ k → getD ys (sight * i + j) 0 ≡ getD xs (sight * i + j) 0
 
-pub scattering-starts : (column : List ℕ) (n k : ℕ) (xs : List ℕ) → n ≤ 256 → k < sight → length xs ≡ 256 * sight → Scattering column n k xs xs 0
+pub scattering-starts : (column : List ℕ) (n k : ℕ) (xs : List ℕ) → n ≤ most-cells → k < sight → length xs ≡ most-cells * sight → Scattering column n k xs xs 0
 scattering-starts column n k xs few small long = record {
   high = omega arith;
   few = few;

@@ -5,6 +5,7 @@ use Prim.Native.Nat.{ℕ, suc, _+_, _^_, _≤_, _<_}
 use native.Mathlib.Nat.{zero-add}
 use native.Mathlib.Numerals.{add-one}
 use native.Mathlib.Omega.{arith}
+use Rattle.plan.specs.Limits.{most-cells}
 use Rattle.rules.specs.Search.{Verdict, kept, broken, scan, judge}
 use Rattle.rules.specs.SearchLaws.{scan-next, scan-found}
 use Rattle.verdict.specs.declared.search.View.{View}
@@ -58,7 +59,7 @@ found-kept (broken r a b) f e g = absurd (let z : _≡_ {A = ℕ} 0 1 = cc in om
 -- ---- a rule at a, each b in turn
 pub record Rowing (s : Sights) (n al r a : ℕ) (v : View) (b : ℕ) : Type 0 where
   pub sighted : Sighted s n
-  pub few : n ≤ 256
+  pub few : n ≤ most-cells
   pub small : al < 2 ^ 31
   pub a-is : a < n
   pub high : b ≤ n
@@ -101,7 +102,7 @@ rowing-ends {s} {n} {al} {r} {a} {v} {b} h l = kept-found (ends (pair s al n r a
 -- ---- a rule, each a in turn
 pub record Ruling (s : Sights) (n al r a : ℕ) : Type 0 where
   pub sighted : Sighted s n
-  pub few : n ≤ 256
+  pub few : n ≤ most-cells
   pub small : al < 2 ^ 31
   pub high : a ≤ n
   pub passed : scan (row-found s al n r) 0 a ≡ kept

@@ -3,6 +3,7 @@ use mathlib.Core.Path.{_≡_, refl}
 use Prim.Native.Nat.{ℕ, _+_, _-_, _≤_, _<_, max, min}
 use native.Mathlib.Omega.{arith}
 use native.Mathlib.Decide.{ℕ-discrete, decLe}
+use Rattle.plan.specs.Limits.{most-cells}
 use Rattle.verdict.specs.declared.search.View.{View}
 use Rattle.verdict.specs.Passes.{Sights}
 use Rattle.verdict.specs.Spread.{Bounds, Spread}
@@ -16,7 +17,7 @@ pub record From (f : ℕ → ℕ) (n v : ℕ) : Type 0 where
 pub record Widening (s : Sights) (n c high low : ℕ) : Type 0 where
   pub some : 1 ≤ c
   pub most : c ≤ n
-  pub few : n ≤ 256
+  pub few : n ≤ most-cells
   pub highs : (i : ℕ) → i < c → s i .right ≤ high
   pub lows : (i : ℕ) → i < c → low ≤ s i .x
   pub high-from : From (λ i. s i .right) n high

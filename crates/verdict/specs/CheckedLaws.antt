@@ -9,7 +9,7 @@ use lib.IntN.{ℤ, pos}
 use lib.Signed.{_≤ℤ_}
 use Rattle.whole.specs.Whole.{whole, plus, narrow, sum, neg-plus, neg-minus}
 use Rattle.whole.specs.Range.{Within}
-use Rattle.plan.specs.Limits.{most-allowance, most-width, farthest, last-row}
+use Rattle.plan.specs.Limits.{most-allowance, most-width, farthest, last-row, most-cells}
 use Rattle.plan.specs.Paths.{within-self}
 use Rattle.plan.specs.Plan as plan
 use Rattle.plan.specs.Plan.{Table, Is, Sound, W}
@@ -74,7 +74,7 @@ module _ (t : Table) (p : Placement) (s : Sights) (sound : Sound t) (some : 1 �
   unfolding rows
   rows-is e = omega (whole, e, y-seen, bottom-seen, sum (bottom t p 0) (pos 1), y-bottom)
 
-  pub bounds : length t ≤ 256 → Bounds s (length t)
+  pub bounds : length t ≤ most-cells → Bounds s (length t)
   bounds few = record { some = some; few = few; each = λ c i. rw (l .agree .same c i) (omega (arith, l .sees .rights c i)) }
 
   module _ (al : ℕ) where

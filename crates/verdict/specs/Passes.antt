@@ -7,7 +7,7 @@ use Prim.Native.Nat.{ℕ, zero, suc, _+_, _*_, _^_, _≤_, _<_}
 use lib.ListN.{length, getD}
 use lib.Dec.{eqb, leb, ltb}
 use Rattle.whole.specs.Says.{only}
-use Rattle.plan.specs.Limits.{farthest}
+use Rattle.plan.specs.Limits.{farthest, most-cells}
 use Rattle.rules.specs.Search.{Verdict, kept, broken, scan, judge}
 use Rattle.verdict.specs.declared.search.View.{View}
 use Rattle.verdict.specs.declared.search.Found.{Found}
@@ -41,7 +41,7 @@ view-in xs c = record {
 
 -- the columns' first n numbers stand from number k of their cells on, and the other numbers are as they were
 pub record Scattered (columns : List (List ℕ)) (n k : ℕ) (xs xs′ : List ℕ) : Type 0 where
-  pub long : length xs′ ≡ 256 * sight
+  pub long : length xs′ ≡ most-cells * sight
   pub here : (j c : ℕ) → j < length columns → c < n → getD xs′ (sight * c + (k + j)) 0 ≡ getD (getD columns j []) c 0
   pub off : (j c : ℕ) → j < sight → (j < k) ⊎ (k + length columns ≤ j) → getD xs′ (sight * c + j) 0 ≡ getD xs (sight * c + j) 0
 
@@ -51,7 +51,7 @@ pub record Agree (s s′ : Sights) (n : ℕ) : Type 0 where
 
 -- numbers of n cells that can be added to
 pub record Sighted (s : Sights) (n : ℕ) : Type 0 where
-  pub few : n ≤ 256
+  pub few : n ≤ most-cells
   pub x-small : (c : ℕ) → c < n → s c .x < 2 ^ 31
   pub right-small : (c : ℕ) → c < n → s c .right < 2 ^ 31
   pub bottom-small : (c : ℕ) → c < n → s c .bottom < 2 ^ 31

@@ -1,12 +1,13 @@
 -- The greatest right edge less the least x. Assumes nothing.
 use mathlib.Core.Path.{_≡_}
 use Prim.Native.Nat.{ℕ, _+_, _≤_, _<_}
+use Rattle.plan.specs.Limits.{most-cells}
 use Rattle.verdict.specs.Passes.{Sights}
 
 -- n right edges, each beyond its x
 pub record Bounds (s : Sights) (n : ℕ) : Type 0 where
   pub some : 1 ≤ n
-  pub few : n ≤ 256
+  pub few : n ≤ most-cells
   pub each : (c : ℕ) → c < n → s c .x ≤ s c .right
 
 -- w is the distance from one x to one right edge, and no distance is greater

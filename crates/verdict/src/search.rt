@@ -4,6 +4,7 @@ use plan::limits::MOST_CELLS;
 ghost use mathlib.Core.Path.{_≡_};
 ghost use Prim.Native.Nat.{_+_, _*_, _^_, _<_};
 ghost use lib.ListN.{getD};
+ghost use Rattle.plan.specs.Limits.{«most-cells»};
 ghost use Rattle.verdict.specs.Passes.{Sighted, pass1, pass2, pass3, «pass3-ends», «pass3-starts», pass4, «pass4-box», «pass4-stem», pass5, passes, sight, «view-in», «found-of», «row-found», «rule-found», «all-found»};
 
 // How many numbers the rules read of a cell. Those of all cells lie in one array, cell after cell: a `View` for each.
@@ -52,7 +53,7 @@ fn pass1(a: usize, b: usize, v: View) -> bool
 
 // S2: where w is the appointed child of v's cell a, both are in one column.
 fn pass2(a: usize, v: View, w: View) -> bool
-    requires { ⌜ a < 256 ⌝ }
+    requires { ⌜ a < most-cells ⌝ }
     ensures { λ r. ⌜ r ≡ pass2 a v w ⌝ }
 {
     if w.parent != (a as u32) {
@@ -151,7 +152,7 @@ fn pass3(v: View, w: View) -> bool
 
 // A rule at the cells a and b. A chain of tests, which the compiler folds where the rule is a number; a `match` it leaves.
 fn passes(rule: u8, a: usize, b: usize, v: View, w: View, allowance: u32) -> bool
-    requires { ⌜ (a < 256) × (v .right < 2 ^ 31) × (w .x < 2 ^ 31) × (allowance < 2 ^ 31) ⌝ }
+    requires { ⌜ (a < most-cells) × (v .right < 2 ^ 31) × (w .x < 2 ^ 31) × (allowance < 2 ^ 31) ⌝ }
     ensures { λ r. ⌜ r ≡ passes allowance rule a b v w ⌝ }
 {
     if rule == 1 {
@@ -174,14 +175,14 @@ fn passes(rule: u8, a: usize, b: usize, v: View, w: View, allowance: u32) -> boo
 
 // Number k of the cell c.
 fn number_at(sights: &[u32; SIGHTS], c: usize, k: usize) -> u32
-    requires { ⌜ (c < 256) × (k < sight) ⌝ }
+    requires { ⌜ (c < most-cells) × (k < sight) ⌝ }
     ensures { λ r. ⌜ r ≡ getD (now (sights .entry)) (sight * c + k) 0 ⌝ }
 {
     sights[SIGHT * c + k]
 }
 
 pub fn see(sights: &[u32; SIGHTS], c: usize) -> View
-    requires { ⌜ c < 256 ⌝ }
+    requires { ⌜ c < most-cells ⌝ }
     ensures { λ r. ⌜ r ≡ view-in (now (sights .entry)) c ⌝ }
 {
     View {

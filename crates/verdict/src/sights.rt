@@ -4,6 +4,7 @@ use crate::search::SIGHTS;
 use plan::Columns;
 use plan::kinds::appointed;
 use plan::limits::FARTHEST;
+use plan::limits::MOST_CELLS;
 use spans::lay;
 use spans::measure;
 use spans::number;
@@ -17,7 +18,7 @@ ghost use lib.ListN.{length, getD};
 ghost use lib.IntN.{pos};
 ghost use Rattle.whole.specs.Bias.{bias};
 ghost use Rattle.plan.specs.Plan.{parent, kind, appointed, W, D};
-ghost use Rattle.plan.specs.Limits.{farthest};
+ghost use Rattle.plan.specs.Limits.{farthest, «most-cells»};
 ghost use Rattle.plan.specs.Columns.{«table-of»};
 ghost use Rattle.plan.specs.Fit.{Fit};
 ghost use Rattle.plan.specs.Near.{Near};
@@ -29,14 +30,14 @@ ghost use Rattle.verdict.specs.Sees.{Looked, Short, Due, «Tree-seen», 
 
 // The right edge and the last row of each box.
 pub struct Edges {
-    pub right: [u32; 256],
-    pub base: [u32; 256],
+    pub right: [u32; MOST_CELLS],
+    pub base: [u32; MOST_CELLS],
 }
 
 // The parent of each cell, and the number of its appointed child.
 pub struct Heads {
-    pub parent: [u32; 256],
-    pub middle: [u32; 256],
+    pub parent: [u32; MOST_CELLS],
+    pub middle: [u32; MOST_CELLS],
 }
 
 fn wide(x: u16) -> u32
@@ -52,11 +53,11 @@ fn wide8(x: u8) -> u32
 }
 
 // The x (offset 0) or the y (offset 1) of each cell, moved up.
-fn raised(positions: &[i32], n: usize, offset: usize) -> [u32; 256]
-    requires { ⌜ (n ≤ 256) × (offset ≤ 1) × Near (now positions) n ⌝ }
+fn raised(positions: &[i32], n: usize, offset: usize) -> [u32; MOST_CELLS]
+    requires { ⌜ (n ≤ most-cells) × (offset ≤ 1) × Near (now positions) n ⌝ }
     ensures { λ r. ⌜ Column r n (λ c. bias farthest (getD (now (positions .entry)) (2 * c + offset) (pos 0))) ⌝ }
 {
-    let mut out = [0u32; 256];
+    let mut out = [0u32; MOST_CELLS];
     let mut c: usize = 0;
     while c < n {
         out[c] = raise_at(positions, 2 * c + offset, FARTHEST);
@@ -65,12 +66,12 @@ fn raised(positions: &[i32], n: usize, offset: usize) -> [u32; 256]
     out
 }
 
-fn edges_of(t: Columns, x: [u32; 256], y: [u32; 256]) -> Edges
+fn edges_of(t: Columns, x: [u32; MOST_CELLS], y: [u32; MOST_CELLS]) -> Edges
     requires { ⌜ Fit (table-of t) × Short x (t .count) × Short y (t .count) ⌝ }
     ensures { λ r. ⌜ Column (r .right) (t .count) (λ c. getD x c 0 + W (table-of t) c) × Column (r .base) (t .count) (λ c. getD y c 0 + D (table-of t) c) ⌝ }
 {
-    let mut right = [0u32; 256];
-    let mut base = [0u32; 256];
+    let mut right = [0u32; MOST_CELLS];
+    let mut base = [0u32; MOST_CELLS];
     let mut c: usize = 0;
     while c < t.count {
         right[c] = x[c] + wide(t.width[c]);
@@ -81,11 +82,11 @@ fn edges_of(t: Columns, x: [u32; 256], y: [u32; 256]) -> Edges
 }
 
 // The row that S1 asks of each cell.
-fn dues(t: Columns, base: [u32; 256]) -> [u32; 256]
+fn dues(t: Columns, base: [u32; MOST_CELLS]) -> [u32; MOST_CELLS]
     requires { ⌜ Fit (table-of t) × Short base (t .count) ⌝ }
     ensures { λ r. ⌜ Due (table-of t) (at base) (at r) ⌝ }
 {
-    let mut due = [0u32; 256];
+    let mut due = [0u32; MOST_CELLS];
     due[0] = FARTHEST;
     let mut c: usize = 1;
     while c < t.count {
@@ -96,12 +97,12 @@ fn dues(t: Columns, base: [u32; 256]) -> [u32; 256]
     due
 }
 
-fn heads_of(t: Columns, many: [u32; 256]) -> Heads
+fn heads_of(t: Columns, many: [u32; MOST_CELLS]) -> Heads
     requires { ⌜ Fit (table-of t) × Short many (t .count) ⌝ }
     ensures { λ r. ⌜ Column (r .parent) (t .count) (parent (table-of t)) × Column (r .middle) (t .count) (λ c. appointed (kind (table-of t) c) (getD many c 0)) ⌝ }
 {
-    let mut parent = [0u32; 256];
-    let mut middle = [0u32; 256];
+    let mut parent = [0u32; MOST_CELLS];
+    let mut middle = [0u32; MOST_CELLS];
     let mut c: usize = 0;
     while c < t.count {
         parent[c] = wide(t.parent[c]);
@@ -112,8 +113,8 @@ fn heads_of(t: Columns, many: [u32; 256]) -> Heads
 }
 
 // A column's numbers, as number k of their cells.
-fn scatter(column: &[u32; 256], n: usize, k: usize, out: &mut [u32; SIGHTS])
-    requires { ⌜ (n ≤ 256) × (k < sight) × (length (now out) ≡ 256 * sight) ⌝ }
+fn scatter(column: &[u32; MOST_CELLS], n: usize, k: usize, out: &mut [u32; SIGHTS])
+    requires { ⌜ (n ≤ most-cells) × (k < sight) × (length (now out) ≡ most-cells * sight) ⌝ }
     ensures { λ _. ⌜ Scattered (now (column .entry) ∷ []) n k (now (out .entry)) (now (out .exit)) ⌝ }
 {
     let mut c: usize = 0;
@@ -125,7 +126,7 @@ fn scatter(column: &[u32; 256], n: usize, k: usize, out: &mut [u32; SIGHTS])
 
 // What the rules read of the table.
 fn look_at_tree(t: Columns, out: &mut [u32; SIGHTS])
-    requires { ⌜ Fit (table-of t) × (length (now out) ≡ 256 * sight) ⌝ }
+    requires { ⌜ Fit (table-of t) × (length (now out) ≡ most-cells * sight) ⌝ }
     ensures { λ _. ⌜ Tree-seen (table-of t) (t .count) (now (out .entry)) (now (out .exit)) ⌝ }
 {
     let numbers = number(t);
@@ -142,7 +143,7 @@ fn look_at_tree(t: Columns, out: &mut [u32; SIGHTS])
 
 // What they read of the placement.
 fn look_at_placement(t: Columns, positions: &[i32], out: &mut [u32; SIGHTS])
-    requires { ⌜ Fit (table-of t) × Near (now positions) (t .count) × (length (now out) ≡ 256 * sight) ⌝ }
+    requires { ⌜ Fit (table-of t) × Near (now positions) (t .count) × (length (now out) ≡ most-cells * sight) ⌝ }
     ensures { λ _. ⌜ Placement-seen (table-of t) (now (positions .entry)) (t .count) (now (out .entry)) (now (out .exit)) ⌝ }
 {
     let x = raised(positions, t.count, 0);
@@ -159,7 +160,7 @@ fn look_at_placement(t: Columns, positions: &[i32], out: &mut [u32; SIGHTS])
 }
 
 pub fn look(t: Columns, positions: &[i32], out: &mut [u32; SIGHTS])
-    requires { ⌜ Fit (table-of t) × Near (now positions) (t .count) × (length (now out) ≡ 256 * sight) ⌝ }
+    requires { ⌜ Fit (table-of t) × Near (now positions) (t .count) × (length (now out) ≡ most-cells * sight) ⌝ }
     ensures { λ _. ⌜ Looked (table-of t) (placed (now (positions .entry))) (view-in (now (out .exit))) × Sighted (view-in (now (out .exit))) (t .count) ⌝ }
 {
     look_at_tree(t, out);

@@ -225,13 +225,13 @@ fn alone() {
 
 fn far() {
     let b = sheet_b();
-    show(b"x -65535", check(b, &[0, 0, -65535, 2, 0, 2], 0));
-    show(b"x -65536", check(b, &[0, 0, -65536, 2, 0, 2], 0));
-    show(b"x 65535", check(b, &[0, 0, 65535, 2, 0, 2], 0));
-    show(b"x 65536", check(b, &[0, 0, 65536, 2, 0, 2], 0));
-    show(b"y 65535", check(b, &[0, 0, -4, 65535, 0, 2], 0));
-    show(b"y -65535", check(b, &[0, 0, -4, -65535, 0, 2], 0));
-    show(b"y 65536", check(b, &[0, 0, -4, 2, 0, 65536], 0));
+    show(b"x -262143", check(b, &[0, 0, -262143, 2, 0, 2], 0));
+    show(b"x -262144", check(b, &[0, 0, -262144, 2, 0, 2], 0));
+    show(b"x 262143", check(b, &[0, 0, 262143, 2, 0, 2], 0));
+    show(b"x 262144", check(b, &[0, 0, 262144, 2, 0, 2], 0));
+    show(b"y 262143", check(b, &[0, 0, -4, 262143, 0, 2], 0));
+    show(b"y -262143", check(b, &[0, 0, -4, -262143, 0, 2], 0));
+    show(b"y 262144", check(b, &[0, 0, -4, 2, 0, 262144], 0));
     show(b"allowance 65535", check(b, &[0, 0, -4, 2, 0, 2], 65535));
     show(b"allowance 65536", check(b, &[0, 0, -4, 2, 0, 2], 65536));
     show(b"short", check(b, &[0, 0, -4, 2, 0], 0));
@@ -256,9 +256,9 @@ fn connected() {
     show_ends(b"ends 3", ends(b, &[0, 0, -4, 2, 0, 2], 3));
     show_ends(
         b"ends far",
-        ends(b, &[65535, -65535, -65535, 65535, 0, 2], 1),
+        ends(b, &[262143, -262143, -262143, 262143, 0, 2], 1),
     );
-    show_ends(b"ends too far", ends(b, &[0, 0, -4, 2, 0, 65536], 1));
+    show_ends(b"ends too far", ends(b, &[0, 0, -4, 2, 0, 262144], 1));
     show_ends(b"ends short", ends(b, &[0, 0, -4, 2, 0], 1));
 }
 
@@ -268,12 +268,13 @@ fn half_of(name: &[u8], parent: u16, child: u16) {
     show_ends(name, ends(t, &[0, 0, 0, 2], 1));
 }
 
-// Document 02's half squares: its four widths, even ones, the greatest.
+// Document 02's half squares: its four widths, even ones, the greatest of the old form and of all.
 fn half_squares() {
     half_of(b"half of 1 and 3", 1, 3);
     half_of(b"half of 5 and 7", 5, 7);
     half_of(b"half of 4 and 6", 4, 6);
     half_of(b"half of 255 and 254", 255, 254);
+    half_of(b"half of 1023 and 1022", 1023, 1022);
 }
 
 fn main() {

@@ -1,7 +1,7 @@
 //! The engine's calls for Rust. Each takes its buffers as slices and passes them on as a pointer and a
 //! length, which is all that the library asks: no call asks anything more of its caller.
 
-/// One record of a table.
+/// One record of a table; its width is at most 1,023.
 #[repr(C)]
 #[derive(Clone, Copy, Debug, Default, PartialEq, Eq)]
 pub struct Record {
@@ -157,7 +157,7 @@ fn unless<T>(number: u8, cell: u16, answer: T) -> Result<T, Refusal> {
     }
 }
 
-/// Read: a file into the first records of the table, which needs room for 256.
+/// Read: a file of either form into the first records of the table, which needs room for 256.
 pub fn read(file: &[u8], table: &mut [Record]) -> Result<Plan, Refusal> {
     // SAFETY: both pointers are good for their lengths, and no byte of the file is in the table.
     let r = unsafe { raw::kuzpalen_read(file.as_ptr(), file.len(), table.as_mut_ptr(), table.len()) };

@@ -10,7 +10,7 @@ use bindings::Record;
 use compare::guard::Guarded;
 use reference::generate as make;
 use reference::rng::Rng;
-use reference::{Cell, Refusal, LISTING, MAX_CELLS, SCRATCH};
+use reference::{Cell, Form, Refusal, FORMS, LISTING, MAX_CELLS, MAX_COORDINATE, MAX_WIDTH, SCRATCH};
 use std::collections::BTreeMap;
 use std::mem::size_of;
 use std::process::exit;
@@ -19,6 +19,8 @@ use std::time::Instant;
 const SEED: u64 = 20_261_115;
 const INPUTS: u64 = 120_000;
 const CHOICE: u8 = 4;
+/// A sheet this wide is near the widest that there is.
+const NEAR_WIDEST: u32 = 240_000;
 
 /// How often each call gave each answer.
 type Seen = BTreeMap<(&'static str, String), u64>;
@@ -69,12 +71,41 @@ impl Run {
         *self.seen.entry((call, answer)).or_insert(0) += 1;
     }
 
-    /// An answer to a plan with a choice, for which another child is appointed.
-    fn count_choice(&mut self, call: &'static str, answer: &str) {
-        *self.seen.entry((call, format!("choice {answer}"))).or_insert(0) += 1;
+    /// What else is to be seen in an answer.
+    fn note(&mut self, call: &'static str, what: impl Into<String>) {
+        *self.seen.entry((call, what.into())).or_insert(0) += 1;
     }
 
-    fn read(&mut self, rng: &mut Rng, file: &[u8]) {
+    /// Widths at the edges of what is allowed, in a table that a call accepts or refuses by question 8.
+    fn note_widths<T>(&mut self, call: &'static str, cells: &[Cell], expected: &Result<T, Refusal>) {
+        match expected {
+            Ok(_) => {
+                for width in [255, 256, MAX_WIDTH] {
+                    if cells.iter().any(|c| c.width == width) {
+                        self.note(call, format!("width {width}"));
+                    }
+                }
+            }
+            Err(Refusal { number: 8, cell }) if cells[*cell as usize].width == MAX_WIDTH + 1 => self.note(call, "width 1024"),
+            _ => {}
+        }
+    }
+
+    /// Coordinates at the edges of question 15, in positions that a call accepts or refuses by it.
+    fn note_coordinates<T>(&mut self, call: &'static str, positions: &[i32], n: usize, expected: &Result<T, Refusal>) {
+        let (far, cells) = match expected {
+            Ok(_) => (MAX_COORDINATE as i32, 0..n),
+            Err(Refusal { number: 15, cell }) => (MAX_COORDINATE as i32 + 1, *cell as usize..*cell as usize + 1),
+            _ => return,
+        };
+        for edge in [far, -far] {
+            if positions[2 * cells.start..2 * cells.end].contains(&edge) {
+                self.note(call, format!("at {edge}"));
+            }
+        }
+    }
+
+    fn read(&mut self, rng: &mut Rng, file: &[u8]) -> String {
         let room = if rng.once_in(40) { rng.index(MAX_CELLS) } else { MAX_CELLS + rng.index(20) };
         let pattern = Cell {
             parent: rng.next() as u16,
@@ -96,7 +127,18 @@ impl Run {
         self.same("Read's answer", &got, &expected, &file);
         self.same("the table after Read", &ours, &records(&theirs), &file);
         self.same("the file after Read", &lent.as_slice(), &file, &file);
-        self.count("Read", named(&expected.map(|_| ())));
+        match expected {
+            Ok((n, _)) => self.note_widths("Read", &theirs[..n as usize], &expected),
+            Err(Refusal { number: 8, cell }) => {
+                if let Some(what) = wide_fault(file, cell as usize) {
+                    self.note("Read", what);
+                }
+            }
+            _ => {}
+        }
+        let answer = named(&expected.map(|_| ()));
+        self.count("Read", of_form(file, &answer));
+        answer
     }
 
     fn labels(&mut self, rng: &mut Rng, file: &[u8]) {
@@ -107,7 +149,8 @@ impl Run {
             let part = place_of(bindings::label(lent, cell), lent);
             self.same("Label's refusal", &(got.number as u32, got.cell as u32), &(expected.number, expected.cell), &(cell, file));
             self.same("Label's part of the file", &part, &place_of(reference::label(file, cell), file), &(cell, file));
-            self.count("Label", if expected.number == 0 { "accepted".into() } else { format!("refused {:2}", expected.number) });
+            let answer = if expected.number == 0 { Ok(()) } else { Err(expected) };
+            self.count("Label", of_form(file, &named(&answer)));
         }
     }
 
@@ -128,7 +171,7 @@ impl Run {
         self.same("List's answer", &got, &expected, &(room, file));
         self.same("the output after List", &ours, &theirs, &(room, file));
         self.same("the file after List", &lent.as_slice(), &file, &file);
-        self.count("List", expected.map_or_else(|r| named(&Err(r)), |length| printed(&theirs[..length])));
+        self.count("List", expected.map_or_else(|r| named(&Err(r)), |length| of_form(file, &printed(&theirs[..length]))));
     }
 
     fn layout(&mut self, rng: &mut Rng, cells: &[Cell], allowance: u32) -> Vec<i32> {
@@ -155,8 +198,12 @@ impl Run {
         self.same("the scratch after Layout", &our_scratch, &their_scratch, &input);
         self.same("the table after Layout", &table, &records(cells), &input);
         if expected.is_ok() && cells.iter().any(|c| c.kind == CHOICE) {
-            self.count_choice("Layout", "laid");
+            self.note("Layout", "choice laid");
         }
+        if expected.is_ok_and(|m| m.width >= NEAR_WIDEST) {
+            self.note("Layout", "near widest");
+        }
+        self.note_widths("Layout", cells, &expected);
         self.count("Layout", named(&expected.map(|_| ())));
         ours
     }
@@ -175,10 +222,12 @@ impl Run {
         self.same("Check's answer", &got, &expected, &(allowance, positions, cells));
         self.same("the buffers after Check", &(lent.as_slice(), table), &(positions, records(cells)), &cells);
         match expected {
-            Ok(reference::Verdict::Kept(_)) if cells.iter().any(|c| c.kind == CHOICE) => self.count_choice("Check", "kept"),
-            Ok(reference::Verdict::Broken { rule: 2, a, .. }) if cells[a as usize].kind == CHOICE => self.count_choice("Check", "S2"),
+            Ok(reference::Verdict::Kept(_)) if cells.iter().any(|c| c.kind == CHOICE) => self.note("Check", "choice kept"),
+            Ok(reference::Verdict::Broken { rule: 2, a, .. }) if cells[a as usize].kind == CHOICE => self.note("Check", "choice S2"),
             _ => {}
         }
+        self.note_widths("Check", cells, &expected);
+        self.note_coordinates("Check", positions, cells.len(), &expected);
         let answer = match expected {
             Ok(reference::Verdict::Kept(_)) => "kept".into(),
             Ok(reference::Verdict::Broken { rule, .. }) => format!("broken S{rule}"),
@@ -197,6 +246,8 @@ impl Run {
         let (table, lent) = (table.to_vec(), lent.to_vec());
         self.same("Ends' answer", &got, &expected, &(cell, positions, cells));
         self.same("the buffers after Ends", &(lent.as_slice(), table), &(positions, records(cells)), &cells);
+        self.note_widths("Ends", cells, &expected);
+        self.note_coordinates("Ends", positions, cells.len(), &expected);
         self.count("Ends", named(&expected.map(|_| ())));
     }
 
@@ -214,6 +265,7 @@ impl Run {
         self.same("Frame's answer", &got, &expected, &input);
         self.same("the scratch after Frame", &ours, &theirs, &input);
         self.same("the table after Frame", &table, &records(cells), &input);
+        self.note_widths("Frame", cells, &expected);
         let answer = match expected {
             Ok(Some(0)) => "0".into(),
             Ok(Some(_)) => "more than 0".into(),
@@ -223,25 +275,29 @@ impl Run {
         self.count("Frame", answer);
     }
 
-    /// A file, valid or damaged, through Read, Label and List.
+    /// A file of either form, valid or damaged, through Read, Label and List.
     fn a_file(&mut self, rng: &mut Rng) {
+        let form = rng.pick(&FORMS);
         let mut cells = if rng.once_in(10) { make::too_tall(rng) } else { some_table(rng) };
+        make::narrow(form, &mut cells);
         let labels = make::labels(rng, &mut cells);
         if rng.once_in(3) {
             make::damage_table(rng, &mut cells);
         }
-        let mut file = make::file(&labels, &cells, rng.next() as u16);
-        match rng.index(12) {
+        let mut file = make::file(form, &labels, &cells, rng.next() as u16);
+        let mut mixed = false;
+        match rng.index(14) {
             0..=3 => {}
-            4 => file = (0..rng.between(0, 80)).map(|_| rng.next() as u8).collect(),
+            4 => file = make::noise(rng, 80),
             5 => {
                 // At the edges of the file's length.
-                let len = rng.pick(&[15, 16, 17, 16_383, 16_384, 16_385]) as usize;
-                let n = 1.max((len.saturating_sub(8) / 8).min(rng.between(1, 20) as usize));
+                let len = rng.pick(&[15, 16, 17, 18, 16_383, 16_384, 16_385]) as usize;
+                let n = 1.max((len.saturating_sub(8) / form.size()).min(rng.between(1, 20) as usize));
                 let one = Cell { parent: 65_535, kind: 1, width: 2, depth: 1, ..Cell::default() };
                 let many: Vec<Cell> = (0..n).map(|i| if i == 0 { one } else { Cell { parent: 0, ..one } }).collect();
-                let room = len.saturating_sub(8 * n + 8);
-                file = make::file(&vec![b'a'; room], &many, 0);
+                let room = len.saturating_sub(form.size() * n + 8);
+                file = make::file(form, &vec![b'a'; room], &many, 0);
+                file.drain(..file.len().saturating_sub(len));
             }
             6 => {
                 // Short labels in a wide box, with a byte that is not allowed now and then.
@@ -250,23 +306,36 @@ impl Run {
                     file[i] = rng.pick(&[31, 32, 126, 127, 0, 255]);
                 }
             }
+            7 => {
+                mixed = true;
+                make::mix_up(rng, form, labels.len(), cells.len(), &mut file);
+            }
+            8 if form == Form::Wide && !cells.is_empty() => make::spoil_zero(rng, labels.len(), cells.len(), &mut file),
             _ => {
                 for _ in 0..rng.between(1, 2) {
                     make::damage_file(rng, &mut file);
                 }
             }
         }
-        self.read(rng, &file);
+        let answer = self.read(rng, &file);
+        if mixed {
+            self.note("Read", format!("mixed {answer}"));
+        }
         self.labels(rng, &file);
         self.list(rng, &file);
     }
 
     /// A table, valid or damaged, through Layout, Check, Ends and Frame.
     fn a_table(&mut self, rng: &mut Rng) {
-        let mut cells = if rng.once_in(30) { make::too_tall(rng) } else { some_table(rng) };
-        let mut allowance = make::allowance(rng);
+        let widest = rng.once_in(1_000);
+        let mut cells = match () {
+            _ if widest => make::widest(rng),
+            _ if rng.once_in(30) => make::too_tall(rng),
+            _ => some_table(rng),
+        };
+        let mut allowance = if widest { 0 } else { make::allowance(rng) };
         let mut valid = reference::layout(&cells, 0, &mut vec![0; 512], &mut vec![0; SCRATCH]).is_ok();
-        if rng.once_in(3) {
+        if !widest && rng.once_in(3) {
             for _ in 0..rng.between(1, 2) {
                 if !cells.is_empty() {
                     make::damage_table(rng, &mut cells);
@@ -285,10 +354,11 @@ impl Run {
         self.check(rng, &cells, &ours, allowance);
         let foreign = if valid {
             let mut p = make::foreign(rng, &cells, allowance.min(65_535));
-            p.extend((0..rng.index(4)).map(|_| 70_000));
+            p.extend((0..rng.index(4)).map(|_| 300_000));
             p
         } else {
-            (0..2 * cells.len() + rng.index(3)).map(|_| rng.between(-70_000, 70_000) as i32).collect()
+            let far = rng.pick(&[70_000, 262_144, 300_000]);
+            (0..2 * cells.len() + rng.index(3)).map(|_| rng.between(-far, far) as i32).collect()
         };
         let under = if rng.once_in(4) { make::allowance(rng) } else { allowance };
         self.check(rng, &cells, &foreign, under);
@@ -308,7 +378,10 @@ fn some_frame(rng: &mut Rng, cells: &[Cell]) -> u32 {
     match rng.index(12) {
         0 => 0,
         1 => u32::MAX,
-        2 => rng.between(1, 400) as u32,
+        2 => {
+            let most = rng.pick(&[400, 2_000, 300_000]);
+            rng.between(1, most) as u32
+        }
         _ => {
             let laid = reference::layout(cells, make::allowance(rng), &mut vec![0; 512], &mut vec![0; SCRATCH]);
             laid.map_or(1, |m| m.width) - rng.pick(&[0, 0, 1]) + rng.pick(&[0, 0, 1])
@@ -319,6 +392,31 @@ fn some_frame(rng: &mut Rng, cells: &[Cell]) -> u32 {
 /// Where a part of a file begins, and its length.
 fn place_of(part: &[u8], file: &[u8]) -> (usize, usize) {
     (part.as_ptr() as usize - file.as_ptr() as usize, part.len())
+}
+
+/// The answer with the form of the file before it, where question 3 was passed.
+fn of_form(file: &[u8], answer: &str) -> String {
+    let early = ["refused  1", "refused  2", "refused  3", "prints    2", "prints    3"].contains(&answer);
+    match Form::of(file) {
+        Some(form) if !early => format!("{form:?} {answer}"),
+        _ => answer.into(),
+    }
+}
+
+/// Which part of question 8 alone refuses a record of a wide file, of those that the old form has not.
+fn wide_fault(file: &[u8], cell: usize) -> Option<&'static str> {
+    if Form::of(file) != Some(Form::Wide) {
+        return None;
+    }
+    let trailer = &file[file.len() - 8..];
+    let begin = trailer[0] as usize + 256 * trailer[1] as usize;
+    let record = &file[begin + Form::Wide.size() * cell..];
+    let width = record[4] as u16 + 256 * record[5] as u16;
+    match ((1..=15).contains(&record[3]), width, record[7]) {
+        (true, 1_024, 0) => Some("width 1024"),
+        (true, 1..=MAX_WIDTH, 1..) => Some("byte 7"),
+        _ => None,
+    }
 }
 
 fn named(r: &Result<(), Refusal>) -> String {
@@ -352,28 +450,40 @@ fn some_table(rng: &mut Rng) -> Vec<Cell> {
 
 /// The answers that each call can give: all must have been seen in a long run.
 fn unseen(seen: &Seen) -> Vec<String> {
+    let mut all: Vec<(&str, String)> = Vec::new();
     let refusals: [(&str, &[u32]); 7] = [
-        ("Read", &[1, 2, 3, 4, 5, 6, 7, 8, 9, 10, 11, 12, 13]),
-        ("Label", &[2, 3, 4, 5, 6, 7, 8, 9, 10, 11, 12, 13, 16]),
+        ("Read", &[1, 2, 3]),
+        ("Label", &[2, 3]),
         ("Layout", &[1, 4, 6, 7, 8, 11, 12, 13, 14]),
         ("Check", &[1, 4, 6, 7, 8, 11, 12, 13, 14, 15]),
         ("Ends", &[1, 4, 6, 7, 8, 11, 12, 13, 15, 16]),
         ("List", &[1]),
         ("Frame", &[1, 4, 6, 7, 8, 11, 12, 13, 19]),
     ];
-    let mut all: Vec<(&str, String)> = Vec::new();
     for (call, numbers) in refusals {
         all.extend(numbers.iter().map(|n| (call, format!("refused {n:2}"))));
-        if !["Check", "List", "Frame"].contains(&call) {
-            all.push((call, "accepted".into()));
-        }
+    }
+    all.extend(["Layout", "Ends"].map(|call| (call, "accepted".into())));
+    all.extend([2, 3].map(|n| ("List", format!("prints {n:>4}"))));
+    for form in FORMS {
+        all.extend(["Read", "Label"].map(|call| (call, format!("{form:?} accepted"))));
+        all.extend((4..=13).map(|n| ("Read", format!("{form:?} refused {n:2}"))));
+        all.extend((4..=13).chain([16]).map(|n| ("Label", format!("{form:?} refused {n:2}"))));
+        all.push(("List", format!("{form:?} prints sheet")));
+        all.extend((4..=13).map(|n| ("List", format!("{form:?} prints {n:>4}"))));
     }
     all.push(("Check", "kept".into()));
-    all.extend(["0", "more than 0", "none"].map(|a| ("Frame", a.into())));
     all.extend((1..=5).map(|s| ("Check", format!("broken S{s}"))));
-    all.push(("List", "prints sheet".into()));
-    all.extend((2..=13).map(|n| ("List", format!("prints {n:>4}"))));
-    all.extend([("Layout", "laid"), ("Check", "kept"), ("Check", "S2")].map(|(call, answer)| (call, format!("choice {answer}"))));
+    all.extend(["0", "more than 0", "none"].map(|a| ("Frame", a.into())));
+    all.extend([("Layout", "choice laid"), ("Check", "choice kept"), ("Check", "choice S2"), ("Layout", "near widest")].map(|(c, a)| (c, a.into())));
+    for call in ["Read", "Layout", "Check", "Ends", "Frame"] {
+        all.extend([255, 256, 1_023, 1_024].map(|w| (call, format!("width {w}"))));
+    }
+    for call in ["Check", "Ends"] {
+        all.extend([262_143, 262_144, -262_143, -262_144].map(|x| (call, format!("at {x}"))));
+    }
+    all.push(("Read", "byte 7".into()));
+    all.extend(["refused  4", "refused  5", "refused  6", "refused  8", "refused 10"].map(|a| ("Read", format!("mixed {a}"))));
     all.into_iter().filter(|(c, a)| !seen.contains_key(&(*c, a.clone()))).map(|(c, a)| format!("{c} {a}")).collect()
 }
 
@@ -401,7 +511,7 @@ fn main() {
         }
     }
     for ((call, answer), times) in &run.seen {
-        println!("{call:7} {answer:12} {times:8}");
+        println!("{call:7} {answer:17} {times:8}");
     }
     println!("{inputs} inputs, {} calls, seed {seed}, {:.1} s: no difference", run.calls, began.elapsed().as_secs_f64());
     let missing = unseen(&run.seen);

@@ -8,7 +8,8 @@ const CELLS: usize = 256;
 const ROW: usize = 64;
 const SCRATCH: usize = 16_384;
 const LISTING: usize = 17_408;
-const FARTHEST: i32 = 65_535;
+const FARTHEST: i32 = 262_143;
+const WIDEST: u16 = 1_023;
 
 fn refuse<T>(number: u8, cell: usize) -> Result<T, Refusal> {
     Err(Refusal { number, cell: cell as u16 })
@@ -49,7 +50,7 @@ fn ask_record(i: usize, c: &Record) -> Result<(), Refusal> {
     if border(c.kind).is_none() {
         return refuse(7, i);
     }
-    if !(1..=255).contains(&c.width) || !(1..=15).contains(&c.depth) {
+    if !(1..=WIDEST).contains(&c.width) || !(1..=15).contains(&c.depth) {
         return refuse(8, i);
     }
     Ok(())
@@ -117,6 +118,14 @@ fn two(file: &[u8], at: usize) -> u16 {
     u16::from_le_bytes([file[at], file[at + 1]])
 }
 
+fn old_record(r: &[u8]) -> Record {
+    Record { parent: two(r, 0), kind: r[2], width: r[3] as u16, depth: r[4], label_length: r[5], label_start: two(r, 6) }
+}
+
+fn wide_record(r: &[u8]) -> Record {
+    Record { parent: two(r, 0), kind: r[2], width: two(r, 4), depth: r[3], label_length: r[6], label_start: two(r, 8) }
+}
+
 pub fn read(file: &[u8], table: &mut [Record]) -> Result<Plan, Refusal> {
     if table.len() < CELLS {
         return refuse(1, 0);
@@ -125,30 +134,29 @@ pub fn read(file: &[u8], table: &mut [Record]) -> Result<Plan, Refusal> {
     if !(16..=16_384).contains(&len) {
         return refuse(2, 0);
     }
-    if file[len - 2..] != [0x53, 0x54] {
-        return refuse(3, 0);
-    }
+    let wide = match file[len - 2..] {
+        [0x53, 0x54] => false,
+        [0x53, 0x55] => true,
+        _ => return refuse(3, 0),
+    };
+    let size = if wide { 10 } else { 8 };
     let begin = two(file, len - 8) as usize;
     let n = two(file, len - 6) as usize;
-    if n < 1 || n > CELLS || begin + 8 * n + 8 != len {
+    if n < 1 || n > CELLS || begin + size * n + 8 != len {
         return refuse(4, 0);
     }
     if file[..begin].iter().any(|b| !(32..=126).contains(b)) {
         return refuse(5, 0);
     }
     let mut cells = [Record::default(); CELLS];
-    for (i, r) in file[begin..len - 8].chunks_exact(8).enumerate() {
-        cells[i] = Record {
-            parent: two(r, 0),
-            kind: r[2],
-            width: r[3] as u16,
-            depth: r[4],
-            label_length: r[5],
-            label_start: two(r, 6),
-        };
+    for (cell, r) in cells.iter_mut().zip(file[begin..len - 8].chunks_exact(size)) {
+        *cell = if wide { wide_record(r) } else { old_record(r) };
     }
     for (i, c) in cells[..n].iter().enumerate() {
         ask_record(i, c)?;
+        if wide && file[begin + size * i + 7] != 0 {
+            return refuse(8, i);
+        }
         if c.label_length > 40 || c.label_start as usize + c.label_length as usize > begin {
             return refuse(9, i);
         }

@@ -1,7 +1,8 @@
 //! Seeded random inputs: valid plans of several shapes, the files that hold them, and damage to both.
 
 use crate::layout::{distances_by_pairs, place};
-use crate::plan::{border, Cell, Plan, ROOT};
+use crate::plan::{border, Cell, Plan, MAX_CELLS, MAX_WIDTH, ROOT};
+use crate::plan_file::{Form, FORMS};
 use crate::rng::Rng;
 
 /// The number of sons that a cell may take on while a plan grows.
@@ -62,9 +63,13 @@ pub fn table(rng: &mut Rng, shape: Shape, n: usize, sizes: &Sizes) -> Vec<Cell> 
 }
 
 fn one(rng: &mut Rng, parent: u16, sizes: &Sizes) -> Cell {
+    let width = match sizes.max_width {
+        1_023 if rng.once_in(8) => rng.pick(&[255, 256, 1_022, 1_023]),
+        most => rng.between(1, most),
+    };
     Cell {
         parent,
-        width: rng.between(1, sizes.max_width) as u16,
+        width: width as u16,
         depth: rng.between(1, sizes.max_depth) as u8,
         ..Cell::default()
     }
@@ -94,7 +99,7 @@ fn kind_for(rng: &mut Rng, sons: usize) -> u8 {
 /// Widths, depths and shape of a random plan with at most n cells.
 pub fn any_table(rng: &mut Rng, n: usize) -> Vec<Cell> {
     let shape = rng.pick(&SHAPES);
-    let sizes = Sizes { max_width: rng.pick(&[1, 3, 9, 30, 255]), max_depth: rng.pick(&[1, 1, 2, 4, 15]) };
+    let sizes = Sizes { max_width: rng.pick(&[1, 3, 9, 30, 255, 1_023]), max_depth: rng.pick(&[1, 1, 2, 4, 15]) };
     table(rng, shape, n, &sizes)
 }
 
@@ -129,19 +134,61 @@ pub fn labels(rng: &mut Rng, cells: &mut [Cell]) -> Vec<u8> {
     bytes
 }
 
-/// The file that holds a table, whatever its fields are.
-pub fn file(labels: &[u8], cells: &[Cell], allowance: u16) -> Vec<u8> {
+/// Makes each box as narrow as a form of the file asks for.
+pub fn narrow(form: Form, cells: &mut [Cell]) {
+    cells.iter_mut().for_each(|c| c.width = c.width.min(form.max_width()));
+}
+
+/// The file of a form that holds a table, whatever its fields are; in the old form a width's low byte.
+pub fn file(form: Form, labels: &[u8], cells: &[Cell], allowance: u16) -> Vec<u8> {
     let mut out = labels.to_vec();
     for c in cells {
+        let [low, high] = c.width.to_le_bytes();
         out.extend(c.parent.to_le_bytes());
-        out.extend([c.kind, c.width as u8, c.depth, c.label_len]);
+        match form {
+            Form::Old => out.extend([c.kind, low, c.depth, c.label_len]),
+            Form::Wide => out.extend([c.kind, c.depth, low, high, c.label_len, 0]),
+        }
         out.extend(c.label_start.to_le_bytes());
     }
     out.extend((labels.len() as u16).to_le_bytes());
     out.extend((cells.len() as u16).to_le_bytes());
     out.extend(allowance.to_le_bytes());
-    out.extend([0x53, 0x54]);
+    out.extend(form.mark());
     out
+}
+
+/// A file of random bytes, as often as not with a mark at its end.
+pub fn noise(rng: &mut Rng, most: i64) -> Vec<u8> {
+    let mut file: Vec<u8> = (0..rng.between(0, most)).map(|_| rng.next() as u8).collect();
+    if rng.once_in(2) {
+        file.extend(rng.pick(&FORMS).mark());
+    }
+    file
+}
+
+/// The other form's mark on a file that was made with `file`: alone, or with the number of records, the
+/// beginning or the length that the other form's records would ask for.
+pub fn mix_up(rng: &mut Rng, form: Form, labels: usize, cells: usize, file: &mut Vec<u8>) {
+    let other = if form == Form::Old { Form::Wide } else { Form::Old };
+    let trailer = file.len() - 8;
+    let size = other.size();
+    file[trailer + 6..].copy_from_slice(&other.mark());
+    match rng.index(4) {
+        0 => {}
+        1 => file[trailer + 2..trailer + 4].copy_from_slice(&(((trailer - labels) / size) as u16).to_le_bytes()),
+        2 => file[trailer..trailer + 2].copy_from_slice(&(trailer.saturating_sub(size * cells) as u16).to_le_bytes()),
+        _ => {
+            let end = file.split_off(trailer);
+            file.resize(labels + size * cells, rng.pick(&[0, 1, 32]));
+            file.extend(end);
+        }
+    }
+}
+
+/// A byte 7 that is not zero, in some record of a wide file that was made with `file`.
+pub fn spoil_zero(rng: &mut Rng, labels: usize, cells: usize, file: &mut [u8]) {
+    file[labels + 10 * rng.index(cells) + 7] = rng.between(1, 255) as u8;
 }
 
 /// One random wrong done to a table. Labels in it may be wrong too, which only a file notices.
@@ -154,7 +201,7 @@ pub fn damage_table(rng: &mut Rng, cells: &mut Vec<Cell>) {
         2 => cells[i].parent = rng.between(0, i as i64) as u16,
         3 => cells[i].kind = rng.pick(&[0, 6, 7, 255]),
         4 => cells[i].kind = rng.between(1, 5) as u8,
-        5 => cells[i].width = rng.pick(&[0, 256, 257, 511, 65_535]),
+        5 => cells[i].width = rng.pick(&[0, 256, 1_023, 1_024, 1_024, 65_535]),
         6 => cells[i].depth = rng.pick(&[0, 16, 17, 255]),
         7 => cells[i].depth = 15,
         8 => cells[i].label_len = rng.between(0, 255) as u8,
@@ -195,11 +242,12 @@ pub fn damage_file(rng: &mut Rng, file: &mut Vec<u8>) {
 pub fn too_tall(rng: &mut Rng) -> Vec<Cell> {
     let n = rng.between(17, 60) as usize;
     let depth = rng.pick(&[1, 7, 8, 14, 15]);
+    let branches = rng.pick(&[6, 40]);
     let mut cells: Vec<Cell> = (0..n)
         .map(|i| Cell { parent: if i == 0 { ROOT } else { i as u16 - 1 }, width: 2, depth, ..Cell::default() })
         .collect();
     for i in 1..n {
-        if rng.once_in(6) {
+        if rng.once_in(branches) {
             cells[i].parent = rng.index(i) as u16;
         }
         if rng.once_in(4) {
@@ -209,6 +257,31 @@ pub fn too_tall(rng: &mut Rng) -> Vec<Cell> {
     let sons: Vec<usize> = (0..n).map(|f| cells.iter().filter(|c| c.parent as usize == f).count()).collect();
     for i in 0..n {
         cells[i].kind = kind_for(rng, sons[i]);
+    }
+    cells
+}
+
+/// 256 boxes, nearly all of the greatest width, with as few parents as can be: at allowance 0 the sheet is
+/// nearly as wide as a sheet can get, to the right of the root, to its left, or to both sides.
+pub fn widest(rng: &mut Rng) -> Vec<Cell> {
+    let (left, both) = rng.pick(&[(false, false), (true, false), (false, true)]);
+    let mut cells = vec![Cell { parent: ROOT, width: MAX_WIDTH, depth: 1, ..Cell::default() }; MAX_CELLS];
+    (1..MAX_CELLS).for_each(|c| cells[c].parent = 0);
+    // To the left: the root is a run with the later of two sons over it, and all others are below the earlier.
+    let (host, first) = if left { (1, 3) } else { (0, 1) };
+    let hosts: Vec<usize> = std::iter::once(host).chain(first..).take(MAX_CELLS).collect();
+    (first..MAX_CELLS).for_each(|c| cells[c].parent = hosts[(c - first) / MAX_SONS] as u16);
+    for c in 0..MAX_CELLS {
+        let sons = cells.iter().filter(|d| d.parent as usize == c).count();
+        cells[c].kind = match sons {
+            0 => 1,
+            1 => 2,
+            _ if both || (left && c == 0) => 2,
+            _ => 4,
+        };
+        if rng.once_in(40) {
+            cells[c].width = rng.between(1_000, 1_023) as u16;
+        }
     }
     cells
 }
@@ -272,14 +345,14 @@ pub fn foreign(rng: &mut Rng, cells: &[Cell], allowance: u32) -> Vec<i32> {
         }
         8 => {
             let k = rng.index(2 * n);
-            p[k] = rng.pick(&[-65_536, -65_535, 65_535, 65_536, i32::MIN, i32::MAX, 0]);
+            p[k] = rng.pick(&[-262_144, -262_143, -65_536, 65_536, 262_143, 262_144, i32::MIN, i32::MAX, 0]);
         }
         9 => {
             let (from, to) = (rng.index(n), rng.index(n));
             p.swap(2 * from, 2 * to);
         }
         _ => {
-            let bound = rng.pick(&[2, 20, 65_535]);
+            let bound = rng.pick(&[2, 20, 65_535, 262_143]);
             for c in 0..n {
                 p[2 * c] = rng.between(-bound, bound) as i32;
             }

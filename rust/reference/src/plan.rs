@@ -6,6 +6,8 @@ pub const MAX_CELLS: usize = 256;
 const MAX_LEVEL: usize = 31;
 const LAST_ROW: i64 = 255;
 const MAX_ALLOWANCE: u32 = 65_535;
+/// The greatest width in a table (document 02, E7).
+pub const MAX_WIDTH: u16 = 1_023;
 
 /// One record of the lent table, laid out as the engine's.
 #[repr(C)]
@@ -135,8 +137,8 @@ impl Plan {
     }
 }
 
-/// Questions 6 to 8 of record number i.
-pub fn ask_record(i: usize, c: &Cell) -> Result<(), Refusal> {
+/// Questions 6 to 8 of record number i, with the greatest width that is allowed where it stands.
+pub fn ask_record(i: usize, c: &Cell, max_width: u16) -> Result<(), Refusal> {
     let father_ok = if i == 0 { c.parent == ROOT } else { (c.parent as usize) < i };
     if !father_ok {
         return refuse(6, i);
@@ -144,7 +146,7 @@ pub fn ask_record(i: usize, c: &Cell) -> Result<(), Refusal> {
     if border(c.kind).is_none() {
         return refuse(7, i);
     }
-    if !(1..=255).contains(&c.width) || !(1..=15).contains(&c.depth) {
+    if !(1..=max_width).contains(&c.width) || !(1..=15).contains(&c.depth) {
         return refuse(8, i);
     }
     Ok(())
@@ -175,7 +177,7 @@ pub fn ask_table(table: &[Cell], positions: usize) -> Result<Plan, Refusal> {
         return refuse(1, 0);
     }
     for (i, c) in table.iter().enumerate() {
-        ask_record(i, c)?;
+        ask_record(i, c, MAX_WIDTH)?;
     }
     ask_tree(table)
 }

@@ -1,6 +1,44 @@
-//! The plan file: Read, Label and Label's refusal.
+//! The plan file in its two forms: Read, Label and Label's refusal.
 
 use crate::plan::{ask_record, ask_tree, border, refuse, Cell, Refusal, MAX_CELLS};
+
+/// A form of the file, told by its mark: document 01's, and the one for wider boxes (document 02, E7).
+#[derive(Clone, Copy, Debug, PartialEq, Eq)]
+pub enum Form {
+    Old,
+    Wide,
+}
+
+pub const FORMS: [Form; 2] = [Form::Old, Form::Wide];
+
+impl Form {
+    pub fn mark(self) -> [u8; 2] {
+        match self {
+            Form::Old => [0x53, 0x54],
+            Form::Wide => [0x53, 0x55],
+        }
+    }
+
+    /// The form that a file's last two bytes say, if they are a mark.
+    pub fn of(file: &[u8]) -> Option<Form> {
+        FORMS.into_iter().find(|form| file.ends_with(&form.mark()))
+    }
+
+    /// The bytes of a record.
+    pub fn size(self) -> usize {
+        match self {
+            Form::Old => 8,
+            Form::Wide => 10,
+        }
+    }
+
+    pub fn max_width(self) -> u16 {
+        match self {
+            Form::Old => 255,
+            Form::Wide => 1_023,
+        }
+    }
+}
 
 struct Parsed {
     cells: Vec<Cell>,
@@ -11,6 +49,21 @@ fn two(file: &[u8], at: usize) -> u16 {
     file[at] as u16 + 256 * file[at + 1] as u16
 }
 
+/// The record at a place, and the byte that must be zero (an old record has none).
+fn record(file: &[u8], at: usize, form: Form) -> (Cell, u8) {
+    let (parent, kind) = (two(file, at), file[at + 2]);
+    match form {
+        Form::Old => {
+            let (width, depth, label_len, label_start) = (file[at + 3] as u16, file[at + 4], file[at + 5], two(file, at + 6));
+            (Cell { parent, kind, width, depth, label_len, label_start }, 0)
+        }
+        Form::Wide => {
+            let (depth, width, label_len, label_start) = (file[at + 3], two(file, at + 4), file[at + 6], two(file, at + 8));
+            (Cell { parent, kind, width, depth, label_len, label_start }, file[at + 7])
+        }
+    }
+}
+
 /// Questions 2 to 14 of a file, in their order.
 fn parse(file: &[u8]) -> Result<Parsed, Refusal> {
     let len = file.len();
@@ -18,12 +71,12 @@ fn parse(file: &[u8]) -> Result<Parsed, Refusal> {
         return refuse(2, 0);
     }
     let trailer = len - 8;
-    if file[trailer + 6] != 0x53 || file[trailer + 7] != 0x54 {
+    let Some(form) = Form::of(file) else {
         return refuse(3, 0);
-    }
+    };
     let begin = two(file, trailer) as usize;
     let n = two(file, trailer + 2) as usize;
-    if n < 1 || n > MAX_CELLS || begin + 8 * n + 8 != len {
+    if n < 1 || n > MAX_CELLS || begin + form.size() * n + 8 != len {
         return refuse(4, 0);
     }
     if file[..begin].iter().any(|b| !(32..=126).contains(b)) {
@@ -31,16 +84,11 @@ fn parse(file: &[u8]) -> Result<Parsed, Refusal> {
     }
     let mut cells = Vec::new();
     for i in 0..n {
-        let at = begin + 8 * i;
-        let c = Cell {
-            parent: two(file, at),
-            kind: file[at + 2],
-            width: file[at + 3] as u16,
-            depth: file[at + 4],
-            label_len: file[at + 5],
-            label_start: two(file, at + 6),
-        };
-        ask_record(i, &c)?;
+        let (c, zero) = record(file, begin + form.size() * i, form);
+        ask_record(i, &c, form.max_width())?;
+        if zero != 0 {
+            return refuse(8, i);
+        }
         if c.label_len > 40 || c.label_start as usize + c.label_len as usize > begin {
             return refuse(9, i);
         }

@@ -2,7 +2,8 @@
 
 use crate::plan::{ask_allowance, ask_table, refuse, Cell, Plan, Refusal};
 
-const MAX_COORDINATE: i64 = 65_535;
+/// Document 02, E7.
+pub const MAX_COORDINATE: i64 = 262_143;
 
 #[derive(Clone, Copy, Debug, PartialEq, Eq)]
 pub struct Measure {

@@ -36,6 +36,7 @@ use denote.Triple.End.{lastsOf}
 use denote.Triple.Spec.{tripleOf, exits}
 use denote.Triple.Table.{entered, cited, framed}
 use denote.Triple.Walked.{says}
+use Rattle.plan.specs.Limits.{most-cells}
 use Rattle.plan.specs.declared.Record.{Record}
 use Rattle.planfile.specs.declared.Reading.{Reading}
 use Rattle.records.specs.Together.{filled}
@@ -77,7 +78,7 @@ module _ {M : Type 1} (𝓤 : URA M) (H : Heap 𝓤) (A : Atoms 𝓤) where
   abbrev Fill : Contract 𝓤
   Fill = tripleOf 𝓤 H A fill.signature (λ κs a. record {
     ghost = Unit {0};
-    requires = λ _. fact 𝓤 ((a .1 .0 ≤ length (a .1 .1 .0 .now)) × (a .1 .0 ≤ 256));
+    requires = λ _. fact 𝓤 ((a .1 .0 ≤ length (a .1 .1 .0 .now)) × (a .1 .0 ≤ most-cells));
     ensures = λ _ m. exits 𝓤 H A fill.signature (fill.ended .kept) κs a (λ e. fact 𝓤 (e .1 .1 .0 .now ≡ filled (a .0) (a .1 .0) (a .1 .1 .0 .now)));
   })
 

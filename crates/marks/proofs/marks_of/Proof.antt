@@ -2,6 +2,7 @@ use borrow.Author.Needs.{needs}
 use mathlib.Core.Path.{_≡_}
 use lib.ListN.{length}
 use native.Mathlib.Omega.{arith}
+use Rattle.plan.specs.Limits.{most-cells}
 use Rattle.marks.specs.Marks.{Long, linking, walking, marked, toured}
 use Rattle.marks.proofs.marks_of.Statement.{statement}
 use Rattle.marks.proofs.marks_of.Tie as tie
@@ -10,10 +11,10 @@ use Rattle.marks.proofs.marks_of.Tie as tie
 long : (s : tie.Start) → Long (s .args .t1)
 long s =
     let t = s .args .t1 in
-    let p : length (t .parent) ≡ 256 = search needs in
-    let k : length (t .kind) ≡ 256 = search needs in
-    let w : length (t .width) ≡ 256 = search needs in
-    let d : length (t .depth) ≡ 256 = search needs in
+    let p : length (t .parent) ≡ most-cells = search needs in
+    let k : length (t .kind) ≡ most-cells = search needs in
+    let w : length (t .width) ≡ most-cells = search needs in
+    let d : length (t .depth) ≡ most-cells = search needs in
     record { parents = omega arith; kinds = omega arith; widths = omega arith; depths = omega arith }
 
 slice-aggregate-link-all : tie.Need-slice-aggregate-link-all
@@ -32,7 +33,7 @@ walk-requires : tie.Need-walk-requires
 walk-requires c κs =
     let s = c .before .before .before .before .before .before .before .before .before .before .before .before .before .before .before .before .before .before in
     let a = s .args in
-    let y : length (a .tops .now) ≡ 256 = search needs in
+    let y : length (a .tops .now) ≡ most-cells = search needs in
     walking (a .t1) (a .tops .now) (a .allowance) (a .rows .now) (a .marks .now) (s .pre) (long s) _ (c .before .before .before .before .before .before .before .before .before .before .link-all .ensures) (omega arith) (search needs)
 
 same-length : tie.Need-same-length
@@ -42,7 +43,7 @@ returns : tie.Need-returns
 returns c =
     let s = c .before .before .before .before .before .before .before .before .before .before .before .before .before .before .before .before .before .before .before .before .before in
     let a = s .args in
-    let y : length (a .tops .now) ≡ 256 = search needs in
+    let y : length (a .tops .now) ≡ most-cells = search needs in
     let w = c .before .before .walk .ensures in
     let b = c .before .before .before .before .before .before .before .before .before .before .before .before .before .link-all .ensures in
     (marked (a .t1) (a .tops .now) (a .allowance) (a .rows .now) (a .marks .now) (s .pre) (long s) _ b (omega arith) _ _ (w .0), toured (a .t1) (a .tops .now) (a .allowance) (a .rows .now) (a .marks .now) (s .pre) (long s) _ b (omega arith) (w .1))

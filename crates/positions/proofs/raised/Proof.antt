@@ -2,7 +2,7 @@ use mathlib.Core.Path.{_≡_, refl}
 use Prim.Native.Nat.{ℕ, _-_, _≤_}
 use native.Mathlib.Omega.{arith}
 use lib.ListN.{length, length-set, replicate}
-use Rattle.plan.specs.Limits.{farthest}
+use Rattle.plan.specs.Limits.{farthest, most-cells}
 use Rattle.plan.specs.Columns.{table-of}
 use Rattle.layout.specs.Sheet.{sheet}
 use Rattle.marks.specs.Marks.{Marked}
@@ -13,13 +13,13 @@ use Rattle.positions.proofs.raised.Statement.{statement}
 use Rattle.positions.proofs.raised.Tie as tie
 
 abbrev Inv-loop : tie.InvT-loop
-Inv-loop marks t xs₀ c₀ xs c = (1 ≤ c) × (length xs ≡ 256) × ((al : ℕ) → Marked (table-of t) al marks → Raised xs c (sheet (table-of t) al .x)) × ((c ≤ t .count))
+Inv-loop marks t xs₀ c₀ xs c = (1 ≤ c) × (length xs ≡ most-cells) × ((al : ℕ) → Marked (table-of t) al marks → Raised xs c (sheet (table-of t) al .x)) × ((c ≤ t .count))
 
 abbrev μ-loop : tie.MeasureT-loop
 μ-loop marks t xs₀ c₀ xs c = t .count - c
 
 loop-holds : tie.Need-loop-holds Inv-loop μ-loop
-loop-holds c = (omega arith, refl, raised-start (c .args .t1) (c .args .marks .now) (c .pre) (replicate 256 farthest) refl, counted (c .args .t1) (c .args .marks .now) (c .pre) .0)
+loop-holds c = (omega arith, refl, raised-start (c .args .t1) (c .args .marks .now) (c .pre) (replicate most-cells farthest) refl, counted (c .args .t1) (c .args .marks .now) (c .pre) .0)
 
 parent-of-requires : tie.Need-parent-of-requires Inv-loop μ-loop
 parent-of-requires c κs =

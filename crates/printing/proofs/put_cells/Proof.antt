@@ -3,7 +3,7 @@ use mathlib.Core.Path.{_≡_, refl}
 use native.Mathlib.Omega.{arith}
 use lib.ListN.{length}
 use Rattle.listing.specs.Put.{Put}
-use Rattle.printing.specs.Printing.{cells-text}
+use Rattle.printing.specs.Printing.{cells-text, cell-size}
 use Rattle.printing.specs.TakenLaws.{put-no-cells, put-cell, cells-done}
 use borrow.Author.Needs.{needs}
 use Rattle.printing.proofs.put_cells.Statement.{statement}
@@ -15,7 +15,7 @@ use Rattle.printing.proofs.put_line.Reads as put-line-reads
 
 abbrev Inv-loop : tie.InvT-loop
 Inv-loop plan file positions out₀ at n next₀ c₀ out next c =
-    (c ≤ n) × (length out ≡ length out₀) × (next ≤ at + 63 * c) × Put out₀ at (cells-text plan file c) out next
+    (c ≤ n) × (length out ≡ length out₀) × (next ≤ at + cell-size * c) × Put out₀ at (cells-text plan file c) out next
 
 abbrev μ-loop : tie.MeasureT-loop
 μ-loop plan file positions out₀ at n next₀ c₀ out next c = n - c

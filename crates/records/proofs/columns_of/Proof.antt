@@ -47,6 +47,7 @@ use denote.Triple.Table.{entered, cited}
 use denote.Triple.Walked.{says, Stays, stay-none-slice, walkOf, goes-none-slice, Walks, ends-at, walked, walk-meets}
 use denote.Triple.Clauses.{ensured, lasts}
 use denote.Exit.{yes}
+use Rattle.plan.specs.Limits.{most-cells}
 use Rattle.plan.specs.declared.Record.{Record}
 use Rattle.plan.specs.declared.Columns.{Columns}
 use Rattle.records.specs.Apart.{lent-at, with-record, blank, columns, clipped}
@@ -92,10 +93,10 @@ mach t = B′.lowered t
 abbrev IsColumns : Columns → Type 0
 IsColumns t = Is B.the-row t (mach t ∷ [])
 
-lengths : (t : Columns) → IsColumns t → (length (t .parent) ≡ 256) × (length (t .kind) ≡ 256) × (length (t .width) ≡ 256) × (length (t .depth) ≡ 256)
+lengths : (t : Columns) → IsColumns t → (length (t .parent) ≡ most-cells) × (length (t .kind) ≡ most-cells) × (length (t .width) ≡ most-cells) × (length (t .depth) ≡ most-cells)
 lengths t is =
     let p = LL.owed B.the-type B′.the-laws t _ is in
-    (numbers-length w16 256 (t .parent) (p .1 .0), numbers-length w8 256 (t .kind) (p .1 .1 .0), numbers-length w16 256 (t .width) (p .1 .1 .1 .0), numbers-length w8 256 (t .depth) (p .1 .1 .1 .1 .0))
+    (numbers-length w16 most-cells (t .parent) (p .1 .0), numbers-length w8 most-cells (t .kind) (p .1 .1 .0), numbers-length w16 most-cells (t .width) (p .1 .1 .1 .0), numbers-length w8 most-cells (t .depth) (p .1 .1 .1 .1 .0))
 
 fits : (r : Record) (vs : List Val) → Is T.the-row r vs → (r .parent < 2 ^ 16) × (r .kind < 2 ^ 8) × (r .width < 2 ^ 16) × (r .depth < 2 ^ 8)
 fits r vs is = let p = LL.owed T.the-type T′.the-laws r vs is in (p .0 .1, p .1 .0 .1, p .1 .1 .0 .1, p .1 .1 .1 .0 .1)
@@ -117,10 +118,10 @@ with-is t c r is vs is-r =
     let next = LL.owes B.the-type B′.the-laws (with-record t c r) (
       p .0,
       (
-        numbers-set w16 256 (t .parent) c (r .parent) (f .0) (p .1 .0),
+        numbers-set w16 most-cells (t .parent) c (r .parent) (f .0) (p .1 .0),
         (
-          numbers-set w8 256 (t .kind) c (r .kind) (f .1) (p .1 .1 .0),
-          (numbers-set w16 256 (t .width) c (r .width) (f .2) (p .1 .1 .1 .0), (numbers-set w8 256 (t .depth) c (r .depth) (f .3) (p .1 .1 .1 .1 .0), tt)),
+          numbers-set w8 most-cells (t .kind) c (r .kind) (f .1) (p .1 .1 .0),
+          (numbers-set w16 most-cells (t .width) c (r .width) (f .2) (p .1 .1 .1 .0), (numbers-set w8 most-cells (t .depth) c (r .depth) (f .3) (p .1 .1 .1 .1 .0), tt)),
         ),
       ),
     ) in
@@ -275,7 +276,7 @@ module _ {M : Type 1} (𝓤 : URA M) (H : Heap 𝓤) (A : Atoms 𝓤) (W : Given
           next : (c : Record) → c ≡ lent-at (x .now) i → with-record (tab i) i c ≡ tab (i + 1)
           next c e = ap (with-record (tab i) i) e ∙ columns-more (x .now) n i
 
-          within : i < 256
+          within : i < most-cells
           within = lt-of-lt-of-le less (clipped-fits n .1)
 
           twice : i * 2 < 2 ^ 64

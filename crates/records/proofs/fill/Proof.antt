@@ -46,6 +46,7 @@ use denote.Triple.Spec.{Meets, tripleOf}
 use denote.Triple.Table.{entered}
 use denote.Triple.Walked.{says, needs, Stays, stay-slice, stay-none, walkOf, goes-slice, goes-none, Walks, ends-at, walked, walk-meets}
 use denote.Exit.{yes}
+use Rattle.plan.specs.Limits.{most-cells}
 use Rattle.plan.specs.declared.Record.{Record}
 use Rattle.planfile.specs.declared.Reading.{Reading}
 use Rattle.records.specs.Apart.{no-record}
@@ -76,7 +77,7 @@ abbrev slice : Ty
 slice = sliceTy (tyRef (named 0) mut (pointee (T.the-row .written)))
 
 module _ {M : Type 1} (𝓤 : URA M) (H : Heap 𝓤) (A : Atoms 𝓤) (W : Given 𝓤 H A) (mem : Memory → SProp 𝓤) (run : Routine → Fun 𝓤) (κ : Lft) (q : Share) (b o : ℕ) (γ : GName) (ys : List Record) (tab : Reading) (n : ℕ)
-    (is : Is B.the-row tab (B′.lowered tab ∷ [])) (n-fits : n < 2 ^ 64) (room-fits : Room T.the-row (length ys)) (some-room : (n ≤ length ys) × (n ≤ 256)) where
+    (is : Is B.the-row tab (B′.lowered tab ∷ [])) (n-fits : n < 2 ^ 64) (room-fits : Room T.the-row (length ys)) (some-room : (n ≤ length ys) × (n ≤ most-cells)) where
   abbrev s : Val
   s = sliceVal (b, o) (length ys)
 
@@ -128,20 +129,20 @@ module _ {M : Type 1} (𝓤 : URA M) (H : Heap 𝓤) (A : Atoms 𝓤) (W : Given
   written-is i = refl
 
   -- each column is 256 numbers, and each number of one fits its width
-  lengths : (length (tab .columns .parent) ≡ 256) × (length (tab .columns .kind) ≡ 256) × (length (tab .columns .width) ≡ 256) × (length (tab .columns .depth) ≡ 256) × (length (tab .«label_length») ≡ 256) × (length (tab .«label_start») ≡ 256)
+  lengths : (length (tab .columns .parent) ≡ most-cells) × (length (tab .columns .kind) ≡ most-cells) × (length (tab .columns .width) ≡ most-cells) × (length (tab .columns .depth) ≡ most-cells) × (length (tab .«label_length») ≡ most-cells) × (length (tab .«label_start») ≡ most-cells)
   lengths =
       let p = LL.owed B.the-type B′.the-laws tab _ is in let r = LL.owed D.the-type D′.the-laws (tab .columns) _ (p .1 .1 .0) in
-      (numbers-length w16 256 (tab .columns .parent) (r .1 .0), numbers-length w8 256 (tab .columns .kind) (r .1 .1 .0), numbers-length w16 256 (tab .columns .width) (r .1 .1 .1 .0), numbers-length w8 256 (tab .columns .depth) (r .1 .1 .1 .1 .0), numbers-length w8 256 (tab .«label_length») (p .1 .1 .1 .0), numbers-length w16 256 (tab .«label_start») (p .1 .1 .1 .1 .0))
+      (numbers-length w16 most-cells (tab .columns .parent) (r .1 .0), numbers-length w8 most-cells (tab .columns .kind) (r .1 .1 .0), numbers-length w16 most-cells (tab .columns .width) (r .1 .1 .1 .0), numbers-length w8 most-cells (tab .columns .depth) (r .1 .1 .1 .1 .0), numbers-length w8 most-cells (tab .«label_length») (p .1 .1 .1 .0), numbers-length w16 most-cells (tab .«label_start») (p .1 .1 .1 .1 .0))
 
   abbrev Fit : Record → Type 0
   Fit c = (c .parent < 2 ^ 16) × (c .kind < 2 ^ 8) × (c .width < 2 ^ 16) × (c .depth < 2 ^ 8) × (c .«label_length» < 2 ^ 8) × (c .«label_start» < 2 ^ 16)
 
-  fits : (i : ℕ) → i < 256 → Fit (written i)
+  fits : (i : ℕ) → i < most-cells → Fit (written i)
   fits i l =
       let p = LL.owed B.the-type B′.the-laws tab _ is in let r = LL.owed D.the-type D′.the-laws (tab .columns) _ (p .1 .1 .0) in
-      (numbers-at w16 256 (tab .columns .parent) i l (r .1 .0), numbers-at w8 256 (tab .columns .kind) i l (r .1 .1 .0), numbers-at w16 256 (tab .columns .width) i l (r .1 .1 .1 .0), numbers-at w8 256 (tab .columns .depth) i l (r .1 .1 .1 .1 .0), numbers-at w8 256 (tab .«label_length») i l (p .1 .1 .1 .0), numbers-at w16 256 (tab .«label_start») i l (p .1 .1 .1 .1 .0))
+      (numbers-at w16 most-cells (tab .columns .parent) i l (r .1 .0), numbers-at w8 most-cells (tab .columns .kind) i l (r .1 .1 .0), numbers-at w16 most-cells (tab .columns .width) i l (r .1 .1 .1 .0), numbers-at w8 most-cells (tab .columns .depth) i l (r .1 .1 .1 .1 .0), numbers-at w8 most-cells (tab .«label_length») i l (p .1 .1 .1 .0), numbers-at w16 most-cells (tab .«label_start») i l (p .1 .1 .1 .1 .0))
 
-  is-record : (i : ℕ) → i < 256 → Is T.the-row (written i) (T′.lowered (written i) ∷ [])
+  is-record : (i : ℕ) → i < most-cells → Is T.the-row (written i) (T′.lowered (written i) ∷ [])
   is-record i l = let f = fits i l in LL.owes T.the-type T′.the-laws (written i) ((refl, f .0), ((refl, f .1), ((refl, f .2), ((refl, f .3), ((refl, f .4), ((refl, f .5), tt))))))
 
   -- the variant, and its order
@@ -216,7 +217,7 @@ module _ {M : Type 1} (𝓤 : URA M) (H : Heap 𝓤) (A : Atoms 𝓤) (W : Given
           less : i < n
           less = ltb→lt i n (subst Holds (sym test) tt)
 
-          in-columns : i < 256
+          in-columns : i < most-cells
           in-columns = lt-of-lt-of-le less (some-room .1)
 
           within : i < length (zs i)

@@ -1,7 +1,8 @@
 use borrow.Author.Needs.{needs}
 use mathlib.Core.Path.{ap, sym, _∙_}
+use Prim.Native.Nat.{_*_}
 use Rattle.plan.specs.Columns.{table-of}
-use Rattle.plan.specs.Limits.{scratch-size}
+use Rattle.plan.specs.Limits.{scratch-size, most-cells}
 use Rattle.plan.specs.declared.Refusal.{Refusal}
 use Rattle.least.specs.Asked.{layout-asks}
 use Rattle.drawing.specs.LaidLaws.{nothing}
@@ -41,7 +42,7 @@ returns c = search needs
 survey-and-tour-requires : tie.Need-survey-and-tour-requires
 survey-and-tour-requires c κs =
     let a = c .before .before .before .args in
-    layout-asks (table-of (a .t)) (a .allowance) scratch-size 512 .0 (nothing (table-of (a .t)) (a .allowance) scratch-size 512 (ap (λ (r : Refusal). r .number) (sym (c .before .before .layout-refusal .ensures)) ∙ c .if1 .left)) .table .fit
+    layout-asks (table-of (a .t)) (a .allowance) scratch-size (2 * most-cells) .0 (nothing (table-of (a .t)) (a .allowance) scratch-size (2 * most-cells) (ap (λ (r : Refusal). r .number) (sym (c .before .before .layout-refusal .ensures)) ∙ c .if1 .left)) .table .fit
 
 returns-2 : tie.Need-returns-2
 returns-2 c = search needs

@@ -2,6 +2,7 @@ use borrow.Author.Needs.{needs}
 use mathlib.Core.Path.{_≡_, refl}
 use lib.ListN.{length}
 use native.Mathlib.Omega.{arith}
+use Rattle.plan.specs.Limits.{most-cells}
 use Rattle.marks.specs.Marks.{Long, linking, walking}
 use Rattle.drawing.specs.LaidLaws.{markable}
 use Rattle.turns.proofs.tour.Statement.{statement}
@@ -11,10 +12,10 @@ use Rattle.turns.proofs.tour.Tie as tie
 long : (s : tie.Start) → Long (s .args .t1)
 long s =
     let t = s .args .t1 in
-    let p : length (t .parent) ≡ 256 = search needs in
-    let k : length (t .kind) ≡ 256 = search needs in
-    let w : length (t .width) ≡ 256 = search needs in
-    let d : length (t .depth) ≡ 256 = search needs in
+    let p : length (t .parent) ≡ most-cells = search needs in
+    let k : length (t .kind) ≡ most-cells = search needs in
+    let w : length (t .width) ≡ most-cells = search needs in
+    let d : length (t .depth) ≡ most-cells = search needs in
     record { parents = omega arith; kinds = omega arith; widths = omega arith; depths = omega arith }
 
 slice-aggregate-link-all : tie.Need-slice-aggregate-link-all
@@ -39,7 +40,7 @@ watch-requires : tie.Need-watch-requires
 watch-requires c κs =
     let s = c .before .before .before .before .before .before .before .before .before .before .before .before .before .before .before .before .before in
     let a = s .args in
-    let y : length (a .tops .now) ≡ 256 = search needs in
+    let y : length (a .tops .now) ≡ most-cells = search needs in
     walking (a .t1) (a .tops .now) (a .allowance) _ _ (markable (a .t1) (s .pre .fit) (a .tops .now) (s .pre .rows) _ refl) (long s) _ (c .before .before .before .before .before .before .before .before .before .before .link-all .ensures) (omega arith) (search needs)
 
 returns : tie.Need-returns

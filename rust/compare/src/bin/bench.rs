@@ -8,6 +8,7 @@ use bindings::Record;
 use compare::plain;
 use reference::generate::{file, labels, table, Shape, Sizes};
 use reference::rng::Rng;
+use reference::Form;
 use std::fs::File;
 use std::hint::black_box;
 use std::process::Command;
@@ -77,7 +78,7 @@ fn calls() {
             let mut rng = Rng::new(SEED, n as u64);
             let mut cells = table(&mut rng, shape, n, &Sizes { max_width: 30, max_depth: 3 });
             let text = labels(&mut rng, &mut cells);
-            let bytes = file(&text, &cells, 10);
+            let (bytes, wide) = (file(Form::Old, &text, &cells, 10), file(Form::Wide, &text, &cells, 10));
             let records: Vec<Record> = cells
                 .iter()
                 .map(|c| Record {
@@ -95,8 +96,10 @@ fn calls() {
             assert_eq!(plain::layout(&records, 10, &mut scratch, &mut same), Ok(sheet));
             assert_eq!(same, positions);
             let (mut t, mut u) = (vec![Record::default(); 256], vec![Record::default(); 256]);
-            assert_eq!(bindings::read(&bytes, &mut t), plain::read(&bytes, &mut u));
-            assert_eq!(t, u);
+            for form in [&bytes, &wide] {
+                assert_eq!(bindings::read(form, &mut t), plain::read(form, &mut u));
+                assert_eq!(t, u);
+            }
             let (mut out, mut text) = (vec![0; 17_408], vec![0; 17_408]);
             assert_eq!(bindings::list(&bytes, &mut out), plain::list(&bytes, &mut text));
             assert_eq!(out, text);
@@ -121,6 +124,10 @@ fn calls() {
             line("Read", race(
                 || { let _ = black_box(bindings::read(black_box(&bytes), &mut t)); },
                 || { let _ = black_box(plain::read(black_box(&bytes), &mut u)); },
+            ));
+            line("Read, wide form", race(
+                || { let _ = black_box(bindings::read(black_box(&wide), &mut t)); },
+                || { let _ = black_box(plain::read(black_box(&wide), &mut u)); },
             ));
             line("Ends", race(
                 || { let _ = black_box(bindings::ends(black_box(&records), &positions, last)); },

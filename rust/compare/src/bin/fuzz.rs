@@ -9,6 +9,7 @@
 use bindings::{Record, Verdict};
 use reference::generate as make;
 use reference::rng::Rng;
+use reference::FORMS;
 use std::io::Write;
 use std::process::{exit, Command, Stdio};
 use std::time::{Duration, Instant};
@@ -26,15 +27,22 @@ fn lent<T: Copy>(values: &[T]) -> Box<[T]> {
     values.into()
 }
 
-/// Random bytes; or a plan's file, a few bytes of it changed or none.
+/// Random bytes; or a plan's file of either form, the forms mixed up now and then, a few bytes of it changed or none.
 fn some_file(rng: &mut Rng) -> Vec<u8> {
     if rng.once_in(4) {
-        return (0..rng.between(0, 300)).map(|_| rng.next() as u8).collect();
+        return make::noise(rng, 300);
     }
     let n = if rng.once_in(30) { 256 } else { rng.between(1, 40) as usize };
     let mut cells = make::any_table(rng, n);
+    let form = rng.pick(&FORMS);
+    if !rng.once_in(8) {
+        make::narrow(form, &mut cells);
+    }
     let labels = make::labels(rng, &mut cells);
-    let mut file = make::file(&labels, &cells, rng.next() as u16);
+    let mut file = make::file(form, &labels, &cells, rng.next() as u16);
+    if rng.once_in(8) {
+        make::mix_up(rng, form, labels.len(), cells.len(), &mut file);
+    }
     for _ in 0..rng.index(4) {
         let at = rng.index(file.len());
         file[at] = rng.next() as u8;
@@ -156,7 +164,8 @@ fn frame_calls(rng: &mut Rng) -> Result<(), &'static str> {
     let length = if rng.once_in(10) { rng.index(SCRATCH) } else { SCRATCH + rng.index(3) };
     let fill = rng.next() as u32 | 1;
     let mut scratch = lent(&vec![fill; length]);
-    let squares = if rng.once_in(10) { rng.next() as u32 } else { rng.index(600) as u32 };
+    let most = rng.pick(&[600, 20_000]);
+    let squares = if rng.once_in(10) { rng.next() as u32 } else { rng.index(most) as u32 };
     let framed = bindings::frame(&table, squares, &mut scratch);
     let zeros = if framed.is_ok() { SCRATCH } else { 0 };
     if scratch[..zeros].iter().any(|n| *n != 0) || scratch[zeros..].iter().any(|n| *n != fill) {

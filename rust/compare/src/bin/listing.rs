@@ -1,9 +1,10 @@
-//! Compares what the program `sheet` prints with the reference, on seeded random files.
+//! Compares what the program `sheet` prints with the reference, on seeded random files of both forms.
 //!
 //!     listing PROGRAM [FILES [SEED]]
 
 use reference::generate as make;
 use reference::rng::Rng;
+use reference::FORMS;
 use std::io::Write;
 use std::process::{exit, Command, Stdio};
 
@@ -26,11 +27,13 @@ fn main() {
         let mut rng = Rng::new(seed, number);
         let n = if number % 50 == 0 { 256 } else { rng.between(1, 40) as usize };
         let mut cells = make::any_table(&mut rng, n);
+        let form = rng.pick(&FORMS);
+        make::narrow(form, &mut cells);
         let labels = make::labels(&mut rng, &mut cells);
-        let mut file = make::file(&labels, &cells, make::allowance(&mut rng).min(65_535) as u16);
+        let mut file = make::file(form, &labels, &cells, make::allowance(&mut rng).min(65_535) as u16);
         match number % 10 {
             0 => make::damage_file(&mut rng, &mut file),
-            1 => file = (0..rng.between(0, 20_000)).map(|_| rng.next() as u8).collect(),
+            1 => file = make::noise(&mut rng, 20_000),
             _ => {}
         }
         let expected = reference::listing(&file);

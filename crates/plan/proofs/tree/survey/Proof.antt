@@ -3,6 +3,7 @@ use mathlib.Core.Path.{_≡_, refl, _∙_}
 use Prim.Native.Nat.{ℕ, _-_, _≤_, _<_}
 use native.Mathlib.Omega.{arith}
 use lib.ListN.{length, getD, replicate, getD-replicate, length-set}
+use Rattle.plan.specs.Limits.{most-cells}
 use Rattle.plan.specs.Plan.{level, row}
 use Rattle.plan.specs.Columns.{table}
 use Rattle.plan.specs.Trees.{parent-few, seen, seen-most, seen-more, seen-children, level-small, level-value, level-more, row-value, row-more, row-small, first-only}
@@ -11,7 +12,7 @@ use Rattle.plan.proofs.tree.survey.Tie as tie
 
 abbrev Inv-loop : tie.InvT-loop
 Inv-loop parents depths n counts₀ levels₀ rows₀ c₀ counts levels rows c =
-    (1 ≤ c) × (c ≤ n) × (length counts ≡ 256) × (length levels ≡ 256) × (length rows ≡ 256) × ((f : ℕ) → f < 256 → getD counts f 0 ≡ seen parents (c - 1) f)
+    (1 ≤ c) × (c ≤ n) × (length counts ≡ most-cells) × (length levels ≡ most-cells) × (length rows ≡ most-cells) × ((f : ℕ) → f < most-cells → getD counts f 0 ≡ seen parents (c - 1) f)
     × ((ks ws : List ℕ) (x : ℕ) → x < c → getD levels x 0 ≡ level (table parents ks ws depths n) x) × ((ks ws : List ℕ) (x : ℕ) → x < c → getD rows x 0 ≡ row (table parents ks ws depths n) x)
 
 abbrev μ-loop : tie.MeasureT-loop
@@ -27,9 +28,9 @@ loop-holds c =
       refl,
       refl,
       refl,
-      λ f h. getD-replicate 256 f 0 0 h,
-      λ ks ws. first-only (replicate 256 0) (level (table (a .parents .now) ks ws (a .depths .now) (a .n))) refl,
-      λ ks ws. first-only (replicate 256 0) (row (table (a .parents .now) ks ws (a .depths .now) (a .n))) refl,
+      λ f h. getD-replicate most-cells f 0 0 h,
+      λ ks ws. first-only (replicate most-cells 0) (level (table (a .parents .now) ks ws (a .depths .now) (a .n))) refl,
+      λ ks ws. first-only (replicate most-cells 0) (row (table (a .parents .now) ks ws (a .depths .now) (a .n))) refl,
     )
 
 mul-p : tie.Need-mul-p Inv-loop μ-loop

@@ -1,60 +1,65 @@
-use mathlib.Core.Path.{_∙_}
-use native.Mathlib.Omega.{arith}
 use Rattle.planfile.specs.ExaminedLaws.{zero-of, header-read, room-read, count-read, body-is, plan-examined, file-passed, header-stops, examined-refused}
+use native.Mathlib.Omega.{arith}
+use mathlib.Core.Path.{_∙_}
 use borrow.Author.Needs.{needs}
 use Rattle.planfile.proofs.questions.examined.Statement.{statement}
 use Rattle.planfile.proofs.questions.examined.Tie as tie
 use Rattle.planfile.proofs.questions.examined.Reads as reads
 use Rattle.planfile.proofs.questions.examined.Lts as lts
+use Rattle.plan.proofs.forms.form_of.Reads as form-of-reads
 use Rattle.planfile.proofs.questions.body_refusal.Reads as body-refusal-reads
 use Rattle.planfile.proofs.questions.header_refusal.Reads as header-refusal-reads
 use Rattle.planfile.proofs.questions.refused.Reads as refused-reads
 use Rattle.planfile.proofs.table.records.Reads as records-reads
 use Rattle.planfile.proofs.table.trailer.Reads as trailer-reads
 
--- src/questions.rt:223:9
+-- src/questions.rt:254:9
 header-refusal-requires : tie.Need-header-refusal-requires
 header-refusal-requires c κs = search needs
 
--- src/questions.rt:225:9
+-- src/questions.rt:256:9
 refused-requires : tie.Need-refused-requires
 refused-requires c κs = search needs
 
--- src/questions.rt:225:9
+-- src/questions.rt:256:9
 returns : tie.Need-returns
 returns c = c .refused .ensures ∙ examined-refused (c .before .before .before .before .before .args .file .now) _ (header-stops (c .before .before .before .before .before .args .file .now) _ (c .before .before .before .header-refusal .ensures) (c .before .if1 .taken)) (c .before .if1 .taken)
 
--- src/questions.rt:227:9
+-- src/questions.rt:258:9
 trailer-requires : tie.Need-trailer-requires
 trailer-requires c κs = omega (arith, header-read (c .before .before .before .before .args .file .now) (zero-of _ _ (c .before .before .header-refusal .ensures) (c .if1 .left)) .long)
 
--- src/questions.rt:228:17
+-- src/questions.rt:259:17
 cast-begin : tie.Need-cast-begin
 cast-begin c = search needs
 
--- src/questions.rt:229:37
+-- src/questions.rt:260:9
+form-of-requires : tie.Need-form-of-requires
+form-of-requires c κs = search needs
+
+-- src/questions.rt:261:43
 cast-records : tie.Need-cast-records
 cast-records c = search needs
 
--- src/questions.rt:229:9
+-- src/questions.rt:261:9
 records-requires : tie.Need-records-requires
-records-requires c κs = room-read (c .before .before .before .before .before .before .before .args .file .now) (zero-of _ _ (c .before .before .before .before .before .header-refusal .ensures) (c .before .before .before .if1 .left)) _ (c .before .before .trailer .ensures)
+records-requires c κs = rw (c .before .form-of .ensures) (room-read (c .before .before .before .before .before .before .before .before .args .file .now) (zero-of _ _ (c .before .before .before .before .before .before .header-refusal .ensures) (c .before .before .before .before .if1 .left)) _ (c .before .before .before .trailer .ensures))
 
--- src/questions.rt:230:9
+-- src/questions.rt:262:9
 body-refusal-requires : tie.Need-body-refusal-requires
-body-refusal-requires c κs = count-read (c .before .before .before .before .before .before .before .before .args .file .now) (zero-of _ _ (c .before .before .before .before .before .before .header-refusal .ensures) (c .before .before .before .before .if1 .left)) _ (c .before .before .before .trailer .ensures) _ (c .records .ensures)
+body-refusal-requires c κs = rw (c .before .before .form-of .ensures) (count-read (c .before .before .before .before .before .before .before .before .before .args .file .now) (zero-of _ _ (c .before .before .before .before .before .before .before .header-refusal .ensures) (c .before .before .before .before .before .if1 .left)) _ (c .before .before .before .before .trailer .ensures) _ (rw (c .before .before .form-of .ensures) at (c .records .ensures)))
 
--- src/questions.rt:232:9
+-- src/questions.rt:264:9
 refused-requires-2 : tie.Need-refused-requires-2
 refused-requires-2 c κs = search needs
 
--- src/questions.rt:232:9
+-- src/questions.rt:264:9
 returns-2 : tie.Need-returns-2
-returns-2 c = c .refused2 .ensures ∙ examined-refused (c .before .before .before .before .before .before .before .before .before .before .before .before .args .file .now) _ (file-passed (c .before .before .before .before .before .before .before .before .before .before .before .before .args .file .now) _ _ (c .before .before .before .before .before .before .before .before .before .before .header-refusal .ensures) (c .before .before .before .before .before .before .before .before .if1 .left) (c .before .before .before .body-refusal .ensures ∙ body-is (c .before .before .before .before .before .before .before .before .before .before .before .before .args .file .now) (zero-of _ _ (c .before .before .before .before .before .before .before .before .before .before .header-refusal .ensures) (c .before .before .before .before .before .before .before .before .if1 .left)) _ (c .before .before .before .before .before .before .before .trailer .ensures) _ (c .before .before .before .before .records .ensures))) (c .before .if2 .taken)
+returns-2 c = c .refused2 .ensures ∙ examined-refused (c .before .before .before .before .before .before .before .before .before .before .before .before .before .args .file .now) _ (file-passed (c .before .before .before .before .before .before .before .before .before .before .before .before .before .args .file .now) _ _ (c .before .before .before .before .before .before .before .before .before .before .before .header-refusal .ensures) (c .before .before .before .before .before .before .before .before .before .if1 .left) (c .before .before .before .body-refusal .ensures ∙ rw (c .before .before .before .before .before .before .form-of .ensures) (body-is (c .before .before .before .before .before .before .before .before .before .before .before .before .before .args .file .now) (zero-of _ _ (c .before .before .before .before .before .before .before .before .before .before .before .header-refusal .ensures) (c .before .before .before .before .before .before .before .before .before .if1 .left)) _ (c .before .before .before .before .before .before .before .before .trailer .ensures) _ (rw (c .before .before .before .before .before .before .form-of .ensures) at (c .before .before .before .before .records .ensures))))) (c .before .if2 .taken)
 
--- src/questions.rt:220:1
+-- src/questions.rt:251:1
 returns-3 : tie.Need-returns-3
-returns-3 c = plan-examined (c .before .before .before .before .before .before .before .before .before .before .before .args .file .now) (zero-of _ _ (c .before .before .before .before .before .before .before .before .before .header-refusal .ensures) (c .before .before .before .before .before .before .before .if1 .left)) _ (c .before .before .before .before .before .before .trailer .ensures) _ (c .before .before .before .records .ensures) _ (file-passed (c .before .before .before .before .before .before .before .before .before .before .before .args .file .now) _ _ (c .before .before .before .before .before .before .before .before .before .header-refusal .ensures) (c .before .before .before .before .before .before .before .if1 .left) (c .before .before .body-refusal .ensures ∙ body-is (c .before .before .before .before .before .before .before .before .before .before .before .args .file .now) (zero-of _ _ (c .before .before .before .before .before .before .before .before .before .header-refusal .ensures) (c .before .before .before .before .before .before .before .if1 .left)) _ (c .before .before .before .before .before .before .trailer .ensures) _ (c .before .before .before .records .ensures))) (c .if2 .left)
+returns-3 c = plan-examined (c .before .before .before .before .before .before .before .before .before .before .before .before .args .file .now) (zero-of _ _ (c .before .before .before .before .before .before .before .before .before .before .header-refusal .ensures) (c .before .before .before .before .before .before .before .before .if1 .left)) _ (c .before .before .before .before .before .before .before .trailer .ensures) _ (rw (c .before .before .before .before .before .form-of .ensures) at (c .before .before .before .records .ensures)) _ (file-passed (c .before .before .before .before .before .before .before .before .before .before .before .before .args .file .now) _ _ (c .before .before .before .before .before .before .before .before .before .before .header-refusal .ensures) (c .before .before .before .before .before .before .before .before .if1 .left) (c .before .before .body-refusal .ensures ∙ rw (c .before .before .before .before .before .form-of .ensures) (body-is (c .before .before .before .before .before .before .before .before .before .before .before .before .args .file .now) (zero-of _ _ (c .before .before .before .before .before .before .before .before .before .before .header-refusal .ensures) (c .before .before .before .before .before .before .before .before .if1 .left)) _ (c .before .before .before .before .before .before .before .trailer .ensures) _ (rw (c .before .before .before .before .before .form-of .ensures) at (c .before .before .before .records .ensures))))) (c .if2 .left)
 
 pub examined-spec : {M : Type 1} → statement M
 examined-spec =
@@ -65,6 +70,7 @@ examined-spec =
     returns
     trailer-requires
     cast-begin
+    form-of-requires
     cast-records
     records-requires
     body-refusal-requires

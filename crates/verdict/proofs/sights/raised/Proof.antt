@@ -1,7 +1,7 @@
 use Rattle.verdict.proofs.Looking.{made-none, made-next, made-all, within-at}
 use Rattle.plan.specs.Trees.{Column}
 use Rattle.plan.specs.Near.{Near}
-use Rattle.plan.specs.Limits.{farthest}
+use Rattle.plan.specs.Limits.{farthest, most-cells}
 use Rattle.whole.specs.Bias.{bias}
 use lib.IntN.{pos}
 use lib.ListN.{getD}
@@ -15,7 +15,7 @@ use Rattle.verdict.proofs.sights.raised.Lts as lts
 use Rattle.whole.proofs.raise_at.Reads as raise-at-reads
 
 abbrev Inv-loop : tie.InvT-loop
-Inv-loop positions n offset out₀ c₀ out c = (c ≤ n) × (n ≤ 256) × (offset ≤ 1) × Near positions n × Column out c (λ i. bias farthest (getD positions (2 * i + offset) (pos 0)))
+Inv-loop positions n offset out₀ c₀ out c = (c ≤ n) × (n ≤ most-cells) × (offset ≤ 1) × Near positions n × Column out c (λ i. bias farthest (getD positions (2 * i + offset) (pos 0)))
 
 abbrev μ-loop : tie.MeasureT-loop
 μ-loop positions n offset out₀ c₀ out c = n - c

@@ -1,55 +1,40 @@
-use mathlib.Core.Path.{_∙_}
-use Rattle.planfile.specs.FormatLaws.{read-entry}
+use Rattle.plan.specs.Forms.{record-size}
+use native.Mathlib.Omega.{arith}
 use borrow.Author.Needs.{needs}
 use Rattle.planfile.proofs.cursor.Cursor.entry.Statement.{statement}
 use Rattle.planfile.proofs.cursor.Cursor.entry.Tie as tie
 use Rattle.planfile.proofs.cursor.Cursor.entry.Reads as reads
 use Rattle.planfile.proofs.cursor.Cursor.entry.Lts as lts
-use Rattle.planfile.proofs.cursor.Cursor.byte.Reads as byte-reads
-use Rattle.planfile.proofs.cursor.Cursor.pair.Reads as pair-reads
-use Rattle.planfile.proofs.cursor.wide.Reads as wide-reads
+use Rattle.planfile.proofs.cursor.Cursor.old_entry.Reads as old-entry-reads
+use Rattle.planfile.proofs.cursor.Cursor.wide_entry.Reads as wide-entry-reads
 
--- src/cursor.rt:73:13
-pair-requires : tie.Need-pair-requires
-pair-requires c κs = search needs
+-- src/cursor.rt:135:26
+enum-told : tie.Need-enum-told
+enum-told c = search needs
 
--- src/cursor.rt:75:13
-byte-requires : tie.Need-byte-requires
-byte-requires c κs = search needs
+-- src/cursor.rt:135:26
+old-entry-requires : tie.Need-old-entry-requires
+old-entry-requires c κs = unfold record-size in rw (c .enum-told .given .1) at (c .before .before .before .pre)
 
--- src/cursor.rt:77:13
-byte-requires-2 : tie.Need-byte-requires-2
-byte-requires-2 c κs = search needs
+-- src/cursor.rt:136:27
+enum-told-2 : tie.Need-enum-told-2
+enum-told-2 c = search needs
 
--- src/cursor.rt:79:13
-byte-requires-3 : tie.Need-byte-requires-3
-byte-requires-3 c κs = search needs
+-- src/cursor.rt:136:27
+wide-entry-requires : tie.Need-wide-entry-requires
+wide-entry-requires c κs = unfold record-size in rw (c .enum-told2 .given .1) at (c .before .before .before .pre)
 
--- src/cursor.rt:81:13
-byte-requires-4 : tie.Need-byte-requires-4
-byte-requires-4 c κs = search needs
-
--- src/cursor.rt:83:13
-pair-requires-2 : tie.Need-pair-requires-2
-pair-requires-2 c κs = search needs
-
--- src/cursor.rt:88:20
-wide-requires : tie.Need-wide-requires
-wide-requires c κs = search needs
-
--- src/cursor.rt:69:5
+-- src/cursor.rt:130:5
 returns : tie.Need-returns
-returns c = (read-entry _ _ _ _ _ _ _ _ _ _ _ _ _ (c .before .before .before .before .before .before .before .before .before .before .before .before .pair .ensures .0) (c .before .before .before .before .before .before .before .before .before .before .before .before .pair .ensures .1) (c .before .before .before .before .before .before .before .before .before .before .byte .ensures .0) (c .before .before .before .before .before .before .before .before .before .before .byte .ensures .1) (c .wide .ensures ∙ c .before .before .before .before .before .before .before .before .byte2 .ensures .0) (c .before .before .before .before .before .before .before .before .byte2 .ensures .1) (c .before .before .before .before .before .before .byte3 .ensures .0) (c .before .before .before .before .before .before .byte3 .ensures .1) (c .before .before .before .before .byte4 .ensures .0) (c .before .before .before .before .byte4 .ensures .1) (c .before .before .pair2 .ensures .0), search needs)
+unfolding record-size
+returns c = rw (c .before .enum-told .given .1) (c .old-entry .ensures)
+
+-- src/cursor.rt:130:5
+returns-2 : tie.Need-returns-2
+unfolding record-size
+returns-2 c = rw (c .before .enum-told2 .given .1) (c .wide-entry .ensures)
 
 pub entry-spec : {M : Type 1} → statement M
 entry-spec =
     tie.close
-    (tie.spec
-    pair-requires
-    byte-requires
-    byte-requires-2
-    byte-requires-3
-    byte-requires-4
-    pair-requires-2
-    wide-requires
-    returns)
+    (tie.spec enum-told old-entry-requires enum-told-2 wide-entry-requires returns returns-2)
