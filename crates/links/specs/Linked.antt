@@ -13,10 +13,10 @@ use Rattle.links.specs.Links.{Links}
 use Rattle.links.specs.Build.{Linking}
 use Rattle.links.specs.Built.{Reads, Built}
 
-zeros : (k i : ℕ) → getD (replicate {A = ℕ} k 0) i 0 ≡ 0
-zeros zero i = refl
-zeros (suc k) zero = refl
-zeros (suc k) (suc i) = zeros k i
+pub zeros-get : (k i : ℕ) → getD (replicate {A = ℕ} k 0) i 0 ≡ 0
+zeros-get zero i = refl
+zeros-get (suc k) zero = refl
+zeros-get (suc k) (suc i) = zeros-get k i
 
 module _ (t : Columns) (fit : Fit (table-of t)) where
   pub linking : length (t .parent) ≡ most-cells → length (t .kind) ≡ most-cells → length (t .rank) ≡ most-cells → Linking (t .parent) (t .kind) (t .rank) (t .count) (replicate (4 * most-cells) 0)
@@ -30,7 +30,7 @@ module _ (t : Columns) (fit : Fit (table-of t)) where
           ranks = omega arith;
           room = rw (length-replicate {A = ℕ} (4 * most-cells) 0) (omega arith);
           before = parent-lower t fit;
-          clear = zeros (4 * most-cells);
+          clear = zeros-get (4 * most-cells);
         };
         kinds = omega arith;
       }
