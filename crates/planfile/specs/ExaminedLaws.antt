@@ -6,7 +6,7 @@ use Prim.Native.Nat.{ℕ, zero, suc, _+_, _*_, _≤_, _<_}
 use native.Mathlib.Omega.{arith}
 use native.Mathlib.Decide.{ℕ-discrete}
 use lib.Dec.{T, eqb, leb, leb→le, eqb→eq}
-use lib.ListN.{length, getD, set, length-set, length-replicate}
+use lib.ListN.{length, getD, set, replicate, length-set, length-replicate, getD-replicate}
 use lib.Seq.{getD-set-same, getD-set-other}
 use borrow.Author.Tests.{eq-eqb, ne-eqb}
 use Rattle.plan.specs.Limits.{between, most-cells, most-allowance, least-file, most-file, file-mark, record-size, trailer-size}
@@ -108,12 +108,16 @@ module _ (f : List ℕ) (h : Headed f) where
   few : n ≤ most-cells
   few = h .full .few
 
+  rank-none : (c : ℕ) → c < n → getD (replicate most-cells 0) c 0 ≡ entry f c .rank
+  unfolding entry record-at
+  rank-none c l = getD-replicate most-cells c 0 0 (omega (arith, few))
+
   pub same-table : table-of (plan .columns) ≡ cells-of (records-of f)
   unfolding table cells-of records-of columns-of bare
   same-table =
       table-same _ (entry f) 0 n (λ c p q.
       let l : c < n = omega arith in
-      rw (column-at (λ c. entry f c .parent) n c few l, column-at (λ c. entry f c .kind) n c few l, column-at (λ c. entry f c .width) n c few l, column-at (λ c. entry f c .depth) n c few l))
+      rw (column-at (λ c. entry f c .parent) n c few l, column-at (λ c. entry f c .kind) n c few l, column-at (λ c. entry f c .width) n c few l, column-at (λ c. entry f c .depth) n c few l, rank-none c l))
 
   pub plan-refusal : columns-refusal plan (trailer-of f .begin) ≡ body-refusal f
   unfolding columns-refusal body-refusal columns-of

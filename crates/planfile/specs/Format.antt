@@ -19,7 +19,7 @@ trailer-of f =
     let at = length f - trailer-size in
     record { begin = pair f at; count = pair f (at + 2); allowance = pair f (at + 4); mark = pair f (at + 6) }
 
--- the record at a place: bytes 0-1 father, 2 kind, 3 W, 4 D, 5 label length, 6-7 label start
+-- the record at a place: bytes 0-1 father, 2 kind, 3 W, 4 D, 5 label length, 6-7 label start; its rank is 0 (document 02, E13)
 unfoldable pub record-at : List ℕ → ℕ → Record
 record-at f at =
     record {
@@ -27,6 +27,7 @@ record-at f at =
       kind = getD f (at + 2) 0;
       width = getD f (at + 3) 0;
       depth = getD f (at + 4) 0;
+      rank = 0;
       «label_length» = getD f (at + 5) 0;
       «label_start» = pair f (at + 6);
     }

@@ -71,6 +71,7 @@ pub fn records(file: &[u8], begin: usize, n: usize, allowance: u16) -> Reading
             kind,
             width,
             depth,
+            rank: [0u8; MOST_CELLS],
         },
         label_length,
         label_start,

@@ -30,7 +30,7 @@ returns-2 : tie.Need-returns-2
 unfolding columns-refusal
 returns-2 c =
     goes-on _ _ _ _ (c .before .before .before .before .before .before .before .before .before .records-refusal .ensures) (c .before .before .before .before .before .before .before .if1 .left)
-    (stops _ _ _ (c .before .before .tree-refusal .ensures _) (c .if2 .taken))
+    (stops _ _ _ (c .before .before .tree-refusal .ensures _ _) (c .if2 .taken))
 
 cast-allowance-refusal : tie.Need-cast-allowance-refusal
 cast-allowance-refusal c = search needs
@@ -42,7 +42,7 @@ returns-3 : tie.Need-returns-3
 unfolding columns-refusal
 returns-3 c =
     goes-on _ _ _ _ (c .before .before .before .before .before .before .before .before .before .before .records-refusal .ensures) (c .before .before .before .before .before .before .before .before .if1 .left)
-    (goes-on _ _ _ _ (c .before .before .before .tree-refusal .ensures _) (c .before .if2 .left) (c .allowance-refusal .ensures))
+    (goes-on _ _ _ _ (c .before .before .before .tree-refusal .ensures _ _) (c .before .if2 .left) (c .allowance-refusal .ensures))
 
 pub body-refusal-spec : {M : Type 1} → statement M
 body-refusal-spec =
