@@ -98,6 +98,11 @@ unfolding from
 table-same g e k zero h = refl
 table-same g e k (suc d) h = cc (h k (omega arith) (omega arith), table-same g e (suc k) d (λ c p q. h c (omega arith) (omega arith)))
 
+-- a file's ranks are 0
+pub rank-none : (f : List ℕ) (c : ℕ) → c < most-cells → getD (replicate most-cells 0) c 0 ≡ entry f c .rank
+unfolding entry record-at
+rank-none f c l = getD-replicate most-cells c 0 0 l
+
 module _ (f : List ℕ) (h : Headed f) where
   abbrev n : ℕ
   n = trailer-of f .count
@@ -108,16 +113,12 @@ module _ (f : List ℕ) (h : Headed f) where
   few : n ≤ most-cells
   few = h .full .few
 
-  rank-none : (c : ℕ) → c < n → getD (replicate most-cells 0) c 0 ≡ entry f c .rank
-  unfolding entry record-at
-  rank-none c l = getD-replicate most-cells c 0 0 (omega (arith, few))
-
   pub same-table : table-of (plan .columns) ≡ cells-of (records-of f)
   unfolding table cells-of records-of columns-of bare
   same-table =
       table-same _ (entry f) 0 n (λ c p q.
       let l : c < n = omega arith in
-      rw (column-at (λ c. entry f c .parent) n c few l, column-at (λ c. entry f c .kind) n c few l, column-at (λ c. entry f c .width) n c few l, column-at (λ c. entry f c .depth) n c few l, rank-none c l))
+      rw (column-at (λ c. entry f c .parent) n c few l, column-at (λ c. entry f c .kind) n c few l, column-at (λ c. entry f c .width) n c few l, column-at (λ c. entry f c .depth) n c few l, rank-none f c (omega (arith, few))))
 
   pub plan-refusal : columns-refusal plan (trailer-of f .begin) ≡ body-refusal f
   unfolding columns-refusal body-refusal columns-of
