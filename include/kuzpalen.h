@@ -30,7 +30,7 @@ extern "C" {
 typedef struct {
     uint16_t parent;       /* KUZPALEN_NO_PARENT for the root, else less than the cell's own number */
     uint8_t kind;          /* 1 step, 2 run, 3 repeat, 4 choice, 5 wait */
-    uint8_t rank;          /* orders siblings: by rank, then by cell number. Any value; Read gives 0 */
+    uint8_t rank;          /* 0 to 255, to be set always: siblings stand by rank, then by cell number. Read gives 0 */
     uint16_t width;        /* 1 to 255 */
     uint8_t depth;         /* 1 to 15 */
     uint8_t label_length;  /* the label: so many bytes of the file, */
