@@ -1,5 +1,6 @@
 use borrow.Author.Needs.{needs}
 use mathlib.Core.Path.{ap, sym, _∙_}
+use Prim.Native.Nat.{_*_}
 use Rattle.plan.specs.Columns.{table-of}
 use Rattle.plan.specs.Limits.{scratch-size, most-cells}
 use Rattle.plan.specs.declared.Refusal.{Refusal}
@@ -7,6 +8,9 @@ use Rattle.least.specs.Asked.{layout-asks}
 use Rattle.drawing.specs.LaidLaws.{nothing}
 use Rattle.turns.proofs.show.Statement.{statement}
 use Rattle.turns.proofs.show.Tie as tie
+
+mul-layout-refusal : tie.Need-mul-layout-refusal
+mul-layout-refusal c = search needs
 
 layout-refusal-requires : tie.Need-layout-refusal-requires
 layout-refusal-requires c κs = search needs
@@ -50,6 +54,7 @@ pub show-spec : {M : Type 1} → statement M
 show-spec =
     tie.close
     (tie.spec
+    mul-layout-refusal
     layout-refusal-requires
     slice-aggregate-word
     word-requires

@@ -17,7 +17,7 @@ long s =
     record { widths = omega arith; depths = omega arith }
 
 links-of-requires : tie.Need-links-of-requires
-links-of-requires c κs = c .before .pre .fit
+links-of-requires c κs = c .pre .fit
 
 slice-aggregate-watch : tie.Need-slice-aggregate-watch
 slice-aggregate-watch c = search needs
@@ -30,10 +30,10 @@ slice-aggregate-watch-3 c = search needs
 
 watch-requires : tie.Need-watch-requires
 watch-requires c κs =
-    let s = c .before .before .before .before .before .before .before .before .before .before .before .before .before .before .before .before .before in
+    let s = c .before .before .before .before .before .before .before .before .before .before in
     let a = s .args in
     let y : length (a .tops .now) ≡ most-cells = search needs in
-    walking (a .t1) (a .tops .now) (a .allowance) _ _ (markable (a .t1) (s .pre .fit) (a .tops .now) (s .pre .rows) _ refl) (long s) _ (c .before .before .before .before .before .before .before .before .before .before .link-all .ensures) (omega arith) (search needs)
+    walking (a .t1) (a .tops .now) (a .allowance) _ _ (markable (a .t1) (s .pre .fit) (a .tops .now) (s .pre .rows) _ refl) (long s) _ (c .before .before .before .before .before .before .before .before .before .links-of .ensures) (omega arith) (search needs)
 
 returns : tie.Need-returns
 returns c = search needs
