@@ -32,6 +32,7 @@ extern "C" {
 typedef struct {
     uint16_t parent;       /* KUZPALEN_NO_PARENT for the root, else less than the cell's own number */
     uint8_t kind;          /* 1 step, 2 run, 3 repeat, 4 choice, 5 wait */
+    uint8_t rank;          /* 0 to 255, to be set always: siblings stand by rank, then by cell number. Read gives 0 for the old form, byte 7 of the record for the wide one */
     uint16_t width;        /* 1 to KUZPALEN_WIDEST */
     uint8_t depth;         /* 1 to 15 */
     uint8_t label_length;  /* the label: so many bytes of the file, */

@@ -6,7 +6,7 @@ use Prim.Native.Nat.{ℕ, zero, suc, _+_, _*_, _≤_, _<_}
 use native.Mathlib.Omega.{arith}
 use native.Mathlib.Decide.{ℕ-discrete}
 use lib.Dec.{T, eqb, leb, leb→le, eqb→eq}
-use lib.ListN.{length, getD, set, length-set, length-replicate}
+use lib.ListN.{length, getD, set, replicate, length-set, length-replicate, getD-replicate}
 use lib.Seq.{getD-set-same, getD-set-other}
 use borrow.Author.Tests.{eq-eqb, ne-eqb}
 use Rattle.plan.specs.Limits.{between, most-cells, most-allowance, least-file, most-file, trailer-size}
@@ -100,6 +100,11 @@ unfolding from
 table-same g e k zero h = refl
 table-same g e k (suc d) h = cc (h k (omega arith) (omega arith), table-same g e (suc k) d (λ c p q. h c (omega arith) (omega arith)))
 
+-- a file's ranks are 0
+pub rank-none : (f : List ℕ) (c : ℕ) → c < most-cells → getD (replicate most-cells 0) c 0 ≡ entry f c .rank
+unfolding entry record-at
+rank-none f c l = getD-replicate most-cells c 0 0 l
+
 module _ (f : List ℕ) (h : Headed f) where
   abbrev n : ℕ
   n = trailer-of f .count
@@ -115,7 +120,7 @@ module _ (f : List ℕ) (h : Headed f) where
   same-table =
       table-same _ (entry f) 0 n (λ c p q.
       let l : c < n = omega arith in
-      rw (column-at (λ c. entry f c .parent) n c few l, column-at (λ c. entry f c .kind) n c few l, column-at (λ c. entry f c .width) n c few l, column-at (λ c. entry f c .depth) n c few l))
+      rw (column-at (λ c. entry f c .parent) n c few l, column-at (λ c. entry f c .kind) n c few l, column-at (λ c. entry f c .width) n c few l, column-at (λ c. entry f c .depth) n c few l, rank-none f c (omega (arith, few))))
 
   pub plan-refusal : columns-refusal plan (form f) f (trailer-of f .begin) ≡ body-refusal f
   unfolding columns-refusal body-refusal columns-of spare

@@ -24,7 +24,7 @@ use Rattle.planfile.specs.Reading.{label-refusal}
 use Rattle.planfile.specs.FileSteps.{counted, record-refusal, entry-refusal, header-refusal, body-refusal, file-refusal}
 
 no-record : Record
-no-record = record { parent = 0; kind = 0; width = 0; depth = 0; «label_length» = 0; «label_start» = 0 }
+no-record = record { parent = 0; kind = 0; width = 0; depth = 0; rank = 0; «label_length» = 0; «label_start» = 0 }
 
 module _ (f : List ℕ) where
   -- ---- the records of a file

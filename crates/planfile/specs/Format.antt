@@ -27,7 +27,7 @@ abbrev pub form : List ℕ → Form
 form f = form-of (trailer-of f .mark)
 
 -- the record at a place. Old form: bytes 0-1 father, 2 kind, 3 W, 4 D, 5 label length, 6-7 label start;
--- wide form: 0-1 father, 2 kind, 3 D, 4-5 W, 6 label length, 7 zero, 8-9 label start
+-- wide form: 0-1 father, 2 kind, 3 D, 4-5 W, 6 label length, 7 rank (document 02, E13; the old form has 0), 8-9 label start
 unfoldable pub record-at : Form → List ℕ → ℕ → Record
 record-at Old f at =
     record {
@@ -35,6 +35,7 @@ record-at Old f at =
       kind = getD f (at + 2) 0;
       width = getD f (at + 3) 0;
       depth = getD f (at + 4) 0;
+      rank = 0;
       «label_length» = getD f (at + 5) 0;
       «label_start» = pair f (at + 6);
     }

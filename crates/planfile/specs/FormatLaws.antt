@@ -19,7 +19,7 @@ use Rattle.planfile.specs.declared.Trailer.{Trailer}
 
 pub read-old : (f : List ℕ) (at a b c d e p k w h l s : ℕ) → p ≡ pair f at → a ≡ at + 2 → k ≡ getD f a 0 → b ≡ a + 1 → w ≡ getD f b 0 → c ≡ b + 1 → h ≡ getD f c 0
     → d ≡ c + 1 → l ≡ getD f d 0 → e ≡ d + 1 → s ≡ pair f e
-    → _≡_ {A = Record} (record { parent = p; kind = k; width = w; depth = h; «label_length» = l; «label_start» = s }) (record-at Old f at)
+    → _≡_ {A = Record} (record { parent = p; kind = k; width = w; depth = h; rank = 0; «label_length» = l; «label_start» = s }) (record-at Old f at)
 unfolding record-at
 read-old f at a b c d e p k w h l s ep ea ek eb ew ec eh ed el ee es =
     let b′ : b ≡ at + 3 = omega arith in
@@ -86,7 +86,7 @@ module _ (form : Form) (f : List ℕ) (begin c at : ℕ) (ps ks ws ds ls ss : Li
       one g xs e q = sym (column-more (λ c. g (record-at form f (begin + record-size form * c))) c ∙ cc)
 
   pub filled-all : (al n : ℕ) → c ≡ n
-      → _≡_ {A = Reading} (record { refusal = none; allowance = al; columns = record { count = n; parent = ps; kind = ks; width = ws; depth = ds }; «label_length» = ls; «label_start» = ss })
+      → _≡_ {A = Reading} (record { refusal = none; allowance = al; columns = record { count = n; parent = ps; kind = ks; width = ws; depth = ds; rank = qs }; «label_length» = ls; «label_start» = ss })
       (columns-of none al n (λ c. record-at form f (begin + record-size form * c)))
   unfolding columns-of
   filled-all al n e = rw (← e, h .parents, h .kinds, h .widths, h .depths, h .lengths, h .starts)

@@ -90,6 +90,7 @@ impl Cursor {
             kind: kind.value,
             width: wide(width.value),
             depth: depth.value,
+            rank: 0,
             label_length: label_length.value,
             label_start: label_start.value,
         };

@@ -242,6 +242,7 @@ pub fn refused(refusal: Refusal) -> Reading
             kind: [0u8; MOST_CELLS],
             width: [0u16; MOST_CELLS],
             depth: [0u8; MOST_CELLS],
+            rank: [0u8; MOST_CELLS],
         },
         label_length: [0u8; MOST_CELLS],
         label_start: [0u16; MOST_CELLS],

@@ -82,6 +82,7 @@ pub fn records(file: &[u8], form: Form, begin: usize, n: usize, allowance: u16) 
             kind,
             width,
             depth,
+            rank: [0u8; MOST_CELLS],
         },
         label_length,
         label_start,

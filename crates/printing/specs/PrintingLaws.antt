@@ -65,9 +65,9 @@ pub cell-is : (p : Reading) (f : Bytes) (ps : List ℤ) (c : ℕ) → c < p .col
 unfolding cell-of placed
 cell-is p f ps c h d =
     let t = p .columns in
-    let i : c < length (cells p) = omega (arith, table-length (t .parent) (t .kind) (t .width) (t .depth) (t .count)) in
+    let i : c < length (cells p) = omega (arith, table-length (t .parent) (t .kind) (t .width) (t .depth) (t .rank) (t .count)) in
     let (x, y) = d .agree c i in
-    rw (x, y, width-at (t .parent) (t .kind) (t .width) (t .depth) (t .count) c h, depth-at (t .parent) (t .kind) (t .width) (t .depth) (t .count) c h)
+    rw (x, y, width-at (t .parent) (t .kind) (t .width) (t .depth) (t .rank) (t .count) c h, depth-at (t .parent) (t .kind) (t .width) (t .depth) (t .rank) (t .count) c h)
 
 -- ---- our sheet, from what is drawn
 module _ (p : Reading) (few : p .columns .count ≤ most-cells) {s′ : List ℕ} {ps ps′ : List ℤ} {r : Measures} (d : Drawn (cells p) (p .allowance) s′ ps ps′ r) where

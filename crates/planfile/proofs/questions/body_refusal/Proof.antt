@@ -30,7 +30,7 @@ tree-refusal-requires c κs = (records-lower (c .before .before .before .before 
 -- src/questions.rt:227:9
 returns-2 : tie.Need-returns-2
 unfolding columns-refusal
-returns-2 c = goes-on _ _ _ _ (c .before .before .before .before .before .before .before .before .before .records-refusal .ensures) (c .before .before .before .before .before .before .before .if1 .left) (stops _ _ _ (c .before .before .tree-refusal .ensures _) (c .if2 .taken))
+returns-2 c = goes-on _ _ _ _ (c .before .before .before .before .before .before .before .before .before .records-refusal .ensures) (c .before .before .before .before .before .before .before .if1 .left) (stops _ _ _ (c .before .before .tree-refusal .ensures _ _) (c .if2 .taken))
 
 -- src/questions.rt:229:5
 allowance-refusal-requires : tie.Need-allowance-refusal-requires
@@ -39,7 +39,7 @@ allowance-refusal-requires c κs = search needs
 -- src/questions.rt:199:1
 returns-3 : tie.Need-returns-3
 unfolding columns-refusal
-returns-3 c = goes-on _ _ _ _ (c .before .before .before .before .before .before .before .before .before .before .records-refusal .ensures) (c .before .before .before .before .before .before .before .before .if1 .left) (goes-on _ _ _ _ (c .before .before .before .tree-refusal .ensures _) (c .before .if2 .left) (c .allowance-refusal .ensures))
+returns-3 c = goes-on _ _ _ _ (c .before .before .before .before .before .before .before .before .before .before .records-refusal .ensures) (c .before .before .before .before .before .before .before .before .if1 .left) (goes-on _ _ _ _ (c .before .before .before .tree-refusal .ensures _ _) (c .before .if2 .left) (c .allowance-refusal .ensures))
 
 pub body-refusal-spec : {M : Type 1} → statement M
 body-refusal-spec =
