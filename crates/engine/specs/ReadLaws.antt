@@ -16,7 +16,7 @@ use Rattle.planfile.specs.Format.{trailer-of, entry, records-of}
 use Rattle.planfile.specs.Reading.{columns-of, reading-of}
 use Rattle.planfile.specs.FileSteps.{header-refusal, body-refusal, file-refusal}
 use Rattle.planfile.specs.FileLaws as Law
-use Rattle.planfile.specs.ExaminedLaws.{column-at, rank-none, header-read}
+use Rattle.planfile.specs.ExaminedLaws.{column-at, header-read}
 use Rattle.planfile.specs.declared.Reading.{Reading}
 use Rattle.records.specs.Together.{record-in, filled}
 use Rattle.records.specs.TogetherLaws.{filled-none, filled-all}
@@ -52,7 +52,7 @@ module _ (f : List ℕ) (room : ℕ) where
     unfolding columns-of
     plan-record c l =
         let h = plan-fits .1 in
-        rw (column-at (λ c. entry f c .parent) _ c h l, column-at (λ c. entry f c .kind) _ c h l, column-at (λ c. entry f c .width) _ c h l, column-at (λ c. entry f c .depth) _ c h l, rank-none f c (omega arith), column-at (λ c. entry f c .«label_length») _ c h l, column-at (λ c. entry f c .«label_start») _ c h l)
+        rw (column-at (λ c. entry f c .parent) _ c h l, column-at (λ c. entry f c .kind) _ c h l, column-at (λ c. entry f c .width) _ c h l, column-at (λ c. entry f c .depth) _ c h l, column-at (λ c. entry f c .rank) _ c h l, column-at (λ c. entry f c .«label_length») _ c h l, column-at (λ c. entry f c .«label_start») _ c h l)
 
     plan-records : (t : List Record) → length t ≡ room → filled plan (trailer-of f .count) t ≡ records-of f ++ drop (trailer-of f .count) t
     unfolding records-of

@@ -45,14 +45,10 @@ record-at Wide f at =
       kind = getD f (at + 2) 0;
       depth = getD f (at + 3) 0;
       width = pair f (at + 4);
+      rank = getD f (at + 7) 0;
       «label_length» = getD f (at + 6) 0;
       «label_start» = pair f (at + 8);
     }
-
--- the byte that question 8 asks to be zero: byte 7 of the wide form, and the old one has none
-unfoldable pub spare-at : Form → List ℕ → ℕ → ℕ
-spare-at Old f at = 0
-spare-at Wide f at = getD f (at + 7) 0
 
 -- record c of the file
 abbrev pub place : List ℕ → ℕ → ℕ
@@ -60,9 +56,6 @@ place f c = trailer-of f .begin + record-size (form f) * c
 
 unfoldable pub entry : List ℕ → ℕ → Record
 entry f c = record-at (form f) f (place f c)
-
-unfoldable pub spare : List ℕ → ℕ → ℕ
-spare f c = spare-at (form f) f (place f c)
 
 unfoldable pub records-of : List ℕ → List Record
 records-of f = map (entry f) (from 0 (trailer-of f .count))
@@ -80,7 +73,6 @@ file-given f buffers subject =
         begin = trailer-of f .begin;
         letters = take (trailer-of f .begin) f;
         labels = map label-in (records-of f);
-        spares = map (spare f) (from 0 (trailer-of f .count));
       });
       table = cells-of (records-of f);
       allowance = trailer-of f .allowance;

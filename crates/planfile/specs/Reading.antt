@@ -17,13 +17,13 @@ unfoldable pub column : (ℕ → ℕ) → ℕ → List ℕ
 column f zero = replicate most-cells 0
 column f (suc n) = set (column f n) n (f n)
 
--- a plan of n records and an allowance. A file gives every cell rank 0
+-- a plan of n records and an allowance
 unfoldable pub columns-of : Refusal → ℕ → ℕ → (ℕ → Record) → Reading
 columns-of r al n e =
     record {
       refusal = r;
       allowance = al;
-      columns = record { count = n; parent = column (λ c. e c .parent) n; kind = column (λ c. e c .kind) n; width = column (λ c. e c .width) n; depth = column (λ c. e c .depth) n; rank = replicate most-cells 0 };
+      columns = record { count = n; parent = column (λ c. e c .parent) n; kind = column (λ c. e c .kind) n; width = column (λ c. e c .width) n; depth = column (λ c. e c .depth) n; rank = column (λ c. e c .rank) n };
       «label_length» = column (λ c. e c .«label_length») n;
       «label_start» = column (λ c. e c .«label_start») n;
     }
