@@ -1,8 +1,7 @@
 -- The links that are built are those of the table. Assumes nothing.
 use mathlib.Core.Path.{_≡_, refl, _∙_, ap, sym}
-use mathlib.Core.Logic.{_≢_, _⊎_, inl, inr}
+use mathlib.Core.Logic.{_≢_}
 use mathlib.Core.List.{List, [], _∷_}
-use mathlib.Core.Bool.{Bool, true, false, cond}
 use Prim.Native.Nat.{ℕ, zero, suc, pred, _+_, _-_, _*_, _≤_, _<_}
 use native.Mathlib.Omega.{arith}
 use native.Mathlib.Nat.{zero-add}
@@ -13,12 +12,12 @@ use lib.Dec.{T, eqb, eqb→eq}
 use borrow.Author.Tests.{eq-eqb, ne-eqb}
 use Rattle.plan.specs.Limits.{most-cells}
 use Rattle.plan.specs.Lists.{At, from, keep, mem, sort, insert}
-use Rattle.plan.specs.ListLaws.{at-mem, mem-at, mem-here, mem-there, mem-cases, mem-none, keep-read, keep-short, from-read}
+use Rattle.plan.specs.ListLaws.{at-mem, mem-here, mem-there, keep-read, keep-short, from-read}
 use Rattle.plan.specs.SortLaws.{Ordered, before-once, sort-length, sort-read, sort-ordered, sort-same}
 use Rattle.plan.specs.Plan.{Table, Is, kind, parent, rank, filed, children, appointed}
 use Rattle.links.specs.Links.{link, Links}
-use Rattle.links.specs.Chain.{Chain, Off, line-of, spell-length, chain-spell, chain-first, chain-next, chain-other, chain-insert, Where, seek, seek-where, link-in, in-other}
-use Rattle.links.specs.Build.{up, head, kids, chain-one, chained, numbered, number-one, counted, placed, links-of, chain-length, numbered-length, count-length, placed-length, Building, Seeking, Numbering, Counting, Appointing, Linking}
+use Rattle.links.specs.Chain.{Chain, Off, spell-length, chain-spell, chain-first, chain-next, chain-insert, Where, seek, seek-where, link-in, in-other}
+use Rattle.links.specs.Build.{up, head, kids, chain-one, chained, numbered, counted, placed, links-of, chain-length, numbered-length, count-length, placed-length, Building, Seeking, Numbering, Counting, Appointing, Linking}
 
 -- the columns have the parents, the kinds and the ranks of the table t
 pub record Reads (t : Table) (fs ks qs : List ℕ) (n : ℕ) : Type 0 where

@@ -1,15 +1,15 @@
 -- Chains of siblings in the links: from a cell to its next sibling, and on, to none. What a walk along one meets, and how a cell is linked in. Assumes nothing.
-use mathlib.Core.Path.{_≡_, refl, sym, _∙_, ap, subst}
-use mathlib.Core.Logic.{_≢_, _⊎_, inl, inr}
+use mathlib.Core.Path.{_≡_, refl, sym, _∙_}
+use mathlib.Core.Logic.{_≢_, inl, inr}
 use mathlib.Core.List.{List, [], _∷_}
-use mathlib.Core.Bool.{Bool, true, false, cond}
+use mathlib.Core.Bool.{Bool, false, cond}
 use Prim.Native.Nat.{ℕ, zero, suc, _+_, _*_, _≤_, _<_}
 use native.Mathlib.Omega.{arith}
 use native.Mathlib.Nat.{zero-add}
 use native.Mathlib.Decide.{decLe}
 use lib.ListN.{length, getD, set, length-set, List·getD-eq-default}
 use lib.Seq.{getD-set-same, getD-set-other}
-use lib.Dec.{T, leb, ltb, lt→ltb}
+use lib.Dec.{T, leb, ltb}
 use Rattle.whole.specs.Says.{says-le, is-true, is-false}
 use Rattle.plan.specs.Limits.{most-cells}
 use Rattle.plan.specs.Lists.{At, mem, insert}

@@ -1,7 +1,7 @@
 -- The links of a table that is given in columns: what the builder needs of them. Assumes nothing.
 use mathlib.Core.Path.{_≡_, refl}
 use mathlib.Core.List.{List}
-use Prim.Native.Nat.{ℕ, zero, suc, _+_, _*_, _≤_}
+use Prim.Native.Nat.{ℕ, zero, suc, _*_}
 use native.Mathlib.Omega.{arith}
 use lib.ListN.{length, getD, replicate, length-replicate}
 use Rattle.plan.specs.Limits.{most-cells}
@@ -11,7 +11,7 @@ use Rattle.plan.specs.Fit.{Fit}
 use Rattle.plan.specs.TableLaws.{length-is, parent-is, kind-is, rank-is, parent-lower, count-some, count-few}
 use Rattle.links.specs.Links.{Links}
 use Rattle.links.specs.Build.{Linking}
-use Rattle.links.specs.Built.{Reads, Built}
+use Rattle.links.specs.Built.{Built}
 
 pub zeros-get : (k i : ℕ) → getD (replicate {A = ℕ} k 0) i 0 ≡ 0
 zeros-get zero i = refl

@@ -7,7 +7,7 @@ use Prim.Native.Nat.{ℕ, zero, suc, _+_, _≤_, _<_}
 use native.Mathlib.Omega.{arith}
 use native.Mathlib.Decide.{decLe, decLt}
 use lib.ListN.{length}
-use lib.Dec.{T, leb}
+use lib.Dec.{T}
 use Rattle.whole.specs.Says.{says-le, is-true, is-false}
 use Rattle.plan.specs.Lists.{At, from, keep, mem, total, insert, sort}
 use Rattle.plan.specs.ListLaws.{mem-here, mem-there, mem-cases, mem-none, at-mem, keep-read, from-read}

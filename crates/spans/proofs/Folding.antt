@@ -6,7 +6,6 @@ use native.Mathlib.Omega.{arith}
 use lib.ListN.{length, getD, set, length-set}
 use Rattle.plan.specs.Limits.{most-cells}
 use Rattle.plan.specs.declared.Columns.{Columns}
-use Rattle.plan.specs.Plan.{Is}
 use Rattle.plan.specs.Fit.{Fit}
 use Rattle.plan.specs.Columns.{table-of}
 use Rattle.spans.specs.Columns.{at, all, all-long, all-at, put, sum-to, sum-suc, sum-part}

@@ -2,10 +2,10 @@
 use mathlib.Core.Path.{_≡_, refl, sym, ap, _∙_}
 use mathlib.Core.List.{List, [], _∷_}
 use mathlib.Core.Logic.{_≢_}
-use Prim.Native.Nat.{ℕ, zero, suc, _+_, _-_, _*_, _≤_, _<_}
+use Prim.Native.Nat.{ℕ, zero, suc, _+_, _-_, _≤_, _<_}
 use native.Mathlib.Omega.{arith}
 use native.Mathlib.Numerals.{add-one}
-use lib.ListN.{length, getD, set, length-set}
+use lib.ListN.{length, set, length-set}
 use Rattle.plan.specs.declared.Columns.{Columns}
 use Rattle.plan.specs.Limits.{most-cells}
 use Rattle.plan.specs.Lists.{total}
@@ -13,7 +13,7 @@ use Rattle.plan.specs.Plan.{Is, children}
 use Rattle.plan.specs.PlanLaws.{children-few}
 use Rattle.plan.specs.Fit.{Fit}
 use Rattle.plan.specs.Columns.{table-of}
-use Rattle.plan.specs.TableLaws.{length-is, count-some, count-few}
+use Rattle.plan.specs.TableLaws.{length-is, count-few}
 use Rattle.links.specs.Links.{link, Links}
 use Rattle.links.specs.Chain.{Chain, line-of, spell-none, Step, step, chain-spell, children-chain}
 use Rattle.links.specs.Build.{chain-few}

@@ -1,13 +1,13 @@
 -- The pass that numbers siblings: what its loop keeps. Assumes nothing.
-use mathlib.Core.Path.{_≡_, refl, _∙_, ap}
+use mathlib.Core.Path.{_≡_, _∙_, ap}
 use mathlib.Core.List.{List}
-use Prim.Native.Nat.{ℕ, suc, _+_, _-_, _≤_, _<_}
+use Prim.Native.Nat.{ℕ, _+_, _-_, _≤_, _<_}
 use native.Mathlib.Omega.{arith}
 use native.Mathlib.Decide.{ℕ-discrete}
 use lib.ListN.{length, getD, set, length-set}
 use Rattle.plan.specs.Limits.{most-cells}
 use Rattle.plan.specs.declared.Columns.{Columns}
-use Rattle.plan.specs.Plan.{Is, children}
+use Rattle.plan.specs.Plan.{children}
 use Rattle.plan.specs.PlanLaws.{children-few, child-show}
 use Rattle.plan.specs.ListLaws.{at-less}
 use Rattle.plan.specs.Fit.{Fit}

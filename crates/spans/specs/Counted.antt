@@ -1,18 +1,16 @@
 -- The number of each cell among its siblings, from 1, and of its children. Assumes nothing.
-use mathlib.Core.Path.{_≡_, refl, sym, _∙_, ap}
-use mathlib.Core.Logic.{_≢_}
+use mathlib.Core.Path.{_≡_, ap}
 use mathlib.Core.Bool.{_&&_}
 use mathlib.Core.List.{List}
-use Prim.Native.Nat.{ℕ, zero, suc, pred, _+_, _/_, _≤_, _<_}
+use Prim.Native.Nat.{ℕ, zero, suc, pred, _+_, _≤_}
 use native.Mathlib.Omega.{arith}
-use native.Mathlib.Decide.{ℕ-discrete, decLt}
-use lib.ListN.{length, getD}
-use lib.Dec.{T, eqb, leb}
-use Rattle.whole.specs.Says.{Says, that-is, both, says-le, says-eq, same-test}
+use lib.ListN.{length}
+use lib.Dec.{eqb}
+use Rattle.whole.specs.Says.{that-is, both, says-le, says-eq, same-test}
 use Rattle.plan.specs.Lists.{At}
-use Rattle.plan.specs.ListLaws.{at-less, at-getD, at-same}
+use Rattle.plan.specs.ListLaws.{at-less, at-same}
 use Rattle.plan.specs.Plan.{Table, Is, kind, parent, children, child, appointed}
-use Rattle.plan.specs.PlanLaws.{Child, child-read, child-show, child-place, appointed-at, appointed-within}
+use Rattle.plan.specs.PlanLaws.{child-read, child-show, appointed-at, appointed-within}
 use Rattle.rules.specs.Tests.{flush}
 use Rattle.links.specs.Links.{link, Links}
 

@@ -1,25 +1,24 @@
 -- From sizes to spans: each cell, from the first to the last, shares its span out among its children, in their order. Assumes nothing.
-use mathlib.Core.Path.{_≡_, refl, sym, _∙_, ap}
-use mathlib.Core.Logic.{_≢_, _⊎_, inl, inr}
+use mathlib.Core.Path.{_≡_, refl, sym, _∙_}
+use mathlib.Core.Logic.{_≢_}
 use mathlib.Core.List.{List, [], _∷_}
 use Prim.Native.Nat.{ℕ, zero, suc, _+_, _*_, _≤_, _<_}
 use native.Mathlib.Omega.{arith}
-use native.Mathlib.Numerals.{add-one}
 use native.Mathlib.Decide.{ℕ-discrete}
-use lib.ListN.{length, getD, set, length-set}
+use lib.ListN.{length, set, length-set}
 use lib.Seq.{getD-set-same, getD-set-other}
 use lib.Dec.{T}
 use Rattle.plan.specs.Limits.{most-cells}
 use Rattle.plan.specs.Lists.{At, mem, total}
-use Rattle.plan.specs.ListLaws.{mem-here, mem-there, at-mem, mem-at}
+use Rattle.plan.specs.ListLaws.{mem-here, mem-there, mem-at}
 use Rattle.plan.specs.SortLaws.{Ordered, before-once}
 use Rattle.plan.specs.Plan.{Table, Is, Sound, parent, rank, children}
-use Rattle.plan.specs.PlanLaws.{Child, child-read, child-show, children-ordered, children-few}
+use Rattle.plan.specs.PlanLaws.{child-read, child-show, children-ordered}
 use Rattle.plan.specs.Paths.{child-less}
-use Rattle.links.specs.Links.{link, Links}
-use Rattle.links.specs.Chain.{Chain, line-of, spell-none, Step, step, chain-spell, children-chain}
+use Rattle.links.specs.Links.{link}
+use Rattle.links.specs.Chain.{Chain, line-of}
 use Rattle.spans.specs.Columns.{at}
-use Rattle.spans.specs.Sizes.{Sized, total-same}
+use Rattle.spans.specs.Sizes.{Sized}
 use Rattle.spans.specs.Spans.{Spans}
 
 -- the four columns

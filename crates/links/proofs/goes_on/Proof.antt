@@ -1,9 +1,4 @@
-use mathlib.Core.Path.{_≡_, sym, _∙_}
-use Prim.Native.Nat.{ℕ, zero, suc, _<_}
-use native.Mathlib.Omega.{arith}
 use borrow.Author.Needs.{needs}
-use lib.ListN.{getD}
-use lib.Dec.{ltb}
 use Rattle.links.specs.Build.{goes-is}
 use Rattle.links.proofs.goes_on.Statement.{statement}
 use Rattle.links.proofs.goes_on.Tie as tie

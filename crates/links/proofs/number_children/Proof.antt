@@ -1,7 +1,4 @@
-use borrow.Author.Needs.{needs}
-use Prim.Native.Nat.{_<_}
 use native.Mathlib.Omega.{arith}
-use mathlib.Core.Path.{_≡_}
 use lib.ListN.{length, length-set}
 use Rattle.links.specs.Chain.{line-of}
 use Rattle.links.specs.Build.{Numbered, numbered-start, number-few, number-low, numbered-next, numbered-less, numbered-end}

@@ -1,8 +1,6 @@
 use borrow.Author.Needs.{needs}
-use Prim.Native.Nat.{_-_, _<_, _≤_}
-use native.Mathlib.Omega.{arith}
-use mathlib.Core.Path.{_≡_, refl}
-use lib.ListN.{length}
+use Prim.Native.Nat.{_-_}
+use mathlib.Core.Path.{refl}
 use Rattle.spans.specs.Laid.{cols}
 use Rattle.spans.proofs.Laying.{Laying, laying-starts, sharing, laying-turns, laying-ends}
 use Rattle.spans.proofs.lay.Statement.{statement}

@@ -1,8 +1,6 @@
-use borrow.Author.Needs.{needs}
-use Prim.Native.Nat.{_+_, _<_, _≤_}
 use native.Mathlib.Omega.{arith}
-use mathlib.Core.Path.{_≡_, refl}
-use lib.ListN.{length, getD, length-set}
+use mathlib.Core.Path.{refl}
+use lib.ListN.{length}
 use Rattle.links.specs.Chain.{line-of}
 use Rattle.spans.specs.Laid.{cols}
 use Rattle.spans.proofs.Laying.{Shares, shares-start, shares-few, shares-now, shares-fit, next-few, shares-next, shares-less, shares-end}

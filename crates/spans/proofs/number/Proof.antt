@@ -1,6 +1,6 @@
-use Prim.Native.Nat.{_-_, _<_}
+use Prim.Native.Nat.{_-_}
 use Rattle.spans.proofs.Numbering.{Numbering, numbering-starts, many-fits, place-fits, numbering-turns, numbering-ends}
-use Rattle.plan.specs.TableLaws.{parent-lower, length-is}
+use Rattle.plan.specs.TableLaws.{parent-lower}
 use native.Mathlib.Omega.{arith}
 use borrow.Author.Needs.{needs}
 use Rattle.spans.proofs.number.Statement.{statement}
