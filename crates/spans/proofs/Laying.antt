@@ -25,6 +25,7 @@ use Rattle.spans.specs.Laid.{Cols, cols, Long, share, share-long, spread
 -- ---- along the children of f: the walk is at s, whose span begins at a, and that of the sibling before it at b
 pub record Shares (ls sizes : List ℕ) (c₀ : Cols) (f : ℕ) (c : Cols) (s b a : ℕ) : Type 0 where
   pub long : Long c
+  pub few : s < most-cells
   pub chain : Chain ls s (line-of ls s)
   pub same : spread (at sizes) c b a (line-of ls s) ≡ spread-at (at sizes) c₀ f (kids ls f)
   pub room : a + total (at sizes) (line-of ls s) ≤ most-cells
@@ -45,12 +46,9 @@ module _ (ls sizes : List ℕ) where
 
   module _ (c₀ : Cols) (f : ℕ) (h : Sharing ls sizes c₀ f) where
     pub shares-start : {s a : ℕ} → s ≡ link ls f 0 → a ≡ at (c₀ .firsts) f + 1 → Shares ls sizes c₀ f c₀ s a a
-    shares-start e q = rw (e, q) (record { long = h .long; chain = h .chain; same = refl; room = h .small })
+    shares-start e q = rw (e, q) (record { long = h .long; few = chain-few ls (link ls f 0) (h .chain); chain = h .chain; same = refl; room = h .small })
 
     module _ {c : Cols} {s b a : ℕ} (g : Shares ls sizes c₀ f c s b a) where
-      pub shares-few : s < most-cells
-      shares-few = chain-few ls s (g .chain)
-
       module _ (p : 0 < s) where
         on : Step ls most-cells s
         on = step ls most-cells s p (g .chain)
@@ -79,6 +77,7 @@ module _ (ls sizes : List ℕ) where
               let q′ = q ∙ next-is n n-chain in
               record {
                 long = share-long (at sizes) c b a s _ (g .long);
+                few = next-few;
                 chain = n-chain;
                 same = rw q′ (sym (spread-cons (at sizes) c b a s (line-of ls n)) ∙ ap (spread (at sizes) c b a) (sym line-is) ∙ g .same);
                 room = let z = ap (total (at sizes)) line-is in omega (arith, g .room);
