@@ -32,6 +32,7 @@ extern "C" {
 typedef struct {
     uint16_t parent;       /* KUZPALEN_NO_PARENT for the root, else less than the cell's own number */
     uint8_t kind;          /* 1 step, 2 run, 3 repeat, 4 choice, 5 wait */
+    uint8_t rank;          /* 0 to 255, to be set always: siblings stand by rank, then by number; 0 where a file is of the old form */
     uint16_t width;        /* 1 to KUZPALEN_WIDEST */
     uint8_t depth;         /* 1 to 15 */
     uint8_t label_length;  /* the label: so many bytes of the file, */
@@ -100,10 +101,10 @@ typedef struct {
 /* A plan file is of one of two forms, which its last two bytes tell, or question 3 refuses. Both have the
  * label bytes first, then the records, then a trailer of 8 bytes. Hexadecimal 53 54: records of 8 bytes,
  * parent (2), kind, width, depth, label length, label start (2), and so widths to 255. Hexadecimal 53 55:
- * records of 10 bytes, parent (2), kind, depth, width (2), label length, a byte of zero, label start (2),
- * and widths to KUZPALEN_WIDEST. Question 4 reckons with the size of the form's records; question 8
- * refuses a width or a depth that is not allowed, and that byte where it is not zero. Read, Label and List
- * take either form, and a table does not tell from which it was read. */
+ * records of 10 bytes, parent (2), kind, depth, width (2), label length, rank, label start (2), and widths
+ * to KUZPALEN_WIDEST; in the old form every rank is 0. Question 4 reckons with the size of the form's
+ * records; question 8 refuses a width or a depth that is not allowed; none asks about a rank. Read, Label
+ * and List take either form, and a table does not tell from which it was read. */
 
 /* Read: a plan file into a table. `table_len` is at least KUZPALEN_CELLS, or question 1 refuses. The
  * first `count` records are written, and no other. */
@@ -119,14 +120,16 @@ kuzpalen_label_answer kuzpalen_label_refusal(const uint8_t *file, size_t file_le
 
 /* Layout: a table to positions, x then y of each cell, by S1 to S5 and as narrow as they permit. By S2 a
  * choice (kind 4) has the x of its first child, any other cell with k children that of number (k+1)/2,
- * rounded up. `positions_len` is at least twice `table_len`, and `scratch_len` at least KUZPALEN_SCRATCH,
+ * rounded up. Children are counted, and stand from left to right, by rank, those of one rank by their own
+ * numbers. `positions_len` is at least twice `table_len`, and `scratch_len` at least KUZPALEN_SCRATCH,
  * or question 1 refuses. Positions past those of the cells stay as they were; the first KUZPALEN_SCRATCH
  * numbers of the scratch become 0, later ones stay. */
 kuzpalen_layout_answer kuzpalen_layout(const kuzpalen_record *table, size_t table_len, uint32_t allowance,
                                        uint32_t *scratch, size_t scratch_len,
                                        int32_t *positions, size_t positions_len);
 
-/* Check: whether positions keep S1 to S5, with S2 as Layout has it. `positions_len` is at least twice
+/* Check: whether positions keep S1 to S5, with S2 and the order of siblings as Layout has them; a and b are
+ * the lowest by their numbers, whatever the ranks. `positions_len` is at least twice
  * `table_len`, or question 1 refuses; question 15 refuses a coordinate past KUZPALEN_FARTHEST or its
  * negative. Numbers past those of the cells are not looked at. */
 kuzpalen_check_answer kuzpalen_check(const kuzpalen_record *table, size_t table_len,

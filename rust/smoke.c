@@ -31,9 +31,9 @@ static int wide_good(void) {
     other[11] = 4; /* W 1,279 */
     good = good && kuzpalen_read(other, sizeof other, table, KUZPALEN_CELLS).number == 8;
     memcpy(other, wide, sizeof wide);
-    other[23] = 1; /* byte 7 of cell 1 */
-    plan = kuzpalen_read(other, sizeof other, table, KUZPALEN_CELLS);
-    good = good && plan.number == 8 && plan.cell == 1;
+    other[23] = 255; /* byte 7 of cell 1 */
+    good = good && kuzpalen_read(other, sizeof other, table, KUZPALEN_CELLS).number == 0
+        && table[0].rank == 0 && table[1].rank == 255 && table[2].rank == 0 && sizeof table[0] == 10;
     memcpy(other, wide, sizeof wide);
     other[43] = 0x54;
     return good && kuzpalen_read(other, sizeof other, table, KUZPALEN_CELLS).number == 4;
@@ -66,9 +66,9 @@ static int listing_good(void) {
 int main(void) {
     static uint32_t scratch[KUZPALEN_SCRATCH];
     kuzpalen_record table[3] = {
-        {KUZPALEN_NO_PARENT, 2, 4, 1, 0, 0},
-        {0, 1, 3, 1, 0, 0},
-        {0, 1, 5, 1, 0, 0},
+        {KUZPALEN_NO_PARENT, 2, 0, 4, 1, 0, 0},
+        {0, 1, 0, 3, 1, 0, 0},
+        {0, 1, 0, 5, 1, 0, 0},
     };
     int32_t p[6];
     kuzpalen_layout_answer laid = kuzpalen_layout(table, 3, 0, scratch, KUZPALEN_SCRATCH, p, 6);
@@ -85,6 +85,9 @@ int main(void) {
     good = good && fits.number == 0 && fits.outcome == KUZPALEN_FRAME_ALLOWANCE && fits.allowance == 0
         && kuzpalen_frame(table, 3, 8, scratch, KUZPALEN_SCRATCH).outcome == KUZPALEN_FRAME_NONE
         && kuzpalen_frame(table, 3, 0, scratch, KUZPALEN_SCRATCH).number == 19;
+    table[1].rank = 1; /* cell 2 comes before cell 1, which the run hangs from */
+    laid = kuzpalen_layout(table, 3, 0, scratch, KUZPALEN_SCRATCH, p, 6);
+    good = good && laid.number == 0 && laid.width == 10 && p[2] == 0 && p[4] == -6;
     p[2] = KUZPALEN_FARTHEST;
     good = good && kuzpalen_check(table, 3, p, 6, 0).number == 0;
     p[2] = -KUZPALEN_FARTHEST - 1;

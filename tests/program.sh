@@ -49,7 +49,7 @@ for case in "short 2 0" "long 2 0" "kind 7 0" "child 7 1"; do
 done
 
 # ---- the form for wider boxes: the printed example in it has the same listing, and its own refusals
-# wide ROOT SECOND MARK: the file, with bytes 4 to 7 of the root's record (W, label length, zero), byte 7 of cell 1's, and the mark's last byte
+# wide ROOT SECOND MARK: the file, with bytes 4 to 7 of the root's record (W, label length, rank), byte 7 of cell 1's, and the mark's last byte
 wide() {
     printf 'UpARun\377\377\2\1%b\0\0\0\0\1\1\3\0\1%b\2\0\0\0\1\1\5\0\3\0\3\0\6\0\3\0\0\0\123%b' "$1" "$2" "$3"
 }
@@ -61,13 +61,16 @@ same "the listing with a root of 1,023" "sheet 3 0 1027 4
 0 0 0 1023 1 Up
 1 -4 2 3 1 A
 2 0 2 5 1 Run" "$("$sheet" < "$work/widest.plan")"
+wide '\4\0\2\3' '\377' '\125' > "$work/ranked.plan"     # cell 1 behind cell 2; the root's rank has no effect
+same "the listing with cell 1 behind cell 2" "sheet 3 0 10 4
+0 0 0 4 1 Up
+1 0 2 3 1 A
+2 -6 2 5 1 Run" "$("$sheet" < "$work/ranked.plan")"
 wide '\0\4\2\0' '\0' '\125' > "$work/wider.plan"     # W 1,024
-wide '\4\0\2\1' '\0' '\125' > "$work/spoiled.plan"     # byte 7 of cell 0
-wide '\4\0\2\0' '\377' '\125' > "$work/second.plan"     # byte 7 of cell 1
 wide '\4\0\2\0' '\0' '\124' > "$work/old-mark.plan"
 wide '\4\0\2\0' '\0' '\126' > "$work/no-mark.plan"
 { head -c 37 plans/printed.plan; printf '\125'; } > "$work/new-mark.plan"     # the old records under the new mark
-for case in "wider 8 0" "spoiled 8 0" "second 8 1" "old-mark 4 0" "no-mark 3 0" "new-mark 4 0"; do
+for case in "wider 8 0" "old-mark 4 0" "no-mark 3 0" "new-mark 4 0"; do
     set -- $case
     same "the listing of the plan $1" "refused $2 $3" "$("$sheet" < "$work/$1.plan")"
 done

@@ -24,9 +24,9 @@ def plan(cells, letters=b'', allowance=0, begin=None, count=None, mark=b'\x53\x5
 OLD, WIDE = b'\x53\x54', b'\x53\x55'
 
 
-def wide_plan(cells, letters=b'', allowance=0, begin=None, count=None, mark=WIDE, spares={}):
-    """The wide form: records of 10 bytes; spares: byte 7 of a cell, where it is not zero."""
-    body = b''.join(struct.pack('<HBBHBBH', p, k, d, w, n, spares.get(c, 0), s) for c, (p, k, w, d, n, s) in enumerate(cells))
+def wide_plan(cells, letters=b'', allowance=0, begin=None, count=None, mark=WIDE, ranks={}):
+    """The wide form: records of 10 bytes; ranks: those that are not zero."""
+    body = b''.join(struct.pack('<HBBHBBH', p, k, d, w, n, ranks.get(c, 0), s) for c, (p, k, w, d, n, s) in enumerate(cells))
     begin = len(letters) if begin is None else begin
     count = len(cells) if count is None else count
     return letters + body + struct.pack('<HHH', begin, count, allowance) + mark
@@ -52,20 +52,24 @@ def refused(file, number, cell_at_fault=0, room=256, at=0, label=None):
     case(file, ('refused', number, cell_at_fault), room, at, label or '%d %d ' % (number, cell_at_fault))
 
 
-def shown(cells, letters=b''):
+def shown(cells, letters=b'', ranks={}):
     """The first four records, and the blank one after the last where it is among them."""
     rows = []
     for c in range(min(4, len(cells) + 1)):
         if c < len(cells):
             p, k, w, d, n, s = cells[c]
-            rows.append('%d %d %d %d %d %d %s' % (p, k, w, d, n, s, letters[s:s + n].decode()))
+            rows.append('%d %d %d %d %d %d %d %s' % (p, k, ranks.get(c, 0), w, d, n, s, letters[s:s + n].decode()))
         else:
-            rows.append('0 0 0 0 0 0 ')
+            rows.append('0 0 0 0 0 0 0 ')
     return rows
 
 
 def accepted(cells, letters=b'', allowance=0, at=0, label='0 0 ', form=plan):
     case(form(cells, letters, allowance), ('plan', len(cells), allowance, shown(cells, letters)), 256, at, label)
+
+
+def ranked(cells, ranks):
+    case(wide_plan(cells, ranks=ranks), ('plan', len(cells), 0, shown(cells, ranks=ranks)), 256, 0, '0 0 ')
 
 
 ONE = [cell(ROOT, STEP, 5)]
@@ -109,7 +113,7 @@ def changed(cells, c, **fields):
 # ---- the paper's 38 bytes
 PAPER = bytes.fromhex('557041 52756e'.replace(' ', '')) + bytes.fromhex('FFFF020401020000 0000010301010200 0000010501030300 0600030000005354'.replace(' ', ''))
 assert PAPER[:6] == b'UpARun' and len(PAPER) == 38
-case(PAPER, ('plan', 3, 0, ['65535 2 4 1 2 0 Up', '0 1 3 1 1 2 A', '0 1 5 1 3 3 Run', '0 0 0 0 0 0 ']), 256, 2, '0 0 Run')
+case(PAPER, ('plan', 3, 0, ['65535 2 0 4 1 2 0 Up', '0 1 0 3 1 1 2 A', '0 1 0 5 1 3 3 Run', '0 0 0 0 0 0 0 ']), 256, 2, '0 0 Run')
 
 # ---- question 1: a table to fill of 256 records; Label does not ask it
 refused(plan(ONE), 1, room=255, label='0 0 ')
@@ -241,7 +245,7 @@ refused(plan(ONE)[:12], 1, room=3, label='2 0 ')                            # 1 
 # ---- the wide form (document 02, E7): mark 53 55, records of 10 bytes
 PAPER_WIDE = b'UpARun' + bytes.fromhex('FFFF0201040002000000 00000101030001000200 00000101050003000300 0600030000005355'.replace(' ', ''))
 assert len(PAPER_WIDE) == 6 + 30 + 8
-case(PAPER_WIDE, ('plan', 3, 0, ['65535 2 4 1 2 0 Up', '0 1 3 1 1 2 A', '0 1 5 1 3 3 Run', '0 0 0 0 0 0 ']), 256, 2, '0 0 Run')
+case(PAPER_WIDE, ('plan', 3, 0, ['65535 2 0 4 1 2 0 Up', '0 1 0 3 1 1 2 A', '0 1 0 5 1 3 3 Run', '0 0 0 0 0 0 0 ']), 256, 2, '0 0 Run')
 accepted(ONE, form=wide_plan)                                               # 18 bytes
 refused(wide_plan(ONE)[1:], 4)                                              # 17 bytes
 refused(wide_plan(ONE)[2:], 4)                                              # 16 bytes
@@ -275,16 +279,14 @@ refused(wide_plan(changed(star(3), 3, w=1024)), 8, 3)
 refused(wide_plan(changed(star(3), 2, d=0)), 8, 2)
 refused(wide_plan(changed(star(3), 2, d=16)), 8, 2)
 
-# question 8: byte 7
+# byte 7 is the rank, and no question asks about it; the old form has none
 for b in (1, 128, 255):
-    refused(wide_plan(ONE, spares={0: b}), 8, 0)
-refused(wide_plan(star(3), spares={3: 1}), 8, 3)
-refused(wide_plan(star(3), spares={1: 1, 2: 9}), 8, 1)                      # the lowest cell
-refused(wide_plan(changed(star(3), 1, kind=7), spares={1: 1}), 7, 1)        # 7 before 8
-refused(wide_plan(changed(star(3), 1, length=1, start=9), spares={1: 1}), 8, 1)     # 8 before 9
-refused(wide_plan(changed(star(3), 2, parent=2), spares={1: 1}), 8, 1)      # record by record: 8 at 1 before 6 at 2
-refused(wide_plan(changed(star(3), 1, length=1, start=9), spares={2: 1}), 9, 1)     # 9 at 1 before 8 at 2
-refused(wide_plan(star(17), spares={9: 1}), 8, 9)                           # 8 before 11
+    ranked(ONE, {0: b})
+ranked(star(3), {1: 2, 2: 1})
+ranked(star(3), {1: 255, 2: 255, 3: 255})
+refused(wide_plan(changed(star(3), 1, w=0), ranks={1: 1}), 8, 1)
+refused(wide_plan(changed(star(3), 2, parent=2), ranks={1: 1}), 6, 2)
+refused(wide_plan(star(17), ranks={9: 1}), 11, 0)
 
 # the other questions put to it
 refused(wide_plan(ONE), 1, room=255, label='0 0 ')

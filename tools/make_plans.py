@@ -19,8 +19,8 @@ ROOT = 65535
 # ---- plans and files
 
 class Cell:
-    def __init__(self, father, kind, w, d=1, label=''):
-        self.father, self.kind, self.w, self.d, self.label = father, KINDS.get(kind, kind), w, d, label
+    def __init__(self, father, kind, w, d=1, label='', rank=0):
+        self.father, self.kind, self.w, self.d, self.label, self.rank = father, KINDS.get(kind, kind), w, d, label, rank
 
 
 def table(text):
@@ -48,10 +48,10 @@ def outline(text):
 OLD, WIDE = b'\x53\x54', b'\x53\x55'
 
 
-def plan_file(cells, allowance=0, letters=None, labels=None, begin=None, count=None, mark=OLD, spares={}):
+def plan_file(cells, allowance=0, letters=None, labels=None, begin=None, count=None, mark=OLD):
     """The labels in the order of the cells, each once; or the letters given, with (start, length) of each label.
 
-    The mark decides the form, as in document 02's E7; spares: byte 7 of a wide record, where it is not zero."""
+    The mark decides the form, as in document 02's E7; only the wide one has ranks (E13)."""
     if letters is None:
         letters, labels, known = b'', [], {}
         for c in cells:
@@ -61,8 +61,8 @@ def plan_file(cells, allowance=0, letters=None, labels=None, begin=None, count=N
             labels.append((known[c.label], len(c.label)))
     labels = labels or [(0, 0)] * len(cells)
     if mark == WIDE:
-        body = b''.join(struct.pack('<HBBHBBH', c.father, c.kind, c.d, c.w, n, spares.get(i, 0), s)
-                        for i, (c, (s, n)) in enumerate(zip(cells, labels)))
+        body = b''.join(struct.pack('<HBBHBBH', c.father, c.kind, c.d, c.w, n, c.rank, s)
+                        for c, (s, n) in zip(cells, labels))
     else:
         body = b''.join(struct.pack('<HBBBBH', c.father, c.kind, c.w, c.d, n, s) for c, (s, n) in zip(cells, labels))
     return letters + body + struct.pack('<HHH', len(letters) if begin is None else begin,
@@ -75,7 +75,7 @@ def sons_of(cells):
     sons = [[] for _ in cells]
     for c, cell in enumerate(cells[1:], 1):
         sons[cell.father].append(c)
-    return sons
+    return [sorted(s, key=lambda c: cells[c].rank) for s in sons]        # by rank, then in file order (E13)
 
 
 def placement(cells, allowance):
@@ -300,11 +300,29 @@ BILINGUAL = table('''
 ''')
 WIDEST = [Cell(c.father, c.kind, 1023, c.d, c.label) for c in FULL]
 
+
+
+def ranks(cells, given):
+    """The plan with these ranks, and 0 for every other cell."""
+    return [Cell(c.father, c.kind, c.w, c.d, c.label, given.get(i, 0)) for i, c in enumerate(cells)]
+
+
+# the rain first, then the outer pond and its brine (a tie: in file order), the pans last; of the crusts the grey one first
+RANKED = ranks(POND, {37: 1, 1: 2, 11: 2, 24: 3, 29: 1, 36: 1})
+
 # name, plan, allowance; the width where document 01 gives it
 COMPUTED = [('F-0', F, 0, 30), ('pond', POND, 12, None), ('full', FULL, 20, None)]
 
 # name, plan, allowance, of those in the wide form
-IN_WIDE = [('bilingual', BILINGUAL, 40), ('widest', WIDEST, 0)]
+IN_WIDE = [('bilingual', BILINGUAL, 40), ('widest', WIDEST, 0), ('ranked', RANKED, 12)]
+
+# plan, allowance, x, width and rows, by hand: ranks that exchange B's children, reverse D's, put N's last branch first, tie two of D's
+BY_RANK = [
+    (ranks(B, {1: 1}), 0, [0, 0, -6], 10, 4),
+    (ranks(D, {1: 9, 2: 3, 3: 2, 4: 1}), 0, [0, 3, 0, -3, -6], 11, 4),
+    (ranks(N, {1: 255}), 0, [0, 6, 0], 9, 4),
+    (ranks(D, {1: 7, 3: 7}), 0, [0, 0, -6, 3, -3], 11, 4),
+]
 
 
 # ---- what each refusal is put to, and the edges
@@ -324,7 +342,7 @@ LONG = 'Forty letters, the most that a label has'
 
 
 def changed(cells, c, **fields):
-    out = [Cell(x.father, x.kind, x.w, x.d, x.label) for x in cells]
+    out = [Cell(x.father, x.kind, x.w, x.d, x.label, x.rank) for x in cells]
     for k, v in fields.items():
         setattr(out[c], k, v)
     return out
@@ -354,7 +372,6 @@ REFUSED = [
     (plan_file(changed(B, 1, d=0)), 8, 1),
     (plan_file(changed(B, 2, d=16)), 8, 2),
     (plan_file(changed(B, 2, w=1024), mark=WIDE), 8, 2),
-    (plan_file(B, mark=WIDE, spares={1: 1}), 8, 1),
     (plan_file(changed(B, 1, w=255), letters=b'x' * 41, labels=[(0, 0), (0, 41), (0, 0)]), 9, 1),
     (plan_file(B, letters=b'x', labels=[(0, 0), (1, 1), (0, 0)]), 9, 1),
     (plan_file(B, letters=b'x', labels=[(2, 0), (0, 1), (0, 0)]), 9, 0),
@@ -411,6 +428,10 @@ def main():
         keep(plan_file(cells, allowance, letters), listing(cells, allowance, *placement(cells, allowance)))
     for name, cells, allowance, _, _, _ in WORKED:
         keep(plan_file(cells, allowance, mark=WIDE), (plans / (name + '.txt')).read_text())          # the same plan, the same listing
+    for cells, allowance, x, width, rows in BY_RANK:
+        found = placement(cells, allowance)
+        assert (found[0], found[2], found[3]) == (x, width, rows), found
+        keep(plan_file(cells, allowance, mark=WIDE), listing(cells, allowance, x, found[1], width, rows))
     for w in (255, 256, 1023):
         one = [Cell(ROOT, 'step', w)]
         keep(plan_file(one, mark=WIDE), listing(one, 0, *placement(one, 0)))

@@ -27,7 +27,8 @@ use Rattle.rules.specs.Placement.{Placement, width}
 use Rattle.layout.specs.Sheet.{sheet}
 use Rattle.least.specs.Measures.{sheet-width, sheet-rows}
 use Rattle.least.specs.Asked.{LayoutAsked, layout-asks}
-use Rattle.marks.specs.Marks.{Markable, zeros-get}
+use Rattle.links.specs.Linked.{zeros-get}
+use Rattle.marks.specs.Marks.{Markable}
 use Rattle.positions.specs.Written.{written}
 use Rattle.positions.specs.Raised.{Raised, High, Topped}
 use Rattle.drawing.specs.declared.Laid.{Laid}
@@ -56,7 +57,7 @@ pub record Drawn (t : Table) (al : ℕ) (s′ : List ℕ) (ps ps′ : List ℤ) 
 -- ---- the columns of a table that no question refuses
 module _ (t : Columns) (fit : Fit (table-of t)) where
   pub size : length (table-of t) ≡ t .count
-  size = table-length (t .parent) (t .kind) (t .width) (t .depth) (t .count)
+  size = table-length (t .parent) (t .kind) (t .width) (t .depth) (t .rank) (t .count)
 
   pub fit-lower : Lower (t .parent) (t .count)
   fit-lower = record {
@@ -64,14 +65,14 @@ module _ (t : Columns) (fit : Fit (table-of t)) where
     few = omega (arith, size, fit .not-too-many);
     lower = λ c p l.
         let i : Is (table-of t) c = omega (arith, size) in
-        omega (arith, fit .sound c p i, parent-at (t .parent) (t .kind) (t .width) (t .depth) (t .count) c l);
+        omega (arith, fit .sound c p i, parent-at (t .parent) (t .kind) (t .width) (t .depth) (t .rank) (t .count) c l);
   }
 
   pub fit-flat : Flat (t .depth) (t .count)
   fit-flat = record {
     flat = λ c l.
         let i : Is (table-of t) c = omega (arith, size) in
-        omega (arith, fit .deep c i .1, depth-at (t .parent) (t .kind) (t .width) (t .depth) (t .count) c l);
+        omega (arith, fit .deep c i .1, depth-at (t .parent) (t .kind) (t .width) (t .depth) (t .rank) (t .count) c l);
   }
 
   pub high : (xs : List ℕ) (x : ℕ → ℤ) → Raised xs (t .count) x → High xs (t .count)

@@ -3,13 +3,13 @@
 -- `marks_of` (crate marks, `Toured`). Assumes nothing.
 use mathlib.Core.Path.{_≡_, refl, _∙_, sym, ap}
 use mathlib.Core.List.{List, [], _∷_, _++_}
-use Prim.Native.Nat.{ℕ, zero, suc, _+_, _*_, _≤_, _<_}
+use Prim.Native.Nat.{ℕ, zero, suc, _+_, _*_, _<_}
 use native.Mathlib.Omega.{arith}
 use native.Mathlib.Decide.{ℕ-discrete}
 use lib.ListN.{length, getD, replicate, length-append, length-replicate, List·getD-append}
 use lib.Seq.{getD-append-add}
 use Rattle.plan.specs.Limits.{most-cells}
-use Rattle.plan.specs.Plan.{Table, Is, parent, kind, W, D, row}
+use Rattle.plan.specs.Plan.{Table, Is, parent, kind, W, D, rank, row}
 use Rattle.plan.specs.Fit.{Fit}
 use Rattle.plan.specs.Questions.{layout, none, refusal, layout-given}
 use Rattle.least.specs.Asked.{layout-asks}
@@ -17,7 +17,7 @@ use Rattle.joining.specs.Joining.{Memory}
 use Rattle.links.specs.Links.{Links}
 use Rattle.links.specs.Build.{links-of, Linking}
 use Rattle.links.specs.Built.{links-are}
-use Rattle.marks.specs.Marks.{zeros-get}
+use Rattle.links.specs.Linked.{zeros-get}
 use Rattle.walk.specs.Machine.{Chart, chart}
 use Rattle.walk.specs.Turns.{stack-of}
 use Rattle.walk.specs.Claim.{Suits}
@@ -33,7 +33,7 @@ column f (suc k) = column f k ++ (f k ∷ [])
 -- the columns of a table that the walk reads: its links, widths, depths and rows
 abbrev pub chart-of : Table → ℕ → Chart
 chart-of t al =
-    chart (links-of (column (parent t) most-cells) (column (kind t) most-cells) (length t) (replicate (4 * most-cells) 0)) (column (W t) most-cells) (column (D t) most-cells) (column (row t) most-cells) al
+    chart (links-of (column (parent t) most-cells) (column (kind t) most-cells) (column (rank t) most-cells) (length t) (replicate (4 * most-cells) 0)) (column (W t) most-cells) (column (D t) most-cells) (column (row t) most-cells) al
 
 column-length : (f : ℕ → ℕ) (k : ℕ) → length (column f k) ≡ k
 unfolding column
@@ -56,26 +56,26 @@ module _ (t : Table) (fit : Fit t) where
   at : (f : ℕ → ℕ) (c : ℕ) → Is t c → getD (column f most-cells) c 0 ≡ f c
   at f c i = column-at f most-cells c (omega (arith, fit .not-too-many))
 
-  linking : Linking (column (parent t) most-cells) (column (kind t) most-cells) (length t) (replicate (4 * most-cells) 0)
+  linking : Linking (column (parent t) most-cells) (column (kind t) most-cells) (column (rank t) most-cells) (length t) (replicate (4 * most-cells) 0)
   linking =
       record {
         building = record {
           some = fit .some-cell;
           few = fit .not-too-many;
           parents = rw (column-length (parent t) most-cells) (fit .not-too-many);
+          ranks = rw (column-length (rank t) most-cells) (omega arith);
           room = rw (length-replicate {A = ℕ} (4 * most-cells) 0) (omega arith);
           before = λ c p l. rw (at (parent t) c l) (fit .sound c p l);
-          none = λ f. zeros-get (4 * most-cells) (4 * f + 3);
+          clear = zeros-get (4 * most-cells);
         };
         kinds = rw (column-length (kind t) most-cells) (fit .not-too-many);
-        clear = zeros-get (4 * most-cells);
       }
 
   pub chart-suits : (al : ℕ) → Suits t (chart-of t al)
   chart-suits al =
       record {
         fit = fit;
-        links = links-are (column (parent t) most-cells) (column (kind t) most-cells) (length t) (replicate (4 * most-cells) 0) linking refl t (record { size = refl; parent-of = λ c i. sym (at (parent t) c i); kind-of = λ c i. sym (at (kind t) c i) });
+        links = links-are (column (parent t) most-cells) (column (kind t) most-cells) (column (rank t) most-cells) (length t) (replicate (4 * most-cells) 0) linking refl t (record { size = refl; parent-of = λ c i. sym (at (parent t) c i); kind-of = λ c i. sym (at (kind t) c i); rank-of = λ c i. sym (at (rank t) c i) });
         widths = rw (column-length (W t) most-cells) (omega arith);
         depths = rw (column-length (D t) most-cells) (omega arith);
         tops = rw (column-length (row t) most-cells) (omega arith);

@@ -52,7 +52,7 @@ module _ (f : List ℕ) (room : ℕ) where
     unfolding columns-of
     plan-record c l =
         let h = plan-fits .1 in
-        rw (column-at (λ c. entry f c .parent) _ c h l, column-at (λ c. entry f c .kind) _ c h l, column-at (λ c. entry f c .width) _ c h l, column-at (λ c. entry f c .depth) _ c h l, column-at (λ c. entry f c .«label_length») _ c h l, column-at (λ c. entry f c .«label_start») _ c h l)
+        rw (column-at (λ c. entry f c .parent) _ c h l, column-at (λ c. entry f c .kind) _ c h l, column-at (λ c. entry f c .width) _ c h l, column-at (λ c. entry f c .depth) _ c h l, column-at (λ c. entry f c .rank) _ c h l, column-at (λ c. entry f c .«label_length») _ c h l, column-at (λ c. entry f c .«label_start») _ c h l)
 
     plan-records : (t : List Record) → length t ≡ room → filled plan (trailer-of f .count) t ≡ records-of f ++ drop (trailer-of f .count) t
     unfolding records-of

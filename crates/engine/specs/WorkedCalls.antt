@@ -16,7 +16,7 @@ use Rattle.rules.specs.Verdict.{answer, verdict}
 use Rattle.layout.specs.Contour as contour
 use Rattle.layout.specs.Sheet as ours
 use Rattle.least.specs.Worked as worked
-use Rattle.least.specs.Worked.{Row, sheets, shown, chosen, planned}
+use Rattle.least.specs.Worked.{Row, sheets, shown, ranked, chosen, planned}
 use Rattle.positions.specs.Written.{corners}
 use Rattle.verdict.specs.Checked.{answered, checked-of}
 use Rattle.verdict.specs.declared.Checked.{Checked}
@@ -30,5 +30,5 @@ unfoldable pub due : Row → Checked
 due r = answered (r .answers)
 
 pub worked-calls : map called sheets ≡ map due sheets
-unfolding called due checked-of answered corners asked.check-given asked.near range.within placement.placed sheets chosen planned worked.row worked.kept worked.r worked.l worked.A worked.B worked.C worked.D worked.E worked.F worked.K worked.L worked.M worked.N worked.O worked.P worked.Q shown answer verdict lowest scan judge test kept1 flush after-one before-one meets box4 stem4 eqZ share lists.index lists.from lists.keep lists.some lists.mem lists.ahead-in lists.heads lists.next-in lists.total plan.blank plan.parent plan.kind plan.W plan.D plan.cells plan.children plan.child plan.appointed plan.climb plan.path plan.within plan.subtree plan.row plan.ahead plan.next plan.earlier placement.best placement.right placement.base placement.bottom placement.width placement.rows contour.greatest contour.cover contour.clash contour.separation contour.step contour.offset contour.lefts contour.rights contour.contour ours.middle ours.around ours.trace ours.contours ours.shift ours.along ours.column ours.sheet refusal layout-given asked.take-steps asked.take-step asked.sequence asked.ask-all asked.ask asked.at-each asked.holds asked.puts asked.number asked.roomy asked.all-roomy asked.enough asked.in-file asked.lower asked.widest-in asked.sized asked.asked asked.or-else kinds.about kinds.known kinds.allows plan.level
+unfolding called due checked-of answered corners asked.check-given asked.near range.within placement.placed sheets ranked chosen planned worked.row worked.kept worked.r worked.l worked.A worked.B worked.C worked.D worked.E worked.F worked.K worked.L worked.M worked.N worked.O worked.P worked.Q worked.R worked.S worked.T worked.U worked.X worked.Y shown answer verdict lowest scan judge test kept1 flush after-one before-one meets box4 stem4 eqZ share lists.index lists.from lists.keep lists.insert lists.sort lists.some lists.mem lists.ahead-in lists.heads lists.next-in lists.total plan.blank plan.parent plan.kind plan.W plan.D plan.rank plan.cells plan.filed plan.children plan.child plan.appointed plan.climb plan.path plan.within plan.subtree plan.row plan.ahead plan.next plan.earlier placement.best placement.right placement.base placement.bottom placement.width placement.rows contour.greatest contour.cover contour.clash contour.separation contour.step contour.offset contour.lefts contour.rights contour.contour ours.middle ours.around ours.trace ours.contours ours.shift ours.along ours.column ours.sheet refusal layout-given asked.take-steps asked.take-step asked.sequence asked.ask-all asked.ask asked.at-each asked.holds asked.puts asked.number asked.roomy asked.all-roomy asked.enough asked.in-file asked.lower asked.sized asked.asked asked.or-else kinds.about kinds.known kinds.allows plan.level asked.widest-in
 worked-calls = refl

@@ -18,7 +18,7 @@ use Rattle.rules.specs.Placement as placement
 use Rattle.layout.specs.Contour as contour
 use Rattle.layout.specs.Sheet as ours
 use Rattle.least.specs.Frame.{fits, least-allowance, fits-wider, Halved, halved-done}
-use Rattle.least.specs.Worked.{chosen, planned, E, F}
+use Rattle.least.specs.Worked.{ranked, chosen, planned, E, F}
 use Rattle.fitting.specs.declared.Fitted.{Fitted}
 use Rattle.fitting.specs.declared.Fitted.the-variants.{Allowance, None, Refused}
 use Rattle.fitting.specs.Fitted.{told, answer}
@@ -68,7 +68,7 @@ pub record Rows : Type 0 where
   pub f-29 : gives F 29 ≡ Allowance 1
 
 pub worked : Rows
-unfolding fits E F chosen planned refusal frame-given asked.take-steps asked.take-step asked.sequence asked.ask-all asked.ask asked.at-each asked.holds asked.puts asked.number asked.roomy asked.all-roomy asked.enough asked.in-file asked.lower asked.widest-in asked.sized asked.framed asked.asked asked.or-else kinds.about kinds.known kinds.allows lists.index lists.from lists.keep lists.some lists.mem lists.ahead-in lists.heads lists.next-in lists.total plan.blank plan.parent plan.kind plan.W plan.D plan.cells plan.children plan.child plan.appointed plan.climb plan.path plan.within plan.subtree plan.row plan.level plan.ahead plan.next plan.earlier placement.best placement.right placement.base placement.bottom placement.width contour.greatest contour.cover contour.clash contour.separation contour.step contour.offset contour.lefts contour.rights contour.contour ours.middle ours.around ours.trace ours.contours ours.shift ours.along ours.column ours.sheet gives answer
+unfolding fits E F ranked chosen planned refusal frame-given asked.take-steps asked.take-step asked.sequence asked.ask-all asked.ask asked.at-each asked.holds asked.puts asked.number asked.roomy asked.all-roomy asked.enough asked.in-file asked.lower asked.sized asked.framed asked.asked asked.or-else kinds.about kinds.known kinds.allows lists.index lists.from lists.keep lists.insert lists.sort lists.some lists.mem lists.ahead-in lists.heads lists.next-in lists.total plan.blank plan.parent plan.kind plan.W plan.D plan.rank plan.cells plan.filed plan.children plan.child plan.appointed plan.climb plan.path plan.within plan.subtree plan.row plan.level plan.ahead plan.next plan.earlier placement.best placement.right placement.base placement.bottom placement.width contour.greatest contour.cover contour.clash contour.separation contour.step contour.offset contour.lefts contour.rights contour.contour ours.middle ours.around ours.trace ours.contours ours.shift ours.along ours.column ours.sheet gives answer asked.widest-in
 worked =
     record {
       e-0 = refl;

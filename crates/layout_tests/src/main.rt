@@ -86,6 +86,7 @@ fn table(n: usize, parents: &[u16], widths: &[u16]) -> Columns {
         kind,
         width,
         depth,
+        rank: [0u8; 256],
     }
 }
 
@@ -129,12 +130,14 @@ fn all_of(t: Columns, w: u16) -> Columns {
     let kind = t.kind;
     let width = [w; 256];
     let depth = t.depth;
+    let rank = t.rank;
     Columns {
         count: t.count,
         parent,
         kind,
         width,
         depth,
+        rank,
     }
 }
 
@@ -161,6 +164,7 @@ fn plan_of(shape: u8, n: usize, d: u8, most: u16) -> Columns
         kind,
         width,
         depth,
+        rank: [0u8; 256],
     }
 }
 
@@ -173,12 +177,36 @@ fn deepened(t: Columns, c: usize, d: u8) -> Columns
     let parent = t.parent;
     let kind = t.kind;
     let width = t.width;
+    let rank = t.rank;
     Columns {
         count: t.count,
         parent,
         kind,
         width,
         depth,
+        rank,
+    }
+}
+
+// The same table, with these ranks of cells 1 to 5.
+fn ranked(t: Columns, a: u8, b: u8, c: u8, d: u8, e: u8) -> Columns {
+    let mut rank = [0u8; 256];
+    rank[1] = a;
+    rank[2] = b;
+    rank[3] = c;
+    rank[4] = d;
+    rank[5] = e;
+    let parent = t.parent;
+    let kind = t.kind;
+    let width = t.width;
+    let depth = t.depth;
+    Columns {
+        count: t.count,
+        parent,
+        kind,
+        width,
+        depth,
+        rank,
     }
 }
 
@@ -351,7 +379,20 @@ fn edges() {
     show(b"root has a parent", table(2, &[0, 0], &[4, 4]), 0);
 }
 
-// Each sibling's number is later than those below the one before it, or not: the order of the file alone counts.
+// Siblings by rank, then in file order: exchanged, in reverse, with ties, both pairs exchanged, of one rank.
+fn by_rank() {
+    let b = table(3, &[65535, 0, 0], &[4, 3, 5]);
+    show(b"B exchanged", ranked(b, 1, 0, 0, 0, 0), 0);
+    let d = table(5, &[65535, 0, 0, 0, 0], &[2, 2, 2, 2, 2]);
+    show(b"D in reverse", ranked(d, 4, 3, 2, 1, 0), 0);
+    let five = table(6, &[65535, 0, 0, 0, 0, 0], &[2, 1, 2, 3, 4, 5]);
+    show(b"ties", ranked(five, 200, 7, 255, 0, 7), 0);
+    let e = table(5, &[65535, 0, 0, 2, 2], &[2, 6, 2, 3, 2]);
+    show(b"E exchanged", ranked(e, 1, 0, 1, 0, 0), 0);
+    show(b"B of one rank", ranked(b, 9, 9, 0, 0, 0), 0);
+}
+
+// Each sibling's number is later than those below the one before it, or not: of siblings of one rank the order of the file alone counts.
 fn larger() {
     show(b"64 cells at 0", plan_of(2, 64, 3, 20), 0);
     show(b"64 cells at 5", plan_of(2, 64, 3, 20), 5);
@@ -371,4 +412,5 @@ fn main() {
     decided();
     edges();
     larger();
+    by_rank();
 }

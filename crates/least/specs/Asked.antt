@@ -92,8 +92,8 @@ module _ (call : Call) (t : Table) (al : ℕ) (bs : List Buffer) (p : Lent) (ps 
   says-counted = that-is (both (says-between 1 most-cells (length t)) (itself true)) (λ h. h .0) (λ h. (h, tt))
 
   says-sized : (c : ℕ) → Says (asked.holds call given box-sized c) (((1 ≤ W t c) × (W t c ≤ most-width)) × ((1 ≤ D t c) × (D t c ≤ most-depth)))
-  unfolding asked.holds asked.widest-in in-file sized
-  says-sized c = that-is (both (both (says-between 1 most-width (W t c)) (says-between 1 most-depth (D t c))) (itself true)) (λ h. h .0) (λ h. (h, tt))
+  unfolding asked.holds asked.widest-in sized
+  says-sized c = both (says-between 1 most-width (W t c)) (says-between 1 most-depth (D t c))
 
   granted : Lends call → YesSteps call given sequence → Granted
   unfolding sequence number asked.holds enough

@@ -4,98 +4,72 @@ use mathlib.Core.Logic.{_≢_}
 use mathlib.Core.List.{List, [], _∷_}
 use Prim.Native.Nat.{ℕ, zero, suc, pred, _+_, _-_, _*_, _≤_, _<_}
 use native.Mathlib.Omega.{arith}
+use native.Mathlib.Nat.{zero-add}
 use native.Mathlib.Decide.{ℕ-discrete}
 use lib.ListN.{length, getD, set, length-set}
 use lib.Seq.{getD-set-same, getD-set-other}
-use lib.Dec.{eqb}
+use lib.Dec.{T, eqb, eqb→eq}
 use borrow.Author.Tests.{eq-eqb, ne-eqb}
-use Rattle.plan.specs.Lists.{At, from, keep}
-use Rattle.plan.specs.Plan.{Table, Is, kind, parent, children, appointed}
-use Rattle.plan.specs.PlanLaws.{child-read}
+use Rattle.plan.specs.Limits.{most-cells}
+use Rattle.plan.specs.Lists.{At, from, keep, mem, sort, insert}
+use Rattle.plan.specs.ListLaws.{at-mem, mem-here, mem-there, keep-read, keep-short, from-read}
+use Rattle.plan.specs.SortLaws.{Ordered, before-once, sort-length, sort-read, sort-ordered, sort-same}
+use Rattle.plan.specs.Plan.{Table, Is, kind, parent, rank, filed, children, appointed}
 use Rattle.links.specs.Links.{link, Links}
-use Rattle.links.specs.Build.{up, chain-one, chained, count-one, counted, placed, links-of, chain-length, count-length, placed-length, chain-else, Building, Linking}
+use Rattle.links.specs.Chain.{Chain, Off, spell-length, chain-spell, chain-first, chain-next, chain-insert, Where, seek, seek-where, link-in, in-other}
+use Rattle.links.specs.Build.{up, head, kids, chain-one, chained, numbered, counted, placed, links-of, chain-length, numbered-length, count-length, placed-length, Building, Seeking, Numbering, Counting, Appointing, Linking}
 
--- the columns have the parents and the kinds of the table t
-pub record Reads (t : Table) (fs ks : List ℕ) (n : ℕ) : Type 0 where
+-- the columns have the parents, the kinds and the ranks of the table t
+pub record Reads (t : Table) (fs ks qs : List ℕ) (n : ℕ) : Type 0 where
   pub size : length t ≡ n
   pub parent-of : (c : ℕ) → Is t c → parent t c ≡ getD fs c 0
   pub kind-of : (c : ℕ) → Is t c → kind t c ≡ getD ks c 0
+  pub rank-of : (c : ℕ) → Is t c → rank t c ≡ getD qs c 0
 
 -- the links are those of the table that the columns are of
-abbrev pub Built : List ℕ → List ℕ → ℕ → List ℕ → Type 0
-Built fs ks n ls = (t : Table) → Reads t fs ks n → Links t ls
+abbrev pub Built : List ℕ → List ℕ → List ℕ → ℕ → List ℕ → Type 0
+Built fs ks qs n ls = (t : Table) → Reads t fs ks qs n → Links t ls
 
--- the children of f among d cells from i on
+-- the children of f among d cells from i on: in file order, and in order
 abbrev kin : List ℕ → ℕ → ℕ → ℕ → List ℕ
 kin fs f d i = keep (λ s. eqb (up fs s) f) (from i d)
 
-abbrev head : List ℕ → ℕ
-head l = getD l 0 0
+abbrev by : List ℕ → ℕ → ℕ
+by qs s = getD qs s 0
 
-module _ (fs : List ℕ) where
-  kin-none : (f i : ℕ) → kin fs f 0 i ≡ []
+abbrev line : List ℕ → List ℕ → ℕ → ℕ → ℕ → List ℕ
+line fs qs f d i = sort (by qs) (kin fs f d i)
+
+-- a link that stands for no next sibling
+abbrev Aside : ℕ → Type 0
+Aside q = (x : ℕ) → q ≢ 4 * x + 1
+
+module _ (fs qs : List ℕ) where
+  line-none : (f i : ℕ) → line fs qs f 0 i ≡ []
+  unfolding keep from sort
+  line-none f i = refl
+
+  line-hit : (f d i : ℕ) → up fs i ≡ f → line fs qs f (suc d) i ≡ insert (by qs) i (line fs qs f d (suc i))
+  unfolding keep from sort
+  line-hit f d i e = rw (eq-eqb (up fs i) f e)
+
+  line-miss : (f d i : ℕ) → up fs i ≢ f → line fs qs f (suc d) i ≡ line fs qs f d (suc i)
   unfolding keep from
-  kin-none f i = refl
+  line-miss f d i e = rw (ne-eqb (up fs i) f e)
 
-  kin-hit : (f d i : ℕ) → up fs i ≡ f → kin fs f (suc d) i ≡ i ∷ kin fs f d (suc i)
-  unfolding keep from
-  kin-hit f d i e = rw (eq-eqb (up fs i) f e)
+  line-short : (f d i : ℕ) → length (line fs qs f d i) ≤ d
+  line-short f d i = rw (sort-length (by qs) (kin fs f d i)) (keep-short (λ s. eqb (up fs s) f) i d)
 
-  kin-miss : (f d i : ℕ) → up fs i ≢ f → kin fs f (suc d) i ≡ kin fs f d (suc i)
-  unfolding keep from
-  kin-miss f d i e = rw (ne-eqb (up fs i) f e)
+  record Of (f d i s : ℕ) : Type 0 where
+    low : i ≤ s
+    high : s < i + d
+    parent-is : up fs s ≡ f
 
-  -- a fact of the rest is one of the whole, by whether the first is a child
-  kin-split : (P : List ℕ → Type 0) (f d i : ℕ) → (up fs i ≡ f → P (i ∷ kin fs f d (suc i))) → (up fs i ≢ f → P (kin fs f d (suc i))) → P (kin fs f (suc d) i)
-  kin-split P f d i hit miss = elim (ℕ-discrete (up fs i) f) [ yes e ↦ rw (kin-hit f d i e) (hit e) | no e ↦ rw (kin-miss f d i e) (miss e) ]
-
-  -- one cell more at the end
-  kin-last : (f d i : ℕ) → length (kin fs f (suc d) i) ≡ length (kin fs f d i) + length (kin fs f 1 (i + d))
-  kin-last f zero i = let z : i + 0 ≡ i = omega arith in rw (z, kin-none f i) (omega arith)
-  kin-last f (suc d) i =
-      let z : i + suc d ≡ suc i + d = omega arith in
-      go (ℕ-discrete (up fs i) f) (rw z (kin-last f d (suc i)))
-    where
-      go : Dec (up fs i ≡ f) → length (kin fs f (suc d) (suc i)) ≡ length (kin fs f d (suc i)) + length (kin fs f 1 (i + suc d)) → length (kin fs f (suc (suc d)) i) ≡ length (kin fs f (suc d) i) + length (kin fs f 1 (i + suc d))
-      go (yes q) ih = rw (kin-hit f (suc d) i q, kin-hit f d i q) (omega (arith, ih))
-      go (no q) ih = rw (kin-miss f (suc d) i q, kin-miss f d i q) ih
-
-  -- a child is not before the first cell
-  kin-low : (f d j i s : ℕ) → At (kin fs f d j) i s → j ≤ s
-  kin-low f zero j i s = λ a. absurd (rw (kin-none f j) at a)
-  kin-low f (suc d) j i s = kin-split (λ l. At l i s → j ≤ s) f d j (λ e. go i (λ i. kin-low f d (suc j) i s)) (λ e a. omega (arith, kin-low f d (suc j) i s a))
-    where
-      go : (i : ℕ) → ((i : ℕ) → At (kin fs f d (suc j)) i s → suc j ≤ s) → At (j ∷ kin fs f d (suc j)) i s → j ≤ s
-      go zero ih a = omega (arith, a)
-      go (suc i) ih a = omega (arith, ih i a)
-
-  -- after the child at place i come those after it
-  kin-after : (f d j i s : ℕ) → At (kin fs f d j) i s → getD (kin fs f d j) (suc i) 0 ≡ head (kin fs f (j + d - suc s) (suc s))
-  kin-after f zero j i s = λ a. absurd (rw (kin-none f j) at a)
-  kin-after f (suc d) j i s =
-      let z : j + suc d - suc s ≡ suc j + d - suc s = omega arith in
-      kin-split (λ l. At l i s → getD l (suc i) 0 ≡ head (kin fs f (j + suc d - suc s) (suc s))) f d j (λ e. go i (λ i. kin-after f d (suc j) i s)) (λ e a. rw z (kin-after f d (suc j) i s a))
-    where
-      go : (i : ℕ) → ((i : ℕ) → At (kin fs f d (suc j)) i s → getD (kin fs f d (suc j)) (suc i) 0 ≡ head (kin fs f (suc j + d - suc s) (suc s)))
-          → At (j ∷ kin fs f d (suc j)) i s → getD (j ∷ kin fs f d (suc j)) (suc i) 0 ≡ head (kin fs f (j + suc d - suc s) (suc s))
-      go zero ih a = let q : j + suc d - suc j ≡ d = omega arith in rw (a, q)
-      go (suc i) ih a = let z : j + suc d - suc s ≡ suc j + d - suc s = omega arith in rw z (ih i a)
-
-  -- before it stand i
-  kin-before : (f d j i s : ℕ) → At (kin fs f d j) i s → length (kin fs f (s - j) j) ≡ i
-  kin-before f zero j i s a = absurd (rw (kin-none f j) at a)
-  kin-before f (suc d) j i s a = go (ℕ-discrete (up fs j) f) i a (λ i. kin-before f d (suc j) i s)
-    where
-      go : Dec (up fs j ≡ f) → (i : ℕ) → At (kin fs f (suc d) j) i s → ((i : ℕ) → At (kin fs f d (suc j)) i s → length (kin fs f (s - suc j) (suc j)) ≡ i) → length (kin fs f (s - j) j) ≡ i
-      go (yes e) zero a ih = let q : s ≡ j = rw (kin-hit f d j e) at a in let z : s - j ≡ 0 = omega arith in rw (z, kin-none f j)
-      go (yes e) (suc i) a ih =
-          let q : At (kin fs f d (suc j)) i s = rw (kin-hit f d j e) at a in
-          let z : s - j ≡ suc (s - suc j) = omega (arith, kin-low f d (suc j) i s q) in
-          rw (z, kin-hit f (s - suc j) j e) (ap suc (ih i q))
-      go (no e) i a ih =
-          let q : At (kin fs f d (suc j)) i s = rw (kin-miss f d j e) at a in
-          let z : s - j ≡ suc (s - suc j) = omega (arith, kin-low f d (suc j) i s q) in
-          rw (z, kin-miss f (s - suc j) j e) (ih i q)
+  line-read : (f d i s : ℕ) → T (mem s (line fs qs f d i)) → Of f d i s
+  line-read f d i s m =
+      let k = keep-read (λ s. eqb (up fs s) f) (from i d) s (sort-read (by qs) (kin fs f d i) s m) in
+      let b = from-read i d s (k .there) in
+      record { low = b .0; high = b .1; parent-is = eqb→eq (up fs s) f (k .passes) }
 
   -- the children of a table with these parents
   kin-is : (t : Table) (f d i : ℕ) → ((c : ℕ) → i ≤ c → c < i + d → parent t c ≡ up fs c) → keep (λ s. eqb (parent t s) f) (from i d) ≡ kin fs f d i
@@ -103,109 +77,181 @@ module _ (fs : List ℕ) where
   kin-is t f zero i h = refl
   kin-is t f (suc d) i h = rw (h i (omega arith) (omega arith), kin-is t f d (suc i) (λ c p q. h c (omega arith) (omega arith)))
 
--- ---- from links of zeros
-module _ (fs : List ℕ) (n : ℕ) (ls : List ℕ) (h : Building fs n ls) (clear : (i : ℕ) → getD ls i 0 ≡ 0) where
-  -- the first child, of the d cells from i on
-  chain-first : (d i f : ℕ) → 0 < i → i + d ≤ n → link (chained fs ls d i) f 0 ≡ head (kin fs f d i)
-  unfolding chained
-  chain-first zero i f p l = clear _ ∙ rw (kin-none fs f i)
-  chain-first (suc d) i f p l = go (ℕ-discrete (up fs i) f) (chain-first d (suc i) f (omega arith) (omega arith))
-    where
-      L : List ℕ
-      L = chained fs ls d (suc i)
+  line-ordered : (f d i : ℕ) → Ordered (by qs) (line fs qs f d i)
+  line-ordered f d i = sort-ordered (by qs) (λ s. eqb (up fs s) f) i d
 
-      go : Dec (up fs i ≡ f) → link L f 0 ≡ head (kin fs f d (suc i)) → link (chain-one fs L i) f 0 ≡ head (kin fs f (suc d) i)
-      go (yes e) ih =
-          let lt : 4 * up fs i < length (set L (4 * i + 1) (getD L (4 * up fs i) 0)) = simp (length-set, chain-length) (omega (arith, h .before i p (omega arith), h .room, h .few)) in
-          let q : 4 * f + 0 ≡ 4 * up fs i = omega arith in
-          rw (q, kin-hit fs f d i e) (getD-set-same (set L (4 * i + 1) (getD L (4 * up fs i) 0)) (4 * up fs i) i 0 lt)
-      go (no ne) ih =
-          let e1 : 4 * f + 0 ≢ 4 * up fs i = omega arith in
-          let e2 : 4 * f + 0 ≢ 4 * i + 1 = omega arith in
-          rw (kin-miss fs f d i ne, getD-set-other, getD-set-other) ih
+-- ---- chaining, from links of zeros
+module _ (fs qs : List ℕ) (n : ℕ) (ls : List ℕ) (h : Building fs qs n ls) where
+  -- once the d cells from i on are linked in
+  abbrev pub Chains : ℕ → ℕ → Type 0
+  Chains d i = (f : ℕ) → f < n → Chain (chained fs qs ls d i) (head (chained fs qs ls d i) f) (line fs qs f d i)
 
-  -- the next sibling
-  chain-next : (d i c : ℕ) → 0 < i → i + d ≤ n → i ≤ c → c < i + d → link (chained fs ls d i) c 1 ≡ head (kin fs (up fs c) (i + d - suc c) (suc c))
-  unfolding chained
-  chain-next zero i c p l a b = absurd (omega arith)
-  chain-next (suc d) i c p l a b = go (ℕ-discrete i c) (chain-next d (suc i) c)
-    where
-      L : List ℕ
-      L = chained fs ls d (suc i)
+  -- the cell i is linked in
+  module _ (d i : ℕ) (p : 0 < i) (l : i + suc d ≤ n) (ih : Chains d (suc i)) where
+    abbrev L : List ℕ
+    L = chained fs qs ls d (suc i)
 
-      here : link (chain-one fs L i) i 1 ≡ head (kin fs (up fs i) d (suc i))
-      here =
-          let ne : 4 * i + 1 ≢ 4 * up fs i = omega arith in
-          let lt : 4 * i + 1 < length L = simp chain-length (omega (arith, h .room, h .few)) in
-          let z : 4 * up fs i + 0 ≡ 4 * up fs i = omega arith in
-          rw (getD-set-other, getD-set-same) (rw z at (chain-first d (suc i) (up fs i) (omega arith) (omega arith)))
+    abbrev f : ℕ
+    f = up fs i
 
-      go : Dec (i ≡ c) → (0 < suc i → suc i + d ≤ n → suc i ≤ c → c < suc i + d → link L c 1 ≡ head (kin fs (up fs c) (suc i + d - suc c) (suc c))) → link (chain-one fs L i) c 1 ≡ head (kin fs (up fs c) (i + suc d - suc c) (suc c))
-      go (yes e) ih =
-          let z : i + suc d - suc c ≡ d = omega arith in
-          rw (z, ← e) here
-      go (no ne) ih =
-          let e1 : 4 * c + 1 ≢ 4 * up fs i = omega arith in
-          let e2 : 4 * c + 1 ≢ 4 * i + 1 = omega arith in
-          let z : i + suc d - suc c ≡ suc i + d - suc c = omega arith in
-          rw (z, getD-set-other, getD-set-other) (ih (omega arith) (omega arith) (omega arith) (omega arith))
+    room : 4 * most-cells ≤ length L
+    room = rw (chain-length fs qs ls d (suc i)) (h .room)
 
-  -- counting, from links whose counts are 0
-  module _ (ms : List ℕ) (len : length ms ≡ length ls) (none : (f : ℕ) → link ms f 3 ≡ 0) where
-    count-is : (d f : ℕ) → suc d ≤ n → link (counted fs ms d) f 3 ≡ length (kin fs f d 1)
-    unfolding counted
-    count-is zero f l = none f ∙ rw (kin-none fs f 1)
-    count-is (suc d) f l = go (ℕ-discrete (up fs (suc d)) f) (count-is d f (omega arith))
+    f-is : f < i
+    f-is = h .before i p (omega arith)
+
+    abbrev K : List ℕ
+    K = line fs qs f d (suc i)
+
+    kids-are : kids L f ≡ K
+    kids-are = chain-spell L most-cells (head L f) K (ih f (omega (arith, f-is))) (omega (arith, line-short fs qs f d (suc i), h .few))
+
+    abbrev r : ℕ
+    r = seek qs (getD qs i 0) (4 * f) K
+
+    -- the siblings to come later are other cells than i
+    off-i : (g : ℕ) → Off (4 * i + 1) (line fs qs g d (suc i))
+    off-i g x m = let o = line-read fs qs g d (suc i) x m .low in omega arith
+
+    own : Chain (link-in L i r) (head (link-in L i r) f) (insert (by qs) i K)
+    own =
+        chain-insert L qs i p (omega (arith, h .few)) room (4 * f) K (omega (arith, room, f-is, h .few)) (omega arith) (λ x m. omega arith) (off-i f) (line-ordered fs qs f d (suc i))
+        (ih f (omega (arith, f-is)))
+
+    -- the children of another cell: the link is not one of theirs
+    module _ (g : ℕ) (gl : g < n) (ne : f ≢ g) where
+      apart : (x : ℕ) → T (mem x (line fs qs g d (suc i))) → Where qs (getD qs i 0) (4 * f) K r → r ≢ 4 * x + 1
+      apart x m (Where.head e) z = absurd (omega arith)
+      apart x m (Where.after y k e) z =
+          let same : y ≡ x = omega arith in
+          ne (sym (line-read fs qs f d (suc i) y k .parent-is) ∙ ap (up fs) same ∙ line-read fs qs g d (suc i) x m .parent-is)
+
+      not-head : Where qs (getD qs i 0) (4 * f) K r → 4 * g ≢ r
+      not-head (Where.head e) z = ne (omega arith)
+      not-head (Where.after y k e) z = absurd (omega arith)
+
+      head-same : head (link-in L i r) g ≡ head L g
+      head-same =
+          let e1 : 4 * g ≢ 4 * i + 1 = omega arith in
+          getD-set-other (set L (4 * i + 1) (getD L r 0)) r (4 * g) i 0 (not-head (seek-where qs (getD qs i 0) (4 * f) K)) ∙ getD-set-other L (4 * i + 1) (4 * g) (getD L r 0) 0 e1
+
+      other : Chain (link-in L i r) (head (link-in L i r) g) (line fs qs g d (suc i))
+      other = rw head-same (in-other L i r (head L g) (line fs qs g d (suc i)) (λ x m. apart x m (seek-where qs (getD qs i 0) (4 * f) K)) (off-i g) (ih g gl))
+
+    more : (g : ℕ) → g < n → Chain (chain-one fs qs L i) (head (chain-one fs qs L i) g) (line fs qs g (suc d) i)
+    more g gl = rw kids-are (go (ℕ-discrete f g))
       where
-        L : List ℕ
-        L = counted fs ms d
+        go : Dec (f ≡ g) → Chain (link-in L i r) (head (link-in L i r) g) (line fs qs g (suc d) i)
+        go (yes e) = rw (line-hit fs qs g d i e, ← e) own
+        go (no e) = rw (line-miss fs qs g d i e) (other g gl e)
 
-        s : suc d ≡ 1 + d
-        s = omega arith
+  pub chains : (d i : ℕ) → 0 < i → i + d ≤ n → Chains d i
+  unfolding chained
+  chains zero i p l f fl = rw (line-none fs qs f i) (h .clear (4 * f))
+  chains (suc d) i p l f fl = more d i p l (chains d (suc i) (omega arith) (omega arith)) f fl
 
-        go : Dec (up fs (suc d) ≡ f) → link L f 3 ≡ length (kin fs f d 1) → link (count-one fs L (suc d)) f 3 ≡ length (kin fs f (suc d) 1)
-        go (yes e) ih =
-            let lt : 4 * up fs (suc d) + 3 < length (set L (4 * suc d + 2) (getD L (4 * up fs (suc d) + 3) 0)) = simp (length-set, count-length) (omega (arith, len, h .before (suc d) (omega arith) (omega arith), h .room, h .few)) in
-            let q : 4 * f + 3 ≡ 4 * up fs (suc d) + 3 = omega arith in
-            let ih′ = rw q at ih in
-            rw (q, getD-set-same, kin-last fs f d 1, ← s, kin-hit fs f 0 (suc d) e, kin-none fs f (suc (suc d))) (omega (arith, ih′))
-        go (no ne) ih =
-            let e1 : 4 * f + 3 ≢ 4 * up fs (suc d) + 3 = omega arith in
-            let e2 : 4 * f + 3 ≢ 4 * suc d + 2 = omega arith in
-            rw (getD-set-other, getD-set-other, kin-last fs f d 1, ← s, kin-miss fs f 0 (suc d) ne, kin-none fs f (suc (suc d))) (omega (arith, ih))
+  -- what the walk to the link of the next cell needs
+  pub seeking : (c : ℕ) {ms : List ℕ} {p : ℕ} → 1 < c → c ≤ n → ms ≡ chained fs qs ls (n - c) c → p ≡ up fs (c - 1) → Seeking qs ms (4 * p)
+  seeking c {ms = ms} {p = p} l le e ep =
+      let fi : p < n = omega (arith, h .before (c - 1) (omega arith) (omega arith)) in
+      let ch = chains (n - c) c (omega arith) (omega arith) p fi in
+      let k = chain-spell (chained fs qs ls (n - c) c) most-cells _ (line fs qs p (n - c) c) ch (omega (arith, line-short fs qs p (n - c) c, h .few)) in
+      rw e
+      (record {
+        ranks = h .ranks;
+        room = rw (chain-length fs qs ls (n - c) c) (h .room);
+        inside = rw (chain-length fs qs ls (n - c) c) (omega (arith, h .room, h .few));
+        chain = rw k ch;
+      })
 
-    place-is : (d c : ℕ) → suc d ≤ n → 0 < c → c ≤ d → link (counted fs ms d) c 2 ≡ length (kin fs (up fs c) (c - 1) 1)
-    unfolding counted
-    place-is zero c l a b = absurd (omega arith)
-    place-is (suc d) c l a b = go (ℕ-discrete c (suc d)) (place-is d c)
-      where
-        L : List ℕ
-        L = counted fs ms d
+-- ---- numbering: of links whose chains are these lists
+-- a chain stays where only places and numbers are written
+numbered-aside : (ls : List ℕ) (k : ℕ) (l : List ℕ) (q : ℕ) → ((x : ℕ) → q ≢ 4 * x + 2) → getD (numbered ls k l) q 0 ≡ getD ls q 0
+unfolding numbered
+numbered-aside ls k [] q h = refl
+numbered-aside ls k (s ∷ l) q h = numbered-aside (set ls (4 * s + 2) k) (k + 1) l q h ∙ getD-set-other ls (4 * s + 2) q k 0 (h s)
 
-        here : link (count-one fs L (suc d)) (suc d) 2 ≡ length (kin fs (up fs (suc d)) d 1)
-        here =
-            let ne : 4 * suc d + 2 ≢ 4 * up fs (suc d) + 3 = omega arith in
-            let lt : 4 * suc d + 2 < length L = simp count-length (omega (arith, len, h .room, h .few)) in
-            rw (getD-set-other, getD-set-same) (count-is d (up fs (suc d)) (omega arith))
+numbered-off : (ls : List ℕ) (k : ℕ) (l : List ℕ) (x : ℕ) → (T (mem x l) → ⊥) → link (numbered ls k l) x 2 ≡ link ls x 2
+unfolding numbered
+numbered-off ls k [] x h = refl
+numbered-off ls k (s ∷ l) x h =
+    let e : 4 * x + 2 ≢ 4 * s + 2 = λ z. h (mem-here x s l (omega arith)) in
+    numbered-off (set ls (4 * s + 2) k) (k + 1) l x (λ m. h (mem-there x s l m)) ∙ getD-set-other ls (4 * s + 2) (4 * x + 2) k 0 e
 
-        go : Dec (c ≡ suc d) → (suc d ≤ n → 0 < c → c ≤ d → link L c 2 ≡ length (kin fs (up fs c) (c - 1) 1)) → link (count-one fs L (suc d)) c 2 ≡ length (kin fs (up fs c) (c - 1) 1)
-        go (yes e) ih =
-            let z : suc d - 1 ≡ d = omega arith in
-            rw (e, z) here
-        go (no ne) ih =
-            let e1 : 4 * c + 2 ≢ 4 * up fs (suc d) + 3 = omega arith in
-            let e2 : 4 * c + 2 ≢ 4 * suc d + 2 = omega arith in
-            rw (getD-set-other, getD-set-other) (ih (omega arith) a (omega arith))
+numbered-at : (f : ℕ → ℕ) (ls : List ℕ) (k : ℕ) (l : List ℕ) → Ordered f l → ((x : ℕ) → T (mem x l) → 4 * x + 2 < length ls) → (i x : ℕ) → At l i x → link (numbered ls k l) x 2 ≡ k + i
+unfolding numbered
+numbered-at f ls k [] o r i x h = absurd h
+numbered-at f ls k (s ∷ l) o r zero x h =
+    rw h
+    (numbered-off (set ls (4 * s + 2) k) (k + 1) l s (λ m. before-once f s s (o .0 s m) refl) ∙ getD-set-same ls (4 * s + 2) k 0 (r s (mem-here s s l refl)) ∙ (let z : k ≡ k + 0 = omega arith in z))
+numbered-at f ls k (s ∷ l) o r (suc i) x h =
+    let z : k + 1 + i ≡ k + suc i = omega arith in
+    numbered-at f (set ls (4 * s + 2) k) (k + 1) l (o .1) (λ y m. simp length-set (r y (mem-there y s l m))) i x h ∙ z
 
-    count-keeps : (d q : ℕ) → ((c : ℕ) → q ≢ 4 * c + 2) → ((c : ℕ) → q ≢ 4 * c + 3) → getD (counted fs ms d) q 0 ≡ getD ms q 0
-    unfolding counted
-    count-keeps zero q a b = refl
-    count-keeps (suc d) q a b =
-        let e1 = b (up fs (suc d)) in
-        let e2 = a (suc d) in
-        rw (getD-set-other, getD-set-other) (count-keeps d q a b)
+module _ (n : ℕ) (ls : List ℕ) (line : ℕ → List ℕ) (chain : (f : ℕ) → f < n → Chain ls (head ls f) (line f)) (short : (f : ℕ) → f < n → length (line f) ≤ most-cells) where
+  -- the links that are no places and no numbers stay
+  pub count-aside : (d q : ℕ) → ((x : ℕ) → q ≢ 4 * x + 2) → ((x : ℕ) → q ≢ 4 * x + 3) → getD (counted ls d) q 0 ≡ getD ls q 0
+  unfolding counted
+  count-aside zero q a b = refl
+  count-aside (suc d) q a b =
+      getD-set-other (numbered (counted ls d) 0 (kids (counted ls d) d)) (4 * d + 3) q (length (kids (counted ls d) d)) 0 (b d)
+      ∙ numbered-aside (counted ls d) 0 (kids (counted ls d) d) q a ∙ count-aside d q a b
 
--- appointing leaves the other links alone
+  count-head : (d f : ℕ) → head (counted ls d) f ≡ head ls f
+  count-head d f = count-aside d (4 * f) (λ x. omega arith) (λ x. omega arith)
+
+  chain-same : (d s : ℕ) (l : List ℕ) → Chain ls s l → Chain (counted ls d) s l
+  chain-same d s [] c = c
+  chain-same d s (x ∷ l) c =
+      record { is = c .is; some = c .some; few = c .few; rest = rw (count-aside d (4 * x + 1) (λ y. omega arith) (λ y. omega arith)) (chain-same d (link ls x 1) l (c .rest)) }
+
+  pub count-chain : (d f : ℕ) → f < n → Chain (counted ls d) (head (counted ls d) f) (line f)
+  count-chain d f l = rw (count-head d f) (chain-same d (head ls f) (line f) (chain f l))
+
+  pub count-kids : (d f : ℕ) → f < n → kids (counted ls d) f ≡ line f
+  count-kids d f l = chain-spell (counted ls d) most-cells _ (line f) (count-chain d f l) (short f l)
+
+-- what the walk along the children of a cell needs
+pub numbering : (n : ℕ) (ls : List ℕ) → Counting n ls → (c : ℕ) → c < n → {ms : List ℕ} → ms ≡ counted ls c → Numbering ms c
+numbering n ls h c l e =
+    let short : (f : ℕ) → f < n → length (kids ls f) ≤ most-cells = λ f l. spell-length ls most-cells (head ls f) in
+    let same = count-kids n ls (kids ls) (h .chains) short c c l in
+    rw e (record { is = omega (arith, h .few); room = rw (count-length ls c) (h .room); chain = rw same (count-chain n ls (kids ls) (h .chains) short c c l) })
+
+module _ (f₀ : ℕ → ℕ) (n : ℕ) (few : n ≤ most-cells) (ls : List ℕ) (room : 4 * most-cells ≤ length ls) (line : ℕ → List ℕ)
+    (chain : (f : ℕ) → f < n → Chain ls (head ls f) (line f))
+    (short : (f : ℕ) → f < n → length (line f) ≤ most-cells)
+    (ordered : (f : ℕ) → Ordered f₀ (line f))
+    (inside : (f x : ℕ) → T (mem x (line f)) → x < n)
+    (apart : (f g x : ℕ) → T (mem x (line f)) → T (mem x (line g)) → f ≡ g) where
+  -- the number of children
+  pub count-is : (d f : ℕ) → d ≤ n → f < d → link (counted ls d) f 3 ≡ length (line f)
+  unfolding counted
+  count-is zero f l i = absurd (omega arith)
+  count-is (suc d) f l i = rw (count-kids n ls line chain short d d (omega arith)) (go (ℕ-discrete f d) (count-is d f))
+    where
+      go : Dec (f ≡ d) → (d ≤ n → f < d → link (counted ls d) f 3 ≡ length (line f)) → link (set (numbered (counted ls d) 0 (line d)) (4 * d + 3) (length (line d))) f 3 ≡ length (line f)
+      go (yes e) ih =
+          rw e (getD-set-same (numbered (counted ls d) 0 (line d)) (4 * d + 3) (length (line d)) 0 (simp (numbered-length, count-length) (omega (arith, room, few))))
+      go (no e) ih =
+          getD-set-other (numbered (counted ls d) 0 (line d)) (4 * d + 3) (4 * f + 3) (length (line d)) 0 (omega arith)
+          ∙ numbered-aside (counted ls d) 0 (line d) (4 * f + 3) (λ x. omega arith) ∙ ih (omega arith) (omega arith)
+
+  -- the place
+  pub place-is : (d f : ℕ) → d ≤ n → f < d → (i x : ℕ) → At (line f) i x → link (counted ls d) x 2 ≡ i
+  unfolding counted
+  place-is zero f l k i x h = absurd (omega arith)
+  place-is (suc d) f l k i x h =
+      rw (count-kids n ls line chain short d d (omega arith))
+      (getD-set-other (numbered (counted ls d) 0 (line d)) (4 * d + 3) (4 * x + 2) (length (line d)) 0 (omega arith) ∙ go (ℕ-discrete f d) (place-is d f))
+    where
+      go : Dec (f ≡ d) → (d ≤ n → f < d → (i x : ℕ) → At (line f) i x → link (counted ls d) x 2 ≡ i) → link (numbered (counted ls d) 0 (line d)) x 2 ≡ i
+      go (yes e) ih =
+          numbered-at f₀ (counted ls d) 0 (line d) (ordered d) (λ y m. rw (count-length ls d) (omega (arith, inside d y m, room, few))) i x (rw e at h) ∙ zero-add i
+      go (no e) ih =
+          numbered-off (counted ls d) 0 (line d) x (λ m. e (apart f d x (at-mem (line f) i x h) m)) ∙ ih (omega arith) (omega arith) i x h
+
+-- ---- appointing leaves the other links alone
 placed-keeps : (ks ms : List ℕ) (d q : ℕ) → ((c : ℕ) → q ≢ 4 * c + 3) → getD (placed ks ms d) q 0 ≡ getD ms q 0
 unfolding placed
 placed-keeps ks ms zero q a = refl
@@ -228,53 +274,98 @@ less-one : (x : ℕ) → x - 1 ≡ pred x
 less-one x = omega arith
 
 -- ---- the four links of each cell
-module _ (fs ks : List ℕ) (n : ℕ) (ls : List ℕ) (h : Linking fs ks n ls) (t : Table) (r : Reads t fs ks n) where
+module _ (fs ks qs : List ℕ) (n : ℕ) (ls : List ℕ) (h : Linking fs ks qs n ls) where
   abbrev M : List ℕ
-  M = chained fs ls (n - 1) 1
+  M = chained fs qs ls (n - 1) 1
 
   abbrev N : List ℕ
-  N = counted fs M (n - 1)
+  N = counted M n
 
-  g : Building fs n ls
+  g : Building fs qs n ls
   g = h .building
 
-  m-none : (f : ℕ) → link M f 3 ≡ 0
-  m-none f = chain-else fs ls (n - 1) 1 (4 * f + 3) (λ c. omega arith) (λ c. omega arith) ∙ h .clear _
+  abbrev all : ℕ → List ℕ
+  all f = line fs qs f (n - 1) 1
 
-  m-length : length M ≡ length ls
-  m-length = chain-length fs ls (n - 1) 1
+  m-room : 4 * most-cells ≤ length M
+  m-room = rw (chain-length fs qs ls (n - 1) 1) (g .room)
 
-  children-are : (f : ℕ) → children t f ≡ kin fs f (n - 1) 1
-  unfolding children
-  children-are f =
-      let z : pred (length t) ≡ n - 1 = omega (arith, r .size) in
-      rw z (kin-is fs t f (n - 1) 1 (λ c p q. r .parent-of c (omega (arith, r .size, g .some))))
+  m-chain : (f : ℕ) → f < n → Chain M (head M f) (all f)
+  m-chain = chains fs qs n ls g (n - 1) 1 (omega arith) (omega (arith, g .some))
 
-  up-is : (f i s : ℕ) → At (children t f) i s → (up fs s ≡ f) × (0 < s) × (s < n)
-  up-is f i s a = let c = child-read t f i s a in (sym (r .parent-of s (c .is)) ∙ c .of, omega (arith, c .low), omega (arith, c .is, r .size))
+  m-short : (f : ℕ) → f < n → length (all f) ≤ most-cells
+  m-short f l = omega (arith, line-short fs qs f (n - 1) 1, g .few)
 
-  built : Links t (links-of fs ks n ls)
-  unfolding links-of
-  built =
-      record {
-        size = rw (placed-length ks N n, count-length fs M (n - 1), m-length) (g .room);
-        first = λ c i. rw (children-are c)
-            (placed-keeps ks N n (4 * c + 0) (λ x. omega arith) ∙ count-keeps fs n ls g (h .clear) M m-length m-none (n - 1) (4 * c + 0) (λ x. omega arith) (λ x. omega arith)
-            ∙ chain-first fs n ls g (h .clear) (n - 1) 1 c (omega arith) (omega (arith, g .some)));
-        next = λ f i s a.
-            let (e, p, l) = up-is f i s a in
-            let k : At (kin fs f (n - 1) 1) i s = rw (children-are f) at a in
-            rw (children-are f)
-            (placed-keeps ks N n (4 * s + 1) (λ x. omega arith) ∙ count-keeps fs n ls g (h .clear) M m-length m-none (n - 1) (4 * s + 1) (λ x. omega arith) (λ x. omega arith)
-            ∙ chain-next fs n ls g (h .clear) (n - 1) 1 s (omega arith) (omega (arith, g .some)) p (omega arith) ∙ rw e (sym (kin-after fs f (n - 1) 1 i s k)));
-        place-of = λ f i s a.
-            let (e, p, l) = up-is f i s a in
-            let k : At (kin fs f (n - 1) 1) i s = rw (children-are f) at a in
-            placed-keeps ks N n (4 * s + 2) (λ x. omega arith) ∙ place-is fs n ls g (h .clear) M m-length m-none (n - 1) s (omega (arith, g .some)) p (omega arith) ∙ rw e (kin-before fs f (n - 1) 1 i s k);
-        appointed-of = λ c i.
-            placed-is ks N n c (simp (count-length, chain-length) (omega (arith, g .room, g .few))) (omega (arith, i, r .size))
-            ∙ rw (count-is fs n ls g (h .clear) M m-length m-none (n - 1) c (omega (arith, g .some)), ← children-are c, ← r .kind-of c i) (less-one _);
-      }
+  m-ordered : (f : ℕ) → Ordered (by qs) (all f)
+  m-ordered f = line-ordered fs qs f (n - 1) 1
 
-pub links-are : (fs ks : List ℕ) (n : ℕ) (ls : List ℕ) → Linking fs ks n ls → {ls′ : List ℕ} → ls′ ≡ links-of fs ks n ls → Built fs ks n ls′
-links-are fs ks n ls h e t r = rw e (built fs ks n ls h t r)
+  m-inside : (f x : ℕ) → T (mem x (all f)) → x < n
+  m-inside f x m = omega (arith, line-read fs qs f (n - 1) 1 x m .high, g .some)
+
+  m-apart : (f e x : ℕ) → T (mem x (all f)) → T (mem x (all e)) → f ≡ e
+  m-apart f e x p q = sym (line-read fs qs f (n - 1) 1 x p .parent-is) ∙ line-read fs qs e (n - 1) 1 x q .parent-is
+
+  n-chain : (d f : ℕ) → f < n → Chain (counted M d) (head (counted M d) f) (all f)
+  n-chain d f l = count-chain n M all m-chain m-short d f l
+
+  n-count : (f : ℕ) → f < n → link N f 3 ≡ length (all f)
+  n-count f l = count-is (by qs) n (g .few) M m-room all m-chain m-short m-ordered m-inside m-apart n f (omega arith) l
+
+  n-place : (f : ℕ) → f < n → (i x : ℕ) → At (all f) i x → link N x 2 ≡ i
+  n-place f l = place-is (by qs) n (g .few) M m-room all m-chain m-short m-ordered m-inside m-apart n f (omega arith) l
+
+  -- what the calls in turn need
+  pub counting : {l₁ : List ℕ} → l₁ ≡ M → Counting n l₁
+  counting e = rw e (record { few = g .few; room = m-room; chains = λ f l. rw (m-kids f l) (m-chain f l) })
+    where
+      m-kids : (f : ℕ) → f < n → kids M f ≡ all f
+      m-kids f l = chain-spell M most-cells (head M f) (all f) (m-chain f l) (m-short f l)
+
+  pub appointing : {l₁ l₂ : List ℕ} → l₁ ≡ M → l₂ ≡ counted l₁ n → Appointing ks n l₂
+  appointing e₁ e₂ = rw (e₂, e₁) (record {
+    few = g .few;
+    kinds = h .kinds;
+    room = rw (count-length M n) m-room;
+    low = λ c l. rw (n-count c l) (m-short c l);
+  })
+
+  module _ (t : Table) (r : Reads t fs ks qs n) where
+    filed-are : (f : ℕ) → filed t f ≡ kin fs f (n - 1) 1
+    unfolding filed
+    filed-are f =
+        let z : pred (length t) ≡ n - 1 = omega (arith, r .size) in
+        rw z (kin-is fs qs t f (n - 1) 1 (λ c p q. r .parent-of c (omega (arith, r .size, g .some))))
+
+    children-are : (f : ℕ) → children t f ≡ all f
+    unfolding children
+    children-are f =
+        rw (filed-are f) (sort-same (rank t) (by qs) (kin fs f (n - 1) 1) (λ x m.
+        r .rank-of x (omega (arith, r .size, g .some, from-read 1 (n - 1) x (keep-read (λ s. eqb (up fs s) f) (from 1 (n - 1)) x m .there)))))
+
+    built : Links t (links-of fs ks qs n ls)
+    unfolding links-of
+    built =
+        record {
+          size = rw (placed-length ks N n, count-length M n) m-room;
+          first = λ c i.
+              let l : c < n = omega (arith, r .size) in
+              let z : 4 * c + 0 ≡ 4 * c = omega arith in
+              rw (children-are c, z) (placed-keeps ks N n (4 * c) (λ x. omega arith) ∙ chain-first N (head N c) (all c) (n-chain n c l));
+          next = λ f i s a.
+              let k : At (all f) i s = rw (children-are f) at a in
+              rw (children-are f) (placed-keeps ks N n (4 * s + 1) (λ x. omega arith) ∙ chain-next N (head N f) (all f) (n-chain n f (above f i s k)) i s k);
+          place-of = λ f i s a.
+              let k : At (all f) i s = rw (children-are f) at a in
+              placed-keeps ks N n (4 * s + 2) (λ x. omega arith) ∙ n-place f (above f i s k) i s k;
+          appointed-of = λ c i.
+              let l : c < n = omega (arith, r .size) in
+              placed-is ks N n c (rw (count-length M n) (omega (arith, m-room, g .few))) l ∙ rw (n-count c l, ← children-are c, ← r .kind-of c i) (less-one _);
+        }
+      where
+        above : (f i s : ℕ) → At (all f) i s → f < n
+        above f i s k =
+            let o = line-read fs qs f (n - 1) 1 s (at-mem (all f) i s k) in
+            omega (arith, o .low, o .high, o .parent-is, g .before s (o .low) (omega (arith, o .high, g .some)), g .some)
+
+pub links-are : (fs ks qs : List ℕ) (n : ℕ) (ls : List ℕ) → Linking fs ks qs n ls → {ls′ : List ℕ} → ls′ ≡ links-of fs ks qs n ls → Built fs ks qs n ls′
+links-are fs ks qs n ls h e t r = rw e (built fs ks qs n ls h t r)

@@ -1,3 +1,5 @@
 pub mod Links
+pub mod Chain
 pub mod Build
 pub mod Built
+pub mod Linked

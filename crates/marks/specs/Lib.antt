@@ -1,2 +1,1 @@
-pub mod ColumnsLaws
 pub mod Marks

@@ -1,26 +1,25 @@
 -- What the engine's core is given, and the marks that it makes: offsets, middles and extents of the definition. Assumes nothing.
-use mathlib.Core.Path.{_≡_, refl, sym}
+use mathlib.Core.Path.{_≡_, sym}
 use mathlib.Core.List.{List}
-use Prim.Native.Nat.{ℕ, zero, suc, _+_, _*_, _≤_}
+use Prim.Native.Nat.{ℕ, _*_, _≤_}
 use native.Mathlib.Omega.{arith}
-use lib.ListN.{length, getD, replicate, length-replicate}
+use lib.ListN.{length, getD}
 use Rattle.plan.specs.Limits.{most-cells, scratch-size, farthest}
 use Rattle.plan.specs.Lists.{At}
 use Rattle.plan.specs.Plan.{Table, Is, children, row}
 use Rattle.plan.specs.Paths.{child-less}
 use Rattle.plan.specs.Fit.{Fit}
 use Rattle.plan.specs.Columns.{table-of}
+use Rattle.plan.specs.TableLaws.{length-is, width-is, depth-is}
 use Rattle.plan.specs.declared.Columns.{Columns}
 use Rattle.layout.specs.Contour.{greatest, offset}
 use Rattle.layout.specs.Sheet.{middle, contours, whole-contour}
 use Rattle.joining.specs.Joining.{Memory, mem, mark}
-use Rattle.links.specs.Build.{Linking}
-use Rattle.links.specs.Built.{Reads, Built}
+use Rattle.links.specs.Links.{Links}
 use Rattle.walk.specs.Machine.{Chart, chart}
 use Rattle.walk.specs.Claim.{Suits}
 use Rattle.walk.specs.Walked.{Walking, Walked}
 use Rattle.walk.specs.Opened.{Visited}
-use Rattle.marks.specs.ColumnsLaws.{table-length, parent-is, kind-is, width-is, depth-is}
 
 -- a table that keeps the questions, its rows, a scratch of zeros, and marks of zeros
 pub record Markable (t : Columns) (tops rows marks : List ℕ) : Type 0 where
@@ -45,49 +44,23 @@ pub record Toured (t : Table) (m m′ : Memory) : Type 0 where
   pub suits : Suits t columns
   pub visited : Visited columns m m′
 
-pub zeros-get : (k i : ℕ) → getD (replicate {A = ℕ} k 0) i 0 ≡ 0
-zeros-get zero i = refl
-zeros-get (suc k) zero = refl
-zeros-get (suc k) (suc i) = zeros-get k i
-
 -- the columns of a table are arrays of 256
 pub record Long (t : Columns) : Type 0 where
-  pub parents : most-cells ≤ length (t .parent)
-  pub kinds : most-cells ≤ length (t .kind)
   pub widths : most-cells ≤ length (t .width)
   pub depths : most-cells ≤ length (t .depth)
 
 module _ (t : Columns) (tops : List ℕ) (al : ℕ) (xs ms : List ℕ) (h : Markable t tops xs ms) (long : Long t) where
-  pub linking : Linking (t .parent) (t .kind) (t .count) (replicate (4 * most-cells) 0)
-  linking =
-      let n = table-length t in
-      record {
-        building = record {
-          some = omega (arith, h .fit .some-cell);
-          few = omega (arith, h .fit .not-too-many);
-          parents = omega (arith, h .fit .not-too-many, long .parents);
-          room = rw (length-replicate {A = ℕ} (4 * most-cells) 0) (omega arith);
-          before = λ c p l. let i : Is (table-of t) c = omega arith in omega (arith, parent-is t c i, h .fit .sound c p i);
-          none = λ f. zeros-get (4 * most-cells) (4 * f + 3);
-        };
-        kinds = omega (arith, h .fit .not-too-many, long .kinds);
-        clear = zeros-get (4 * most-cells);
-      }
-
-  reads : Reads (table-of t) (t .parent) (t .kind) (t .count)
-  reads = record { size = table-length t; parent-of = parent-is t; kind-of = kind-is t }
-
-  module _ (ls : List ℕ) (built : Built (t .parent) (t .kind) (t .count) ls) (all : most-cells ≤ length tops) where
+  module _ (ls : List ℕ) (links : Links (table-of t) ls) (all : most-cells ≤ length tops) where
     suits : Suits (table-of t) (chart ls (t .width) (t .depth) tops al)
     suits =
         record {
           fit = h .fit;
-          links = built (table-of t) reads;
+          links = links;
           widths = long .widths;
           depths = long .depths;
           tops = all;
-          wide-of = λ c i. sym (width-is t c i);
-          deep-of = λ c i. sym (depth-is t c i);
+          wide-of = λ c i. sym (width-is t c (omega (arith, length-is t)));
+          deep-of = λ c i. sym (depth-is t c (omega (arith, length-is t)));
           top-of = h .top-of;
         }
 

@@ -1,7 +1,6 @@
 // The engine's core: what Layout needs to know of every cell of a table that keeps the questions.
 
-use links::LINKS;
-use links::link_all;
+use links::links_of;
 use plan::Columns;
 use plan::limits::MOST_CELLS;
 use walk::walk;
@@ -26,7 +25,6 @@ pub fn marks_of(
     ensures { λ _. ⌜ (now (rows .exit) ≡ now (rows .entry)) × Marked (table-of t) allowance (now (marks .exit)) ⌝ }
     ensures { λ _. ⌜ Toured (table-of t) (mem (now (rows .entry)) (now (marks .entry))) (mem (now (rows .exit)) (now (marks .exit))) ⌝ }
 {
-    let mut links = [0u16; LINKS];
-    link_all(&t.parent, &t.kind, t.count, &mut links);
+    let links = links_of(t);
     walk(&links, &t.width, &t.depth, tops, allowance, rows, marks);
 }

@@ -14,7 +14,7 @@ use Rattle.plan.specs.Lists.{from, some, mem}
 use Rattle.plan.specs.Plan.{Table, parent, kind, W, D}
 use Rattle.plan.specs.Kinds.{known}
 use Rattle.plan.specs.Questions.{Call, Given, Question, parent-lower, kind-known, box-sized, label-inside, label-fits, children-allowed, level-low, rows-few, frame-wide, buffers-long, file-sized, file-marked, cells-counted, positions-long, letters-printable, allowance-small, cell-named, root-too, coordinates-near, roomy, all-roomy, enough, in-table, in-file, once, each, sequence, take-steps, puts, number, holds, lower, ask, ask-all, take-step}
-use Rattle.plan.specs.Questions.{lent, widest-in, sized, none, asked, or-else, at-each, near, framed, refusal, layout, check, ends, list, frame, layout-given, check-given, ends-given, list-given, frame-given}
+use Rattle.plan.specs.Questions.{lent, widest-in, none, asked, or-else, at-each, near, framed, refusal, layout, check, ends, list, frame, layout-given, check-given, ends-given, list-given, frame-given}
 use Rattle.plan.specs.QuestionLaws.{first-none, first-some, each-same}
 use Rattle.plan.specs.Steps.{cell-refusal, cells-refusal, children-refusal, levels-refusal, rows-refusal, tree-refusal, table-refusal, counted-refusal, lent-refusal, near-refusal}
 
@@ -27,12 +27,6 @@ asked-last n false c = first-some (record { number = suc n; cell = c }) none (om
 pub and-true : (b : Bool) → b && true ≡ b
 and-true true = refl
 and-true false = refl
-
--- a question of two parts is the two, one after the other
-pub asked-both : (n : ℕ) (a b : Bool) (c : ℕ) → asked (suc n) (a && b) c ≡ or-else (asked (suc n) a c) (asked (suc n) b c)
-unfolding asked
-asked-both n true b c = sym (first-none none _ refl)
-asked-both n false b c = sym (first-some (record { number = suc n; cell = c }) _ (omega arith))
 
 pub or-assoc : (a b c : Refusal) → or-else (or-else a b) c ≡ or-else a (or-else b c)
 or-assoc a b c = go (ℕ-discrete (a .number) 0)
@@ -90,9 +84,9 @@ module _ (call : Call) (g : Given) where
   module _ (h : Tabled call) (l : g .source ≡ lent) where
     at-cells : (c : ℕ) → ask-all call g (parent-lower ∷ kind-known ∷ box-sized ∷ label-inside ∷ label-fits ∷ []) c
         ≡ cell-refusal most-width c (parent (g .table) c) (kind (g .table) c) (W (g .table) c) (D (g .table) c)
-    unfolding ask-all ask holds widest-in in-file number cell-refusal
+    unfolding ask-all ask holds widest-in number cell-refusal
     at-cells c =
-        rw (h .p6, h .p7, h .p8, h .p9, h .p10, l, and-true (sized most-width (W (g .table) c) (D (g .table) c)))
+        rw (h .p6, h .p7, h .p8, h .p9, h .p10, l)
         (ap (λ (x : Refusal). or-else (asked 6 (lower c (parent (g .table) c)) c) (or-else (asked 7 (known (kind (g .table) c)) c) x)) (asked-last 7 _ c))
 
     table-steps : (rest : Refusal)

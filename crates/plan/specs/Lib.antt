@@ -17,6 +17,7 @@ pub mod CallLaws
 pub mod FitLaws
 pub mod Fit
 pub mod ListLaws
+pub mod SortLaws
 pub mod PlanLaws
 pub mod Paths
 pub mod Siblings

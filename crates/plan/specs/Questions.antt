@@ -41,9 +41,8 @@ pub record File : Type 0 where
   -- the place where the records begin, and the bytes before it
   pub begin : ℕ
   pub letters : List ℕ
-  -- of each record: its label, and the byte that the wide form has for nothing yet
+  -- of each record
   pub labels : List Label
-  pub spares : List ℕ
 
 -- a table lent, or a table in a file
 pub data Source : Type 0 where
@@ -205,8 +204,7 @@ module _ (call : Call) (g : Given) where
   holds letters-printable c = in-file (g .source) (λ f. every (between first-letter last-letter) (f .letters))
   holds parent-lower c = lower c (parent (g .table) c)
   holds kind-known c = known (kind (g .table) c)
-  holds box-sized c =
-      sized (widest-in (g .source)) (W (g .table) c) (D (g .table) c) && in-file (g .source) (λ f. eqb (getD (f .spares) c 0) 0)
+  holds box-sized c = sized (widest-in (g .source)) (W (g .table) c) (D (g .table) c)
   holds label-inside c =
       in-file (g .source) (λ f. leb (label-of f c .size) most-label && leb (label-of f c .start + label-of f c .size) (f .begin))
   holds label-fits c = in-file (g .source) (λ f. bordered (kind (g .table) c) (label-of f c .size) (W (g .table) c))

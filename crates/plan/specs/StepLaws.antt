@@ -18,25 +18,25 @@ use Rattle.plan.specs.Steps.{cell-refusal, cells-refusal, children-refus
 use Rattle.plan.specs.Plan.{children, level, row}
 use Rattle.plan.specs.Trees.{Lower, Flat, Short, Column, row-small}
 
-module _ (ps ks ws ds : List ℕ) (n : ℕ) where
-  pub cells-columns : cells-refusal (table ps ks ws ds n) ≡ at-each (cells-at ps ks ws ds) 0 n
+module _ (ps ks ws ds qs : List ℕ) (n : ℕ) where
+  pub cells-columns : cells-refusal (table ps ks ws ds qs n) ≡ at-each (cells-at ps ks ws ds) 0 n
   unfolding cells-refusal
   cells-columns =
-      rw (table-length ps ks ws ds n) (each-same _ (cells-at ps ks ws ds) n (λ c h.
-      rw (parent-at ps ks ws ds n c h, kind-at ps ks ws ds n c h, width-at ps ks ws ds n c h, depth-at ps ks ws ds n c h)))
+      rw (table-length ps ks ws ds qs n) (each-same _ (cells-at ps ks ws ds) n (λ c h.
+      rw (parent-at ps ks ws ds qs n c h, kind-at ps ks ws ds qs n c h, width-at ps ks ws ds qs n c h, depth-at ps ks ws ds qs n c h)))
 
-  pub children-columns : (ns : List ℕ) → Column ns n (λ c. length (children (table ps ks ws ds n) c)) → children-refusal (table ps ks ws ds n) ≡ at-each (children-at ks ns) 0 n
+  pub children-columns : (ns : List ℕ) → Column ns n (λ c. length (children (table ps ks ws ds qs n) c)) → children-refusal (table ps ks ws ds qs n) ≡ at-each (children-at ks ns) 0 n
   unfolding children-refusal
   children-columns ns col =
-      rw (table-length ps ks ws ds n) (each-same _ (children-at ks ns) n (λ c h. rw (kind-at ps ks ws ds n c h, col .each c h)))
+      rw (table-length ps ks ws ds qs n) (each-same _ (children-at ks ns) n (λ c h. rw (kind-at ps ks ws ds qs n c h, col .each c h)))
 
-  pub levels-columns : (ls : List ℕ) → Column ls n (level (table ps ks ws ds n)) → levels-refusal (table ps ks ws ds n) ≡ at-each (levels-at ls) 0 n
+  pub levels-columns : (ls : List ℕ) → Column ls n (level (table ps ks ws ds qs n)) → levels-refusal (table ps ks ws ds qs n) ≡ at-each (levels-at ls) 0 n
   unfolding levels-refusal
-  levels-columns ls col = rw (table-length ps ks ws ds n) (each-same _ (levels-at ls) n (λ c h. rw (col .each c h)))
+  levels-columns ls col = rw (table-length ps ks ws ds qs n) (each-same _ (levels-at ls) n (λ c h. rw (col .each c h)))
 
-  pub rows-columns : (rs : List ℕ) → Column rs n (row (table ps ks ws ds n)) → rows-refusal (table ps ks ws ds n) ≡ at-each (rows-at rs ds) 0 n
+  pub rows-columns : (rs : List ℕ) → Column rs n (row (table ps ks ws ds qs n)) → rows-refusal (table ps ks ws ds qs n) ≡ at-each (rows-at rs ds) 0 n
   unfolding rows-refusal
-  rows-columns rs col = rw (table-length ps ks ws ds n) (each-same _ (rows-at rs ds) n (λ c h. rw (depth-at ps ks ws ds n c h, col .each c h)))
+  rows-columns rs col = rw (table-length ps ks ws ds qs n) (each-same _ (rows-at rs ds) n (λ c h. rw (depth-at ps ks ws ds qs n c h, col .each c h)))
 
 -- what questions 6 to 8 establish
 pub lower-read : (c p : ℕ) → 1 ≤ c → T (lower c p) → p < c
@@ -80,9 +80,9 @@ sized-within m k w d l h =
     let (a, b) = sized-wide m w d h in
     both (both (says-le 1 w) (says-le w k)) (both (says-le 1 d) (says-le d most-depth)) .show ((a, omega arith), sized-deep m w d h)
 
-module _ (ps ks ws ds : List ℕ) (n : ℕ) (e : cells-refusal (table ps ks ws ds n) .number ≡ 0) where
+module _ (ps ks ws ds qs : List ℕ) (n : ℕ) (e : cells-refusal (table ps ks ws ds qs n) .number ≡ 0) where
   at-cell : (c : ℕ) → c < n → Passed most-width c (getD ps c 0) (getD ks c 0) (getD ws c 0) (getD ds c 0)
-  at-cell c h = cell-passed most-width c _ _ _ _ (each-none (cells-at ps ks ws ds) n (ap (λ (r : Refusal). r .number) (sym (cells-columns ps ks ws ds n)) ∙ e) c h)
+  at-cell c h = cell-passed most-width c _ _ _ _ (each-none (cells-at ps ks ws ds) n (ap (λ (r : Refusal). r .number) (sym (cells-columns ps ks ws ds qs n)) ∙ e) c h)
 
   pub cells-lower : 1 ≤ n → n ≤ most-cells → Lower ps n
   cells-lower a b = record { some = a; few = b; lower = λ c p h. lower-read c (getD ps c 0) p (at-cell c h .is-lower) }
@@ -90,18 +90,18 @@ module _ (ps ks ws ds : List ℕ) (n : ℕ) (e : cells-refusal (table ps ks ws d
   pub cells-flat : Flat ds n
   cells-flat = record { flat = λ c h. sized-deep most-width (getD ws c 0) (getD ds c 0) (at-cell c h .is-sized) .1 }
 
-pub rows-short : (ps ks ws ds rs : List ℕ) (n : ℕ) → Lower ps n → Flat ds n → Column rs n (row (table ps ks ws ds n)) → Short rs n
-rows-short ps ks ws ds rs n low flat col = record { short = λ c h. rw (col .each c h) (omega (arith, row-small ps ks ws ds n low flat c h, low .few)) }
+pub rows-short : (ps ks ws ds qs rs : List ℕ) (n : ℕ) → Lower ps n → Flat ds n → Column rs n (row (table ps ks ws ds qs n)) → Short rs n
+rows-short ps ks ws ds qs rs n low flat col = record { short = λ c h. rw (col .each c h) (omega (arith, row-small ps ks ws ds qs n low flat c h, low .few)) }
 
-pub lent-columns : (ps ks ws ds : List ℕ) (n p : ℕ)
-    → lent-refusal (table ps ks ws ds n) p ≡ or-else (asked 4 (between 1 most-cells n) 0) (or-else (asked 1 (leb (2 * n) p) 0) (table-refusal (table ps ks ws ds n)))
+pub lent-columns : (ps ks ws ds qs : List ℕ) (n p : ℕ)
+    → lent-refusal (table ps ks ws ds qs n) p ≡ or-else (asked 4 (between 1 most-cells n) 0) (or-else (asked 1 (leb (2 * n) p) 0) (table-refusal (table ps ks ws ds qs n)))
 unfolding lent-refusal
-lent-columns ps ks ws ds n p = rw (table-length ps ks ws ds n)
+lent-columns ps ks ws ds qs n p = rw (table-length ps ks ws ds qs n)
 
-pub counted-columns : (ps ks ws ds : List ℕ) (n : ℕ)
-    → counted-refusal (table ps ks ws ds n) ≡ or-else (asked 4 (between 1 most-cells n) 0) (table-refusal (table ps ks ws ds n))
+pub counted-columns : (ps ks ws ds qs : List ℕ) (n : ℕ)
+    → counted-refusal (table ps ks ws ds qs n) ≡ or-else (asked 4 (between 1 most-cells n) 0) (table-refusal (table ps ks ws ds qs n))
 unfolding counted-refusal
-counted-columns ps ks ws ds n = rw (table-length ps ks ws ds n)
+counted-columns ps ks ws ds qs n = rw (table-length ps ks ws ds qs n)
 
 -- what question 4 establishes
 pub counted-read : (n : ℕ) (r : Refusal) → r ≡ asked 4 (between 1 most-cells n) 0 → r .number ≡ 0 → (1 ≤ n) × (n ≤ most-cells)

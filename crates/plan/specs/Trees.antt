@@ -12,7 +12,8 @@ use lib.Seq.{getD-set-same, getD-set-other}
 use lib.Dec.{eqb}
 use borrow.Author.Tests.{eq-eqb, ne-eqb}
 use Rattle.plan.specs.Lists.{from, keep}
-use Rattle.plan.specs.Plan.{Table, Is, Sound, parent, D, children, path, level, row}
+use Rattle.plan.specs.Plan.{Table, Is, Sound, parent, D, filed, children, path, level, row}
+use Rattle.plan.specs.PlanLaws.{children-length}
 use Rattle.plan.specs.Limits.{most-depth, most-cells}
 use Rattle.plan.specs.Paths.{lower, from-parents, path-zero, path-suc, row-suc}
 use Rattle.plan.specs.Columns.{table}
@@ -40,10 +41,10 @@ pub record Column (xs : List ℕ) (n : ℕ) (f : ℕ → ℕ) : Type 0 where
   pub long : length xs ≡ most-cells
   pub each : (c : ℕ) → c < n → getD xs c 0 ≡ f c
 
-pub lower-sound : (ps ks ws ds : List ℕ) (n : ℕ) → Lower ps n → Sound (table ps ks ws ds n)
-lower-sound ps ks ws ds n h c p q =
-    let l : c < n = rw (table-length ps ks ws ds n) at q in
-    rw (parent-at ps ks ws ds n c l) (h .lower c p l)
+pub lower-sound : (ps ks ws ds qs : List ℕ) (n : ℕ) → Lower ps n → Sound (table ps ks ws ds qs n)
+lower-sound ps ks ws ds qs n h c p q =
+    let l : c < n = rw (table-length ps ks ws ds qs n) at q in
+    rw (parent-at ps ks ws ds qs n c l) (h .lower c p l)
 
 -- ---- children: how many of the cells 1 to m have the parent f
 abbrev pub hit : Bool → ℕ
@@ -84,12 +85,12 @@ seen-keep ps P f (suc m) h =
     let z = rw (e, h (suc m) (omega arith) (omega arith)) at k in
     z ∙ ap (λ (x : ℕ). x + hit (eqb (getD ps (suc m) 0) f)) (seen-keep ps P f m (λ s p q. h s p (omega arith)))
 
-pub seen-children : (ps ks ws ds : List ℕ) (n f : ℕ) → seen ps (n - 1) f ≡ length (children (table ps ks ws ds n) f)
-unfolding children
-seen-children ps ks ws ds n f =
-    let e : pred (length (table ps ks ws ds n)) ≡ n - 1 = omega (arith, table-length ps ks ws ds n) in
-    rw e (sym (seen-keep ps (λ s. eqb (parent (table ps ks ws ds n) s) f) f (n - 1)
-    (λ s p q. ap (λ (x : ℕ). eqb x f) (parent-at ps ks ws ds n s (omega arith)))))
+pub seen-children : (ps ks ws ds qs : List ℕ) (n f : ℕ) → seen ps (n - 1) f ≡ length (children (table ps ks ws ds qs n) f)
+unfolding filed
+seen-children ps ks ws ds qs n f =
+    let e : pred (length (table ps ks ws ds qs n)) ≡ n - 1 = omega (arith, table-length ps ks ws ds qs n) in
+    rw (children-length (table ps ks ws ds qs n) f, e) (sym (seen-keep ps (λ s. eqb (parent (table ps ks ws ds qs n) s) f) f (n - 1)
+    (λ s p q. ap (λ (x : ℕ). eqb x f) (parent-at ps ks ws ds qs n s (omega arith)))))
 
 -- one cell more is counted
 module _ (ps xs : List ℕ) (n c : ℕ) (h : Lower ps n) (p : 1 ≤ c) (l : c < n) (long : length xs ≡ most-cells) (so : (f : ℕ) → f < most-cells → getD xs f 0 ≡ seen ps (c - 1) f) where
@@ -142,41 +143,41 @@ module _ (ps xs : List ℕ) (n c : ℕ) (h : Lower ps n) (p : 1 ≤ c) (l : c < 
       go (yes d) = rw d (getD-set-same xs c v 0 (omega (arith, h .few)) ∙ e)
       go (no d) = getD-set-other xs c x v 0 d ∙ so x (omega arith)
 
-module _ (ps ks ws ds : List ℕ) (n : ℕ) (h : Lower ps n) where
-  pub level-next : (c : ℕ) → 1 ≤ c → c < n → level (table ps ks ws ds n) c ≡ level (table ps ks ws ds n) (getD ps c 0) + 1
+module _ (ps ks ws ds qs : List ℕ) (n : ℕ) (h : Lower ps n) where
+  pub level-next : (c : ℕ) → 1 ≤ c → c < n → level (table ps ks ws ds qs n) c ≡ level (table ps ks ws ds qs n) (getD ps c 0) + 1
   level-next zero p l = absurd (omega arith)
   level-next (suc m) p l =
-      let t = table ps ks ws ds n in
-      level-suc t (lower-sound ps ks ws ds n h) m ∙ rw (parent-at ps ks ws ds n (suc m) l) (omega arith)
+      let t = table ps ks ws ds qs n in
+      level-suc t (lower-sound ps ks ws ds qs n h) m ∙ rw (parent-at ps ks ws ds qs n (suc m) l) (omega arith)
 
-  pub level-small : (c : ℕ) → level (table ps ks ws ds n) c ≤ c
-  level-small = level-most (table ps ks ws ds n) (lower-sound ps ks ws ds n h)
+  pub level-small : (c : ℕ) → level (table ps ks ws ds qs n) c ≤ c
+  level-small = level-most (table ps ks ws ds qs n) (lower-sound ps ks ws ds qs n h)
 
-  pub row-small : Flat ds n → (c : ℕ) → c < n → row (table ps ks ws ds n) c ≤ 16 * c
+  pub row-small : Flat ds n → (c : ℕ) → c < n → row (table ps ks ws ds qs n) c ≤ 16 * c
   row-small flat c l =
-      row-most (table ps ks ws ds n) (lower-sound ps ks ws ds n h)
-      (λ a i. let k : a < n = rw (table-length ps ks ws ds n) at i in rw (depth-at ps ks ws ds n a k) (flat .flat a k)) c (rw (table-length ps ks ws ds n) l)
+      row-most (table ps ks ws ds qs n) (lower-sound ps ks ws ds qs n h)
+      (λ a i. let k : a < n = rw (table-length ps ks ws ds qs n) at i in rw (depth-at ps ks ws ds qs n a k) (flat .flat a k)) c (rw (table-length ps ks ws ds qs n) l)
 
-  pub row-next : (c : ℕ) → 1 ≤ c → c < n → row (table ps ks ws ds n) c ≡ row (table ps ks ws ds n) (getD ps c 0) + getD ds (getD ps c 0) 0 + 1
+  pub row-next : (c : ℕ) → 1 ≤ c → c < n → row (table ps ks ws ds qs n) c ≡ row (table ps ks ws ds qs n) (getD ps c 0) + getD ds (getD ps c 0) 0 + 1
   row-next zero p l = absurd (omega arith)
   row-next (suc m) p l =
       let g : getD ps (suc m) 0 < n = omega (arith, h .lower (suc m) p l) in
-      row-suc (table ps ks ws ds n) (lower-sound ps ks ws ds n h) m ∙ rw (parent-at ps ks ws ds n (suc m) l, depth-at ps ks ws ds n (getD ps (suc m) 0) g) (omega arith)
+      row-suc (table ps ks ws ds qs n) (lower-sound ps ks ws ds qs n h) m ∙ rw (parent-at ps ks ws ds qs n (suc m) l, depth-at ps ks ws ds qs n (getD ps (suc m) 0) g) (omega arith)
 
   module _ (xs : List ℕ) (c : ℕ) (b : 1 ≤ c) (l : c < n) (long : length xs ≡ most-cells) where
-    pub level-value : ((x : ℕ) → x < c → getD xs x 0 ≡ level (table ps ks ws ds n) x) → getD xs (getD ps c 0) 0 + 1 ≡ level (table ps ks ws ds n) c
-    level-value so = rw (parent-so ps xs n c h b l long (level (table ps ks ws ds n)) so) (sym (level-next c b l))
+    pub level-value : ((x : ℕ) → x < c → getD xs x 0 ≡ level (table ps ks ws ds qs n) x) → getD xs (getD ps c 0) 0 + 1 ≡ level (table ps ks ws ds qs n) c
+    level-value so = rw (parent-so ps xs n c h b l long (level (table ps ks ws ds qs n)) so) (sym (level-next c b l))
 
-    pub level-more : ((x : ℕ) → x < c → getD xs x 0 ≡ level (table ps ks ws ds n) x)
-        → (x : ℕ) → x < c + 1 → getD (set xs c (getD xs (getD ps c 0) 0 + 1)) x 0 ≡ level (table ps ks ws ds n) x
-    level-more so = one-more ps xs n c h b l long (level (table ps ks ws ds n)) so _ (level-value so)
+    pub level-more : ((x : ℕ) → x < c → getD xs x 0 ≡ level (table ps ks ws ds qs n) x)
+        → (x : ℕ) → x < c + 1 → getD (set xs c (getD xs (getD ps c 0) 0 + 1)) x 0 ≡ level (table ps ks ws ds qs n) x
+    level-more so = one-more ps xs n c h b l long (level (table ps ks ws ds qs n)) so _ (level-value so)
 
-    pub row-value : ((x : ℕ) → x < c → getD xs x 0 ≡ row (table ps ks ws ds n) x) → getD xs (getD ps c 0) 0 + getD ds (getD ps c 0) 0 + 1 ≡ row (table ps ks ws ds n) c
-    row-value so = rw (parent-so ps xs n c h b l long (row (table ps ks ws ds n)) so) (sym (row-next c b l))
+    pub row-value : ((x : ℕ) → x < c → getD xs x 0 ≡ row (table ps ks ws ds qs n) x) → getD xs (getD ps c 0) 0 + getD ds (getD ps c 0) 0 + 1 ≡ row (table ps ks ws ds qs n) c
+    row-value so = rw (parent-so ps xs n c h b l long (row (table ps ks ws ds qs n)) so) (sym (row-next c b l))
 
-    pub row-more : ((x : ℕ) → x < c → getD xs x 0 ≡ row (table ps ks ws ds n) x)
-        → (x : ℕ) → x < c + 1 → getD (set xs c (getD xs (getD ps c 0) 0 + getD ds (getD ps c 0) 0 + 1)) x 0 ≡ row (table ps ks ws ds n) x
-    row-more so = one-more ps xs n c h b l long (row (table ps ks ws ds n)) so _ (row-value so)
+    pub row-more : ((x : ℕ) → x < c → getD xs x 0 ≡ row (table ps ks ws ds qs n) x)
+        → (x : ℕ) → x < c + 1 → getD (set xs c (getD xs (getD ps c 0) 0 + getD ds (getD ps c 0) 0 + 1)) x 0 ≡ row (table ps ks ws ds qs n) x
+    row-more so = one-more ps xs n c h b l long (row (table ps ks ws ds qs n)) so _ (row-value so)
 
 -- the root
 pub first-only : (xs : List ℕ) (f : ℕ → ℕ) → getD xs 0 0 ≡ f 0 → (x : ℕ) → x < 1 → getD xs x 0 ≡ f x

@@ -7,11 +7,12 @@ pub mod limits;
 pub mod questions;
 pub mod tree;
 
-// Document 01: "a run of records, one for each cell". The root's parent is 65,535.
+// Document 01: "a run of records, one for each cell". The root's parent is 65,535. The rank stands where a byte was unused.
 #[repr(C)]
 pub struct Record {
     pub parent: u16,
     pub kind: u8,
+    pub rank: u8,
     pub width: u16,
     pub depth: u8,
     pub label_length: u8,
@@ -26,6 +27,7 @@ pub struct Columns {
     pub kind: [u8; MOST_CELLS],
     pub width: [u16; MOST_CELLS],
     pub depth: [u8; MOST_CELLS],
+    pub rank: [u8; MOST_CELLS],
 }
 
 // A question's number and the lowest cell at fault; 0 and 0 where nothing is refused.

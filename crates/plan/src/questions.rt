@@ -1,4 +1,4 @@
-// The questions put to a table, each as a refusal. A refusal of number 0 is none.
+// The questions put to a table, each as a refusal. A refusal of number 0 is none. None asks about a rank: the contracts hold whatever the ranks qs are.
 use crate::Refusal;
 use crate::kinds::allows;
 use crate::kinds::known;
@@ -106,7 +106,7 @@ pub fn cells_refusal(
     n: usize,
 ) -> Refusal
     requires { ⌜ n ≤ most-cells ⌝ }
-    ensures { λ r. ⌜ r ≡ cells-refusal (table (now (parents .entry)) (now (kinds .entry)) (now (widths .entry)) (now (depths .entry)) n) ⌝ }
+    ensures { λ r. ⌜ ((qs : List ℕ) → r ≡ cells-refusal (table (now (parents .entry)) (now (kinds .entry)) (now (widths .entry)) (now (depths .entry)) qs n)) ⌝ }
 {
     let mut c = 0;
     while c < n {
@@ -176,7 +176,7 @@ pub fn tree_refusal<'a>(
 ) -> Refusal
     requires { ⌜ Lower (now parents) n ⌝ }
     requires { ⌜ Flat (now depths) n ⌝ }
-    ensures { λ r. ⌜ ((ws : List ℕ) → r ≡ tree-refusal (table (now (parents .entry)) (now (kinds .entry)) ws (now (depths .entry)) n)) ⌝ }
+    ensures { λ r. ⌜ ((ws qs : List ℕ) → r ≡ tree-refusal (table (now (parents .entry)) (now (kinds .entry)) ws (now (depths .entry)) qs n)) ⌝ }
 {
     let mut counts = [0u16; MOST_CELLS];
     let mut levels = [0u16; MOST_CELLS];
@@ -202,7 +202,7 @@ fn table_refusal<'a>(
     n: usize,
 ) -> Refusal
     requires { ⌜ (1 ≤ n) × (n ≤ most-cells) ⌝ }
-    ensures { λ r. ⌜ r ≡ table-refusal (table (now (parents .entry)) (now (kinds .entry)) (now (widths .entry)) (now (depths .entry)) n) ⌝ }
+    ensures { λ r. ⌜ ((qs : List ℕ) → r ≡ table-refusal (table (now (parents .entry)) (now (kinds .entry)) (now (widths .entry)) (now (depths .entry)) qs n)) ⌝ }
 {
     let at_cells = cells_refusal(parents, kinds, widths, depths, n);
     if at_cells.number != 0 {
@@ -229,7 +229,7 @@ pub fn counted_refusal<'a>(
     depths: &'a [u8; MOST_CELLS],
     n: usize,
 ) -> Refusal
-    ensures { λ r. ⌜ r ≡ counted-refusal (table (now (parents .entry)) (now (kinds .entry)) (now (widths .entry)) (now (depths .entry)) n) ⌝ }
+    ensures { λ r. ⌜ ((qs : List ℕ) → r ≡ counted-refusal (table (now (parents .entry)) (now (kinds .entry)) (now (widths .entry)) (now (depths .entry)) qs n)) ⌝ }
 {
     let few = asked(4, counted(n), 0);
     if few.number != 0 {
@@ -248,7 +248,7 @@ pub fn lent_refusal<'a>(
     n: usize,
     positions: usize,
 ) -> Refusal
-    ensures { λ r. ⌜ r ≡ lent-refusal (table (now (parents .entry)) (now (kinds .entry)) (now (widths .entry)) (now (depths .entry)) n) positions ⌝ }
+    ensures { λ r. ⌜ ((qs : List ℕ) → r ≡ lent-refusal (table (now (parents .entry)) (now (kinds .entry)) (now (widths .entry)) (now (depths .entry)) qs n) positions) ⌝ }
 {
     let few = asked(4, counted(n), 0);
     if few.number != 0 {

@@ -21,9 +21,9 @@ pub fn survey<'a>(
     requires { ⌜ Lower (now parents) n ⌝ }
     requires { ⌜ Flat (now depths) n ⌝ }
     requires { ⌜ (now counts ≡ replicate most-cells 0) × (now levels ≡ replicate most-cells 0) × (now rows ≡ replicate most-cells 0) ⌝ }
-    ensures { λ _. ⌜ ((ks ws : List ℕ) → Column (now (counts .exit)) n (λ c. length (children (table (now (parents .entry)) ks ws (now (depths .entry)) n) c))
-        × Column (now (levels .exit)) n (level (table (now (parents .entry)) ks ws (now (depths .entry)) n))
-        × Column (now (rows .exit)) n (row (table (now (parents .entry)) ks ws (now (depths .entry)) n))) ⌝ }
+    ensures { λ _. ⌜ ((ks ws qs : List ℕ) → Column (now (counts .exit)) n (λ c. length (children (table (now (parents .entry)) ks ws (now (depths .entry)) qs n) c))
+        × Column (now (levels .exit)) n (level (table (now (parents .entry)) ks ws (now (depths .entry)) qs n))
+        × Column (now (rows .exit)) n (row (table (now (parents .entry)) ks ws (now (depths .entry)) qs n))) ⌝ }
 {
     let mut c: usize = 1;
     while c < n {

@@ -6,7 +6,7 @@ use Prim.Native.Nat.{ℕ, zero, suc, _+_, _*_, _≤_, _<_}
 use native.Mathlib.Omega.{arith}
 use native.Mathlib.Decide.{ℕ-discrete}
 use lib.Dec.{T, eqb, leb, leb→le, eqb→eq}
-use lib.ListN.{length, getD, set, length-set, length-replicate}
+use lib.ListN.{length, getD, set, replicate, length-set, length-replicate, getD-replicate}
 use lib.Seq.{getD-set-same, getD-set-other}
 use borrow.Author.Tests.{eq-eqb, ne-eqb}
 use Rattle.plan.specs.Limits.{between, most-cells, most-allowance, least-file, most-file, trailer-size}
@@ -25,7 +25,7 @@ use Rattle.plan.specs.declared.Refusal.{Refusal}
 use Rattle.plan.specs.declared.forms.Form.{Form}
 use Rattle.planfile.specs.declared.Reading.{Reading}
 use Rattle.planfile.specs.declared.Trailer.{Trailer}
-use Rattle.planfile.specs.Format.{trailer-of, form, record-at, entry, spare, records-of}
+use Rattle.planfile.specs.Format.{trailer-of, form, record-at, entry, records-of}
 use Rattle.planfile.specs.Reading.{column, columns-of}
 use Rattle.planfile.specs.FormatLaws.{column-more}
 use Rattle.planfile.specs.FileSteps.{inside, counted, record-refusal, entry-refusal, records-at, columns-refusal, blank-reading, header-refusal, body-refusal, file-refusal, examined}
@@ -66,13 +66,13 @@ header-read f e =
     record { long = sized-read (length f) _ refl a; full = full-read (form f) (length f) _ _ _ refl c }
 
 -- ---- questions 6 to 10, from columns
-record-passed : (form : Form) (begin c p k w d l s z : ℕ) → record-refusal form begin c p k w d l s z .number ≡ 0 → Passed (widest form) c p k w d
+record-passed : (form : Form) (begin c p k w d l s : ℕ) → record-refusal form begin c p k w d l s .number ≡ 0 → Passed (widest form) c p k w d
 unfolding record-refusal
-record-passed form begin c p k w d l s z e = cell-passed (widest form) c p k w d (both-none (cell-refusal (widest form) c p k w d) _ e .0)
+record-passed form begin c p k w d l s e = cell-passed (widest form) c p k w d (both-none (cell-refusal (widest form) c p k w d) _ e .0)
 
-module _ (form : Form) (f : List ℕ) (begin n : ℕ) (ps ks ws ds ls ss : List ℕ) (r : Refusal) (e : r ≡ at-each (records-at form f begin ps ks ws ds ls ss) 0 n) (z : r .number ≡ 0) where
+module _ (form : Form) (begin n : ℕ) (ps ks ws ds ls ss : List ℕ) (r : Refusal) (e : r ≡ at-each (records-at form begin ps ks ws ds ls ss) 0 n) (z : r .number ≡ 0) where
   passed : (c : ℕ) → c < n → Passed (widest form) c (getD ps c 0) (getD ks c 0) (getD ws c 0) (getD ds c 0)
-  passed c h = record-passed form begin c _ _ _ _ (getD ls c 0) (getD ss c 0) _ (each-none (records-at form f begin ps ks ws ds ls ss) n (zero-of r _ e z) c h)
+  passed c h = record-passed form begin c _ _ _ _ (getD ls c 0) (getD ss c 0) (each-none (records-at form begin ps ks ws ds ls ss) n (zero-of r _ e z) c h)
 
   pub records-lower : 1 ≤ n → n ≤ most-cells → Lower ps n
   records-lower a b = record { some = a; few = b; lower = λ c p h. lower-read c (getD ps c 0) p (passed c h .is-lower) }
@@ -115,10 +115,10 @@ module _ (f : List ℕ) (h : Headed f) where
   same-table =
       table-same _ (entry f) 0 n (λ c p q.
       let l : c < n = omega arith in
-      rw (column-at (λ c. entry f c .parent) n c few l, column-at (λ c. entry f c .kind) n c few l, column-at (λ c. entry f c .width) n c few l, column-at (λ c. entry f c .depth) n c few l))
+      rw (column-at (λ c. entry f c .parent) n c few l, column-at (λ c. entry f c .kind) n c few l, column-at (λ c. entry f c .width) n c few l, column-at (λ c. entry f c .depth) n c few l, column-at (λ c. entry f c .rank) n c few l))
 
-  pub plan-refusal : columns-refusal plan (form f) f (trailer-of f .begin) ≡ body-refusal f
-  unfolding columns-refusal body-refusal columns-of spare
+  pub plan-refusal : columns-refusal plan (form f) (trailer-of f .begin) ≡ body-refusal f
+  unfolding columns-refusal body-refusal columns-of
   plan-refusal =
       rw same-table (ap (λ (x : Refusal). or-else x (or-else (tree-refusal (cells-of (records-of f))) (asked 14 (leb (trailer-of f .allowance) most-allowance) 0))) (each-same _ (entry-refusal f) n (λ c l.
       rw (column-at (λ c. entry f c .parent) n c few l, column-at (λ c. entry f c .kind) n c few l, column-at (λ c. entry f c .width) n c few l, column-at (λ c. entry f c .depth) n c few l, column-at (λ c. entry f c .«label_length») n c few l, column-at (λ c. entry f c .«label_start») n c few l))))
@@ -143,11 +143,11 @@ module _ (f : List ℕ) (h : header-refusal f .number ≡ 0) (t : Trailer) (e : 
     unfolding entry
     plan-is = rw e at q
 
-    pub count-read : (1 ≤ p .columns .count) × (p .columns .count ≤ most-cells) × (t .begin + record-size (form-of (t .mark)) * p .columns .count ≤ length f)
+    pub count-read : (1 ≤ p .columns .count) × (p .columns .count ≤ most-cells)
     unfolding columns-of
-    count-read = let k = header-read f h .full in rw (plan-is, e) (k .some, k .few, omega (arith, k .exact))
+    count-read = let k = header-read f h .full in rw plan-is (k .some, k .few)
 
-    pub body-is : columns-refusal p (form-of (t .mark)) f (t .begin) ≡ body-refusal f
+    pub body-is : columns-refusal p (form-of (t .mark)) (t .begin) ≡ body-refusal f
     body-is = rw (plan-is, e) (plan-refusal f (header-read f h))
 
     pub plan-examined : (r : Refusal) → r ≡ file-refusal f → r .number ≡ 0 → p ≡ examined f

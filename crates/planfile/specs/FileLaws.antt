@@ -15,16 +15,16 @@ use Rattle.plan.specs.Records.{bare, cells-of}
 use Rattle.plan.specs.Questions.{Buffer, to-fill, Subject, nothing, named, Call, read, label, Given, Label, no-label, buffers-long, file-sized, file-marked, cells-counted, positions-long, letters-printable, parent-lower, kind-known, box-sized, label-inside, label-fits, children-allowed, level-low, rows-few, frame-wide, allowance-small, coordinates-near, cell-named, once, each, sequence, puts, root-too, number, enough, roomy, all-roomy, in-table, in-file, widest-in, holds, none, asked, or-else, at-each, every, ask, ask-all, take-step, take-steps, refusal}
 use Rattle.plan.specs.ColumnLaws.{length-from, getD-from}
 use Rattle.plan.specs.QuestionLaws.{each-same}
-use Rattle.plan.specs.CallLaws.{Treed, asked-last, asked-both, asked-true, none-first, and-true, or-assoc, once-put, once-none, step-none, tree-steps}
+use Rattle.plan.specs.CallLaws.{Treed, asked-last, asked-true, none-first, and-true, or-assoc, once-put, once-none, step-none, tree-steps}
 use Rattle.plan.specs.Steps.{cell-refusal, tree-refusal}
 use Rattle.plan.specs.declared.Record.{Record}
 use Rattle.plan.specs.declared.Refusal.{Refusal}
-use Rattle.planfile.specs.Format.{trailer-of, form, entry, spare, records-of, label-in, file-given}
+use Rattle.planfile.specs.Format.{trailer-of, form, entry, records-of, label-in, file-given}
 use Rattle.planfile.specs.Reading.{label-refusal}
 use Rattle.planfile.specs.FileSteps.{counted, record-refusal, entry-refusal, header-refusal, body-refusal, file-refusal}
 
 no-record : Record
-no-record = record { parent = 0; kind = 0; width = 0; depth = 0; «label_length» = 0; «label_start» = 0 }
+no-record = record { parent = 0; kind = 0; width = 0; depth = 0; rank = 0; «label_length» = 0; «label_start» = 0 }
 
 module _ (f : List ℕ) where
   -- ---- the records of a file
@@ -55,9 +55,6 @@ module _ (f : List ℕ) where
     unfolding no-record
     label-is = List·getD-map label-in (records-of f) c no-record ∙ ap label-in record-is
 
-    pub spare-is : getD (map (spare f) (from 0 n)) c 0 ≡ spare f c
-    spare-is = rw zero-add at (getD-from (spare f) 0 0 n c h)
-
     pub parent-is : parent t c ≡ entry f c .parent
     unfolding parent bare
     parent-is = ap (λ (x : Cell). x .parent) cell-is
@@ -79,7 +76,7 @@ module _ (f : List ℕ) where
     at-record : (c : ℕ) → c < n → ask-all call (file-given f bs s) (parent-lower ∷ kind-known ∷ box-sized ∷ label-inside ∷ label-fits ∷ []) c ≡ entry-refusal f c
     unfolding ask-all ask holds number in-file widest-in file-given cell-refusal record-refusal
     at-record c h =
-        rw (p6, p7, p8, p9, p10, parent-is c h, kind-is c h, width-is c h, depth-is c h, label-is c h, spare-is c h) (simp (asked-both 7, or-assoc, asked-last 9))
+        rw (p6, p7, p8, p9, p10, parent-is c h, kind-is c h, width-is c h, depth-is c h, label-is c h) (simp (or-assoc, asked-last 9))
 
     records-step : take-step call (file-given f bs s) (each (parent-lower ∷ kind-known ∷ box-sized ∷ label-inside ∷ label-fits ∷ []))
         ≡ at-each (entry-refusal f) 0 n

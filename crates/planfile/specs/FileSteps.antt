@@ -17,7 +17,7 @@ use Rattle.plan.specs.declared.Refusal.{Refusal}
 use Rattle.plan.specs.declared.forms.Form.{Form}
 use Rattle.plan.specs.declared.forms.Form.the-variants.{Old}
 use Rattle.planfile.specs.declared.Reading.{Reading}
-use Rattle.planfile.specs.Format.{trailer-of, form, record-at, spare-at, entry, spare, records-of}
+use Rattle.planfile.specs.Format.{trailer-of, form, record-at, entry, records-of}
 use Rattle.planfile.specs.Reading.{columns-of}
 
 -- question 9, for a label of so many bytes at a start
@@ -25,24 +25,24 @@ abbrev pub inside : (begin size start : ℕ) → Bool
 inside begin l s = leb l most-label && leb (s + l) begin
 
 -- questions 6 to 10 at one record
-unfoldable pub record-refusal : (form : Form) (begin c p k w d l s z : ℕ) → Refusal
-record-refusal form begin c p k w d l s z =
-    or-else (cell-refusal (widest form) c p k w d) (or-else (asked 8 (eqb z 0) c) (or-else (asked 9 (inside begin l s) c) (asked 10 (bordered k l w) c)))
+unfoldable pub record-refusal : (form : Form) (begin c p k w d l s : ℕ) → Refusal
+record-refusal form begin c p k w d l s =
+    or-else (cell-refusal (widest form) c p k w d) (or-else (asked 9 (inside begin l s) c) (asked 10 (bordered k l w) c))
 
 abbrev pub entry-refusal : List ℕ → ℕ → Refusal
 entry-refusal f c =
     let r = entry f c in
-    record-refusal (form f) (trailer-of f .begin) c (r .parent) (r .kind) (r .width) (r .depth) (r .«label_length») (r .«label_start») (spare f c)
+    record-refusal (form f) (trailer-of f .begin) c (r .parent) (r .kind) (r .width) (r .depth) (r .«label_length») (r .«label_start»)
 
-abbrev pub records-at : (form : Form) (f : List ℕ) (begin : ℕ) (ps ks ws ds ls ss : List ℕ) (c : ℕ) → Refusal
-records-at form f begin ps ks ws ds ls ss c =
-    record-refusal form begin c (getD ps c 0) (getD ks c 0) (getD ws c 0) (getD ds c 0) (getD ls c 0) (getD ss c 0) (spare-at form f (begin + record-size form * c))
+abbrev pub records-at : (form : Form) (begin : ℕ) (ps ks ws ds ls ss : List ℕ) (c : ℕ) → Refusal
+records-at form begin ps ks ws ds ls ss c =
+    record-refusal form begin c (getD ps c 0) (getD ks c 0) (getD ws c 0) (getD ds c 0) (getD ls c 0) (getD ss c 0)
 
--- questions 6 to 14, from columns and the file that they were read from
-unfoldable pub columns-refusal : Reading → Form → List ℕ → (begin : ℕ) → Refusal
-columns-refusal p form f begin =
+-- questions 6 to 14, from columns
+unfoldable pub columns-refusal : Reading → Form → (begin : ℕ) → Refusal
+columns-refusal p form begin =
     let t = p .columns in
-    or-else (at-each (records-at form f begin (t .parent) (t .kind) (t .width) (t .depth) (p .«label_length») (p .«label_start»)) 0 (t .count))
+    or-else (at-each (records-at form begin (t .parent) (t .kind) (t .width) (t .depth) (p .«label_length») (p .«label_start»)) 0 (t .count))
     (or-else (tree-refusal (table-of t)) (asked 14 (leb (p .allowance) most-allowance) 0))
 
 abbrev pub blank-reading : Refusal → Reading

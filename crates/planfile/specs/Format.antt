@@ -27,7 +27,7 @@ abbrev pub form : List ℕ → Form
 form f = form-of (trailer-of f .mark)
 
 -- the record at a place. Old form: bytes 0-1 father, 2 kind, 3 W, 4 D, 5 label length, 6-7 label start;
--- wide form: 0-1 father, 2 kind, 3 D, 4-5 W, 6 label length, 7 zero, 8-9 label start
+-- wide form: 0-1 father, 2 kind, 3 D, 4-5 W, 6 label length, 7 rank (document 02, E13; the old form has 0), 8-9 label start
 unfoldable pub record-at : Form → List ℕ → ℕ → Record
 record-at Old f at =
     record {
@@ -35,6 +35,7 @@ record-at Old f at =
       kind = getD f (at + 2) 0;
       width = getD f (at + 3) 0;
       depth = getD f (at + 4) 0;
+      rank = 0;
       «label_length» = getD f (at + 5) 0;
       «label_start» = pair f (at + 6);
     }
@@ -44,14 +45,10 @@ record-at Wide f at =
       kind = getD f (at + 2) 0;
       depth = getD f (at + 3) 0;
       width = pair f (at + 4);
+      rank = getD f (at + 7) 0;
       «label_length» = getD f (at + 6) 0;
       «label_start» = pair f (at + 8);
     }
-
--- the byte that question 8 asks to be zero: byte 7 of the wide form, and the old one has none
-unfoldable pub spare-at : Form → List ℕ → ℕ → ℕ
-spare-at Old f at = 0
-spare-at Wide f at = getD f (at + 7) 0
 
 -- record c of the file
 abbrev pub place : List ℕ → ℕ → ℕ
@@ -59,9 +56,6 @@ place f c = trailer-of f .begin + record-size (form f) * c
 
 unfoldable pub entry : List ℕ → ℕ → Record
 entry f c = record-at (form f) f (place f c)
-
-unfoldable pub spare : List ℕ → ℕ → ℕ
-spare f c = spare-at (form f) f (place f c)
 
 unfoldable pub records-of : List ℕ → List Record
 records-of f = map (entry f) (from 0 (trailer-of f .count))
@@ -79,7 +73,6 @@ file-given f buffers subject =
         begin = trailer-of f .begin;
         letters = take (trailer-of f .begin) f;
         labels = map label-in (records-of f);
-        spares = map (spare f) (from 0 (trailer-of f .count));
       });
       table = cells-of (records-of f);
       allowance = trailer-of f .allowance;

@@ -78,12 +78,11 @@ pub record Labelled (f : List ℕ) (c : ℕ) : Type 0 where
   pub is : c < trailer-of f .count
   pub inside-file : entry f c .«label_start» + entry f c .«label_length» ≤ length f
 
-record-inside : (form : Form) (begin c p k w d l s z : ℕ) → record-refusal form begin c p k w d l s z .number ≡ 0 → s + l ≤ begin
+record-inside : (form : Form) (begin c p k w d l s : ℕ) → record-refusal form begin c p k w d l s .number ≡ 0 → s + l ≤ begin
 unfolding record-refusal
-record-inside form begin c p k w d l s z e =
+record-inside form begin c p k w d l s e =
     let (a, r) = both-none (cell-refusal (widest form) c p k w d) _ e in
-    let (u, v) = both-none (asked 8 (eqb z 0) c) _ r in
-    let (b, q) = both-none (asked 9 (inside begin l s) c) _ v in
+    let (b, q) = both-none (asked 9 (inside begin l s) c) _ r in
     leb→le (s + l) begin (and-right (leb l most-label) _ (asked-yes 8 (inside begin l s) c b))
 
 pub label-read : (f : List ℕ) (c : ℕ) → label-refusal f c .number ≡ 0 → Labelled f c
@@ -94,7 +93,7 @@ label-read f c z =
     let (records, rest) = both-none _ _ body in
     let i : c < trailer-of f .count = ltb→lt c _ (asked-yes 15 _ 0 named) in
     let h = header-read f header in
-    let r = record-inside (form f) (trailer-of f .begin) c _ _ _ _ (entry f c .«label_length») (entry f c .«label_start») _ (each-none (entry-refusal f) (trailer-of f .count) records c i) in
+    let r = record-inside (form f) (trailer-of f .begin) c _ _ _ _ (entry f c .«label_length») (entry f c .«label_start») (each-none (entry-refusal f) (trailer-of f .count) records c i) in
     record { headed = h; is = i; inside-file = omega (arith, h .full .exact) }
 
 module _ (f : List ℕ) (c : ℕ) (r : Refusal) (e : r ≡ label-refusal f c) where

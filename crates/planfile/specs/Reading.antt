@@ -23,7 +23,7 @@ columns-of r al n e =
     record {
       refusal = r;
       allowance = al;
-      columns = record { count = n; parent = column (λ c. e c .parent) n; kind = column (λ c. e c .kind) n; width = column (λ c. e c .width) n; depth = column (λ c. e c .depth) n };
+      columns = record { count = n; parent = column (λ c. e c .parent) n; kind = column (λ c. e c .kind) n; width = column (λ c. e c .width) n; depth = column (λ c. e c .depth) n; rank = column (λ c. e c .rank) n };
       «label_length» = column (λ c. e c .«label_length») n;
       «label_start» = column (λ c. e c .«label_start») n;
     }

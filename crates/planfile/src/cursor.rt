@@ -6,7 +6,7 @@ ghost use Prim.Native.Nat.{ℕ, _+_, _*_, _≤_, _<_};
 ghost use lib.ListN.{length, getD};
 ghost use Rattle.plan.specs.Limits.{«old-size», «wide-size»};
 ghost use Rattle.plan.specs.Forms.{«record-size»};
-ghost use Rattle.planfile.specs.Format.{pair, «trailer-of», «record-at», «spare-at»};
+ghost use Rattle.planfile.specs.Format.{pair, «trailer-of», «record-at»};
 
 pub struct Cursor {
     pub at: usize,
@@ -90,13 +90,14 @@ impl Cursor {
             kind: kind.value,
             width: wide(width.value),
             depth: depth.value,
+            rank: 0,
             label_length: label_length.value,
             label_start: label_start.value,
         };
         Entry { fields, next }
     }
 
-    // A record of the wide form, whose byte 7 is passed over.
+    // A record of the wide form.
     fn wide_entry(self, file: &[u8]) -> Entry
         requires { ⌜ self .at + wide-size ≤ length (now file) ⌝ }
         ensures { λ r. ⌜ (r .fields ≡ record-at Form.Wide (now (file .entry)) (self .at)) × (r .next .at ≡ self .at + wide-size) ⌝ }
@@ -111,15 +112,16 @@ impl Cursor {
         let after_width = width.next;
         let label_length = after_width.byte(file);
         let after_length = label_length.next;
-        let spare = after_length.byte(file);
-        let after_spare = spare.next;
-        let label_start = after_spare.pair(file);
+        let rank = after_length.byte(file);
+        let after_rank = rank.next;
+        let label_start = after_rank.pair(file);
         let next = label_start.next;
         let fields = Record {
             parent: parent.value,
             kind: kind.value,
             width: width.value,
             depth: depth.value,
+            rank: rank.value,
             label_length: label_length.value,
             label_start: label_start.value,
         };
@@ -134,18 +136,6 @@ impl Cursor {
         match form {
             Form::Old => self.old_entry(file),
             Form::Wide => self.wide_entry(file),
-        }
-    }
-
-    // The byte of a record that question 8 asks to be zero.
-    pub fn spare(self, file: &[u8], form: Form) -> u8
-        requires { ⌜ self .at + record-size form ≤ length (now file) ⌝ }
-        ensures { λ r. ⌜ r ≡ spare-at form (now (file .entry)) (self .at) ⌝ }
-    {
-        let at = self.at;
-        match form {
-            Form::Old => 0,
-            Form::Wide => file[at + 7],
         }
     }
 }

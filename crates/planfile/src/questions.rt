@@ -33,7 +33,6 @@ ghost use lib.ListN.{length, getD, take};
 ghost use Rattle.plan.specs.Limits.{between, «first-letter», «last-letter», «least-file», «most-file», «most-cells»};
 ghost use Rattle.plan.specs.Forms.{«record-size»};
 ghost use Rattle.plan.specs.Questions.{every, «at-each»};
-ghost use Rattle.planfile.specs.Format.{«spare-at»};
 ghost use Rattle.planfile.specs.FileSteps.{inside, counted, «record-refusal», «records-at», «header-refusal», «columns-refusal», «blank-reading», examined};
 
 // Question 2.
@@ -94,17 +93,6 @@ fn inside(begin: usize, size: u8, start: u16) -> bool
     (start as usize) + (size as usize) <= begin
 }
 
-// The byte of a cell's record that question 8 asks to be zero.
-fn spare(file: &[u8], form: Form, begin: usize, cell: usize) -> u8
-    requires { ⌜ (cell < most-cells) × (begin + record-size form * cell + record-size form ≤ length (now file)) ⌝ }
-    ensures { λ r. ⌜ r ≡ spare-at form (now (file .entry)) (begin + record-size form * cell) ⌝ }
-{
-    let cursor = Cursor {
-        at: place(form, begin, cell),
-    };
-    cursor.spare(file, form)
-}
-
 // Questions 6 to 10 at one record.
 fn record_refusal(
     form: Form,
@@ -116,24 +104,18 @@ fn record_refusal(
     depth: u8,
     size: u8,
     start: u16,
-    spare: u8,
 ) -> Refusal
     requires { ⌜ cell < 2 ^ 16 ⌝ }
-    ensures { λ r. ⌜ r ≡ record-refusal form begin cell parent kind width depth size start spare ⌝ }
+    ensures { λ r. ⌜ r ≡ record-refusal form begin cell parent kind width depth size start ⌝ }
 {
     let at_cell = cell_refusal(widest(form), cell, parent, kind, width, depth);
-    let spare_zero = asked(8, spare == 0, cell);
     let label_inside = asked(9, inside(begin, size, start), cell);
     let label_fits = asked(10, bordered(kind, size, width), cell);
-    or_else(
-        at_cell,
-        or_else(spare_zero, or_else(label_inside, label_fits)),
-    )
+    or_else(at_cell, or_else(label_inside, label_fits))
 }
 
 // Questions 6 to 10, record by record.
-fn records_refusal<'a, 'b>(
-    file: &'b [u8],
+fn records_refusal<'a>(
     form: Form,
     begin: usize,
     parents: &'a [u16; MOST_CELLS],
@@ -144,8 +126,8 @@ fn records_refusal<'a, 'b>(
     starts: &'a [u16; MOST_CELLS],
     n: usize,
 ) -> Refusal
-    requires { ⌜ (n ≤ most-cells) × (begin + record-size form * n ≤ length (now file)) ⌝ }
-    ensures { λ r. ⌜ r ≡ at-each (records-at form (now (file .entry)) begin (now (parents .entry)) (now (kinds .entry)) (now (widths .entry)) (now (depths .entry)) (now (sizes .entry)) (now (starts .entry))) 0 n ⌝ }
+    requires { ⌜ n ≤ most-cells ⌝ }
+    ensures { λ r. ⌜ r ≡ at-each (records-at form begin (now (parents .entry)) (now (kinds .entry)) (now (widths .entry)) (now (depths .entry)) (now (sizes .entry)) (now (starts .entry))) 0 n ⌝ }
 {
     let mut c = 0;
     while c < n {
@@ -159,7 +141,6 @@ fn records_refusal<'a, 'b>(
             depths[c],
             sizes[c],
             starts[c],
-            spare(file, form, begin, c),
         );
         if r.number != 0 {
             return r;
@@ -196,14 +177,13 @@ fn header_refusal(file: &[u8]) -> Refusal
 }
 
 // Questions 6 to 14, put to the records that were read.
-fn body_refusal(plan: Reading, file: &[u8], form: Form, begin: usize) -> Refusal
-    requires { ⌜ (1 ≤ plan .columns .count) × (plan .columns .count ≤ most-cells) × (begin + record-size form * plan .columns .count ≤ length (now file)) ⌝ }
-    ensures { λ r. ⌜ r ≡ columns-refusal plan form (now (file .entry)) begin ⌝ }
+fn body_refusal(plan: Reading, form: Form, begin: usize) -> Refusal
+    requires { ⌜ (1 ≤ plan .columns .count) × (plan .columns .count ≤ most-cells) ⌝ }
+    ensures { λ r. ⌜ r ≡ columns-refusal plan form begin ⌝ }
 {
     let n = plan.columns.count;
     let allowance = plan.allowance as u32;
     let at_records = records_refusal(
-        file,
         form,
         begin,
         &plan.columns.parent,
@@ -242,6 +222,7 @@ pub fn refused(refusal: Refusal) -> Reading
             kind: [0u8; MOST_CELLS],
             width: [0u16; MOST_CELLS],
             depth: [0u8; MOST_CELLS],
+            rank: [0u8; MOST_CELLS],
         },
         label_length: [0u8; MOST_CELLS],
         label_start: [0u16; MOST_CELLS],
@@ -260,7 +241,7 @@ pub fn examined(file: &[u8]) -> Reading
     let begin = t.begin as usize;
     let form = form_of(t.mark);
     let plan = records(file, form, begin, t.count as usize, t.allowance);
-    let at_body = body_refusal(plan, file, form, begin);
+    let at_body = body_refusal(plan, form, begin);
     if at_body.number != 0 {
         return refused(at_body);
     }

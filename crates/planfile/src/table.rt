@@ -57,6 +57,7 @@ pub fn records(file: &[u8], form: Form, begin: usize, n: usize, allowance: u16) 
     let mut kind = [0u8; MOST_CELLS];
     let mut width = [0u16; MOST_CELLS];
     let mut depth = [0u8; MOST_CELLS];
+    let mut rank = [0u8; MOST_CELLS];
     let mut label_length = [0u8; MOST_CELLS];
     let mut label_start = [0u16; MOST_CELLS];
     let mut cursor = Cursor { at: begin };
@@ -68,6 +69,7 @@ pub fn records(file: &[u8], form: Form, begin: usize, n: usize, allowance: u16) 
         kind[c] = fields.kind;
         width[c] = fields.width;
         depth[c] = fields.depth;
+        rank[c] = fields.rank;
         label_length[c] = fields.label_length;
         label_start[c] = fields.label_start;
         cursor = entry.next;
@@ -82,6 +84,7 @@ pub fn records(file: &[u8], form: Form, begin: usize, n: usize, allowance: u16) 
             kind,
             width,
             depth,
+            rank,
         },
         label_length,
         label_start,

@@ -27,12 +27,14 @@ fn print_record(plan: Reading, file: &[u8], c: usize)
     let columns = plan.columns;
     let parents = columns.parent;
     let kinds = columns.kind;
+    let ranks = columns.rank;
     let widths = columns.width;
     let depths = columns.depth;
     let lengths = plan.label_length;
     let starts = plan.label_start;
     print16(parents[c], b' ');
     print8(kinds[c], b' ');
+    print8(ranks[c], b' ');
     print16(widths[c], b' ');
     print8(depths[c], b' ');
     print8(lengths[c], b' ');

@@ -72,18 +72,18 @@ module _ (f : ℕ → ℕ) where
         go (yes d) = record { all = up; at = g .at; before = omega (arith, g .before); is = omega (arith, g .is) }
         go (no d) = record { all = up; at = k; before = omega arith; is = omega arith }
 
-module _ (ps ks ws ds : List ℕ) (n : ℕ) (some : 1 ≤ n) where
+module _ (ps ks ws ds qs : List ℕ) (n : ℕ) (some : 1 ≤ n) where
   abbrev t : Table
-  t = table ps ks ws ds n
+  t = table ps ks ws ds qs n
 
   size : length t ≡ n
-  size = table-length ps ks ws ds n
+  size = table-length ps ks ws ds qs n
 
   -- the greatest right edge less the least x
   module _ (p : Placement) (xs : List ℕ) (r : Raised xs n (p .x)) (low high : ℕ) (lo : Smallest (λ c. getD xs c 0) n low) (hi : Greatest (λ c. getD xs c 0 + getD ws c 0) n high) where
     edge : (a : ℕ) → a < n → pos (getD xs a 0 + getD ws a 0) ≡ right t p a +ℤ pos farthest
     unfolding right
-    edge a h = let w = width-at ps ks ws ds n a h in omega (whole, r .each a h, sum (p .x a) (pos (W t a)), sum (p .x a +ℤ pos (W t a)) (pos farthest), sum (p .x a) (pos farthest))
+    edge a h = let w = width-at ps ks ws ds qs n a h in omega (whole, r .each a h, sum (p .x a) (pos (W t a)), sum (p .x a +ℤ pos (W t a)) (pos farthest), sum (p .x a) (pos farthest))
 
     pub width-is : pos (high - low) ≡ width t p
     width-is =
@@ -101,7 +101,7 @@ module _ (ps ks ws ds : List ℕ) (n : ℕ) (some : 1 ≤ n) where
   unfolding bottom
   bottom-is sound ts col last g =
       let all = subtree t 0 in
-      let low : (a : ℕ) → a < n → row t a + D t a ≡ getD ts a 0 + getD ds a 0 = λ a h. rw (depth-at ps ks ws ds n a h, col .each a h) refl in
+      let low : (a : ℕ) → a < n → row t a + D t a ≡ getD ts a 0 + getD ds a 0 = λ a h. rw (depth-at ps ks ws ds qs n a h, col .each a h) refl in
       let up : peak (λ a. row t a + D t a) all ≤ last =
       peak-one (λ a. row t a + D t a) (λ m. m ≤ last) all (omega arith) (λ a m. let h : a < n = omega (arith, size, subtree-read t 0 a m .0) in omega (arith, low a h, g .all a h)) in
       let is : Is t (g .at) = omega (arith, size, g .before) in

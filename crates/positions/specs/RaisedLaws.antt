@@ -91,7 +91,7 @@ module _ (t : Table) (fit : Fit t) (al : ℕ) where
 -- ---- the same of columns, for the loop over the cells
 module _ (t : Columns) (ms : List ℕ) (r : Raising (table-of t) ms) where
   count : length (table-of t) ≡ t .count
-  count = table-length (t .parent) (t .kind) (t .width) (t .depth) (t .count)
+  count = table-length (t .parent) (t .kind) (t .width) (t .depth) (t .rank) (t .count)
 
   pub counted : (1 ≤ t .count) × (t .count ≤ most-cells)
   counted = (omega (arith, count, r .fit .some-cell), omega (arith, count, r .fit .not-too-many))
@@ -111,7 +111,7 @@ module _ (t : Columns) (ms : List ℕ) (r : Raising (table-of t) ms) where
       → ((al : ℕ) → Marked (table-of t) al ms → Raised xs c (sheet (table-of t) al .x)) → Turn xs c f
   turn xs c f long some l e so =
       let is : Is (table-of t) c = omega (arith, count) in
-      let of : f ≡ parent (table-of t) c = e ∙ sym (parent-at (t .parent) (t .kind) (t .width) (t .depth) (t .count) c l) in
+      let of : f ≡ parent (table-of t) c = e ∙ sym (parent-at (t .parent) (t .kind) (t .width) (t .depth) (t .rank) (t .count) c l) in
       let few : c < most-cells = omega (arith, count, r .fit .not-too-many) in
       let n = next-x (table-of t) (r .fit) (r .allowance) ms (r .marks) xs c f some is of (so (r .allowance) (r .marks)) in
       record {

@@ -124,7 +124,7 @@ fn right_edge(xs: &[u32; MOST_CELLS], widths: &[u16; MOST_CELLS], c: usize) -> u
 // The greatest right edge less the least x.
 pub fn sheet_width(xs: &[u32; MOST_CELLS], widths: &[u16; MOST_CELLS], n: usize) -> u32
     requires { ⌜ High (now xs) n × (1 ≤ n) ⌝ }
-    ensures { λ r. ⌜ ((p : Placement) (ps ks ds : List ℕ) → Raised (now (xs .entry)) n (p .x) → pos r ≡ width (table ps ks (now (widths .entry)) ds n) p) ⌝ }
+    ensures { λ r. ⌜ ((p : Placement) (ps ks ds qs : List ℕ) → Raised (now (xs .entry)) n (p .x) → pos r ≡ width (table ps ks (now (widths .entry)) ds qs n) p) ⌝ }
 {
     let mut least = xs[0];
     let mut most = right_edge(xs, widths, 0);
@@ -148,7 +148,7 @@ fn last_row(tops: &[u16; MOST_CELLS], depths: &[u8; MOST_CELLS], c: usize) -> u3
 // The last row of all, and one.
 pub fn sheet_rows(tops: &[u16; MOST_CELLS], depths: &[u8; MOST_CELLS], n: usize) -> u32
     requires { ⌜ (1 ≤ n) × (n ≤ most-cells) ⌝ }
-    ensures { λ r. ⌜ ((ps ks ws : List ℕ) → Sound (table ps ks ws (now (depths .entry)) n) → Column (now (tops .entry)) n (row (table ps ks ws (now (depths .entry)) n)) → r ≡ bottom (table ps ks ws (now (depths .entry)) n) 0 + 1) ⌝ }
+    ensures { λ r. ⌜ ((ps ks ws qs : List ℕ) → Sound (table ps ks ws (now (depths .entry)) qs n) → Column (now (tops .entry)) n (row (table ps ks ws (now (depths .entry)) qs n)) → r ≡ bottom (table ps ks ws (now (depths .entry)) qs n) 0 + 1) ⌝ }
 {
     let mut last = last_row(tops, depths, 0);
     let mut c: usize = 1;

@@ -30,12 +30,11 @@ use Rattle.listing.specs.Printed.{Bytes, sheet-line, cell-line}
 use Rattle.printing.specs.Printing.{label-of, cells, ours, first-of, cell-of, Placed, Measured}
 
 -- a label
-record-short : (form : Form) (begin c p k w d l s z : ℕ) → record-refusal form begin c p k w d l s z .number ≡ 0 → l ≤ most-label
+record-short : (form : Form) (begin c p k w d l s : ℕ) → record-refusal form begin c p k w d l s .number ≡ 0 → l ≤ most-label
 unfolding record-refusal
-record-short form begin c p k w d l s z e =
+record-short form begin c p k w d l s e =
     let (a, r) = both-none (cell-refusal (widest form) c p k w d) _ e in
-    let (u, v) = both-none (asked 8 (eqb z 0) c) _ r in
-    let (b, q) = both-none (asked 9 (inside begin l s) c) _ v in
+    let (b, q) = both-none (asked 9 (inside begin l s) c) _ r in
     leb→le l most-label (and-left (leb l most-label) _ (asked-yes 8 (inside begin l s) c b))
 
 entry-short : (f : Bytes) (c : ℕ) → label-refusal f c .number ≡ 0 → entry f c .«label_length» ≤ most-label
@@ -45,7 +44,7 @@ entry-short f c z =
     let (header, body) = both-none (header-refusal f) (body-refusal f) files in
     let (records, rest) = both-none _ _ body in
     let i : c < trailer-of f .count = ltb→lt c _ (asked-yes 15 _ 0 named) in
-    record-short (form f) (trailer-of f .begin) c _ _ _ _ (entry f c .«label_length») (entry f c .«label_start») _ (each-none (entry-refusal f) (trailer-of f .count) records c i)
+    record-short (form f) (trailer-of f .begin) c _ _ _ _ (entry f c .«label_length») (entry f c .«label_start») (each-none (entry-refusal f) (trailer-of f .count) records c i)
 
 pub label-short : (f : Bytes) (c : ℕ) → length (label-of f c) ≤ most-label
 unfolding label-part
@@ -65,9 +64,9 @@ pub cell-is : (p : Reading) (f : Bytes) (ps : List ℤ) (c : ℕ) → c < p .col
 unfolding cell-of placed
 cell-is p f ps c h d =
     let t = p .columns in
-    let i : c < length (cells p) = omega (arith, table-length (t .parent) (t .kind) (t .width) (t .depth) (t .count)) in
+    let i : c < length (cells p) = omega (arith, table-length (t .parent) (t .kind) (t .width) (t .depth) (t .rank) (t .count)) in
     let (x, y) = d .agree c i in
-    rw (x, y, width-at (t .parent) (t .kind) (t .width) (t .depth) (t .count) c h, depth-at (t .parent) (t .kind) (t .width) (t .depth) (t .count) c h)
+    rw (x, y, width-at (t .parent) (t .kind) (t .width) (t .depth) (t .rank) (t .count) c h, depth-at (t .parent) (t .kind) (t .width) (t .depth) (t .rank) (t .count) c h)
 
 -- ---- our sheet, from what is drawn
 module _ (p : Reading) (few : p .columns .count ≤ most-cells) {s′ : List ℕ} {ps ps′ : List ℤ} {r : Measures} (d : Drawn (cells p) (p .allowance) s′ ps ps′ r) where

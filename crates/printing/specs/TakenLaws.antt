@@ -112,7 +112,7 @@ module _ (p : Reading) (f : Bytes) (h : Taken p f) where
   pub taken-drawable : (s n : ℕ) → s ≡ scratch-size → 2 * most-cells ≤ n → Drawable (cells p) s n
   taken-drawable s n e h =
       let t = p .columns in
-      record { fit = fit; room = omega (arith, taken-few, table-length (t .parent) (t .kind) (t .width) (t .depth) (t .count)); scratch = e }
+      record { fit = fit; room = omega (arith, taken-few, table-length (t .parent) (t .kind) (t .width) (t .depth) (t .rank) (t .count)); scratch = e }
 
   -- ---- its cells
   module _ (c : ℕ) (i : c < p .columns .count) where
@@ -141,7 +141,7 @@ module _ (p : Reading) (f : Bytes) (h : Taken p f) where
         rw (part-of-record f c labelled, a, b)
 
     is-cell : Is (cells p) c
-    is-cell = let t = p .columns in omega (arith, table-length (t .parent) (t .kind) (t .width) (t .depth) (t .count))
+    is-cell = let t = p .columns in omega (arith, table-length (t .parent) (t .kind) (t .width) (t .depth) (t .rank) (t .count))
 
     -- its line
     pub cell-short : length (cell-of p f c) ≤ cell-size

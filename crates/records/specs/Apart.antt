@@ -11,7 +11,7 @@ use Rattle.planfile.specs.Reading.{column}
 
 -- stands past the end of a table
 abbrev pub no-record : Record
-no-record = record { parent = 0; kind = 0; width = 0; depth = 0; «label_length» = 0; «label_start» = 0 }
+no-record = record { parent = 0; kind = 0; width = 0; depth = 0; rank = 0; «label_length» = 0; «label_start» = 0 }
 
 -- the record of cell c
 abbrev pub lent-at : List Record → ℕ → Record
@@ -26,6 +26,7 @@ columns t count n =
       kind = column (λ c. lent-at t c .kind) n;
       width = column (λ c. lent-at t c .width) n;
       depth = column (λ c. lent-at t c .depth) n;
+      rank = column (λ c. lent-at t c .rank) n;
     }
 
 -- how many records are taken: none of a table that has too many
@@ -38,8 +39,8 @@ lent-columns t = columns t (length t) (clipped (length t))
 
 -- ---- as the code makes them
 abbrev pub blank : ℕ → Columns
-blank count = record { count = count; parent = replicate most-cells 0; kind = replicate most-cells 0; width = replicate most-cells 0; depth = replicate most-cells 0 }
+blank count = record { count = count; parent = replicate most-cells 0; kind = replicate most-cells 0; width = replicate most-cells 0; depth = replicate most-cells 0; rank = replicate most-cells 0 }
 
 abbrev pub with-record : Columns → ℕ → Record → Columns
 with-record t c r =
-    record { count = t .count; parent = set (t .parent) c (r .parent); kind = set (t .kind) c (r .kind); width = set (t .width) c (r .width); depth = set (t .depth) c (r .depth) }
+    record { count = t .count; parent = set (t .parent) c (r .parent); kind = set (t .kind) c (r .kind); width = set (t .width) c (r .width); depth = set (t .depth) c (r .depth); rank = set (t .rank) c (r .rank) }

@@ -52,11 +52,11 @@ pub apart-cells : (t : List Record) → length t ≤ most-cells → table-of (le
 unfolding table cells-of columns clipped bare
 apart-cells t h =
     rw (le-ltb most-cells (length t) h) (cells-same _ 0 t (λ c l.
-    rw (zero-add, column-at (λ c. lent-at t c .parent) _ c h l, column-at (λ c. lent-at t c .kind) _ c h l, column-at (λ c. lent-at t c .width) _ c h l, column-at (λ c. lent-at t c .depth) _ c h l)))
+    rw (zero-add, column-at (λ c. lent-at t c .parent) _ c h l, column-at (λ c. lent-at t c .kind) _ c h l, column-at (λ c. lent-at t c .width) _ c h l, column-at (λ c. lent-at t c .depth) _ c h l, column-at (λ c. lent-at t c .rank) _ c h l)))
 
 pub apart-length : (t : List Record) → length (table-of (lent-columns t)) ≡ length (cells-of t)
 unfolding cells-of columns
-apart-length t = table-length _ _ _ _ (length t) ∙ sym (length-map t bare)
+apart-length t = table-length _ _ _ _ _ (length t) ∙ sym (length-map t bare)
 
 -- what a call on the columns does, it does on the records, if tables that are too long are all one to it
 pub of-records : (P : Table → Type 0) (t : List Record) → ((u v : Table) → most-cells < length u → most-cells < length v → P u → P v) → P (table-of (lent-columns t)) → P (cells-of t)

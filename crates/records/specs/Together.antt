@@ -13,6 +13,7 @@ record-in r c =
       kind = getD (r .columns .kind) c 0;
       width = getD (r .columns .width) c 0;
       depth = getD (r .columns .depth) c 0;
+      rank = getD (r .columns .rank) c 0;
       «label_length» = getD (r .«label_length») c 0;
       «label_start» = getD (r .«label_start») c 0;
     }

@@ -28,6 +28,7 @@ fn empty(count: usize) -> Columns
         kind: [0u8; MOST_CELLS],
         width: [0u16; MOST_CELLS],
         depth: [0u8; MOST_CELLS],
+        rank: [0u8; MOST_CELLS],
     }
 }
 
@@ -52,6 +53,7 @@ pub fn columns_of(table: &[Record]) -> Columns
         t.kind[c] = r.kind;
         t.width[c] = r.width;
         t.depth[c] = r.depth;
+        t.rank[c] = r.rank;
         c += 1;
     }
     t
@@ -67,6 +69,7 @@ pub fn fill(reading: Reading, n: usize, table: &mut [Record])
         table[c] = Record {
             parent: reading.columns.parent[c],
             kind: reading.columns.kind[c],
+            rank: reading.columns.rank[c],
             width: reading.columns.width[c],
             depth: reading.columns.depth[c],
             label_length: reading.label_length[c],

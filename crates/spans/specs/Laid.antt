@@ -1,197 +1,319 @@
--- From sizes to spans, from the first cell to the last. Assumes nothing.
-use mathlib.Core.Path.{_≡_, refl, sym, _∙_, ap}
+-- From sizes to spans: each cell, from the first to the last, shares its span out among its children, in their order. Assumes nothing.
+use mathlib.Core.Path.{_≡_, refl, sym, _∙_}
 use mathlib.Core.Logic.{_≢_}
-use Prim.Native.Nat.{ℕ, zero, suc, _+_, _-_, _≤_, _<_}
+use mathlib.Core.List.{List, [], _∷_}
+use Prim.Native.Nat.{ℕ, zero, suc, _+_, _*_, _≤_, _<_}
 use native.Mathlib.Omega.{arith}
-use native.Mathlib.Decide.{ℕ-discrete, decLt}
-use lib.ListN.{length}
-use Rattle.plan.specs.Plan.{Table, Is, Sound, parent}
-use Rattle.plan.specs.PlanLaws.{Child, child-read}
-use Rattle.spans.specs.Columns.{Put}
-use Rattle.spans.specs.Order.{Beside, beside, first-lowest, last-highest}
+use native.Mathlib.Decide.{ℕ-discrete}
+use lib.ListN.{length, set, length-set}
+use lib.Seq.{getD-set-same, getD-set-other}
+use lib.Dec.{T}
+use Rattle.plan.specs.Limits.{most-cells}
+use Rattle.plan.specs.Lists.{At, mem, total}
+use Rattle.plan.specs.ListLaws.{mem-here, mem-there, mem-at}
+use Rattle.plan.specs.SortLaws.{Ordered, before-once}
+use Rattle.plan.specs.Plan.{Table, Is, Sound, parent, rank, children}
+use Rattle.plan.specs.PlanLaws.{child-read, child-show, children-ordered}
+use Rattle.plan.specs.Paths.{child-less}
+use Rattle.links.specs.Links.{link}
+use Rattle.links.specs.Chain.{Chain, line-of}
+use Rattle.spans.specs.Columns.{at}
 use Rattle.spans.specs.Sizes.{Sized}
 use Rattle.spans.specs.Spans.{Spans}
 
-module _ (t : Table) (size rest near : ℕ → ℕ) where
-  -- the highest child of f before cell k
-  pub data Before (k : ℕ) (tail : ℕ → ℕ) (f : ℕ) : Type 0 where
-    none : ((s : ℕ) → Child t f s → s < k → ⊥) → tail f ≡ 0 → Before k tail f
-    some : (q : ℕ) → Child t f q → q < k → ((s : ℕ) → Child t f s → s < k → q < s → ⊥) → tail f ≡ size q → Before k tail f
+-- the four columns
+pub record Cols : Type 0 where
+  pub firsts : List ℕ
+  pub ends : List ℕ
+  pub froms : List ℕ
+  pub tos : List ℕ
 
-  -- once the cells before k are laid
-  pub record Laid (k : ℕ) (first end from to tail : ℕ → ℕ) : Type 0 where
-    pub whole : (c : ℕ) → Is t c → c < k → end c ≡ first c + size c
-    pub room : (c : ℕ) → Is t c → c < k → end c ≤ length t
-    pub down : (c s : ℕ) → Child t c s → s < k → end s + rest s ≡ end c
-    pub to-near : (c s : ℕ) → Child t c s → s < k → to s ≡ end s + near s
-    pub elder : (c u v : ℕ) → Beside t c u v → v < k → from v + size u ≡ first v
-    pub eldest : (c v : ℕ) → Child t c v → ((s : ℕ) → Child t c s → s < v → ⊥) → v < k → from v ≡ first v
-    pub latest : (f : ℕ) → Is t f → Before k tail f
-    pub root-from : from 0 ≡ first 0
-    pub root-to : to 0 ≡ end 0
+abbrev pub cols : (first end from to : List ℕ) → Cols
+cols a b c d = record { firsts = a; ends = b; froms = c; tos = d }
 
-module _ (t : Table) {size rest near : ℕ → ℕ} (z : Sized t size rest near) where
-  pub laid-start : {first end from to tail : ℕ → ℕ} → Is t 0 → first 0 ≡ 0 → from 0 ≡ 0 → end 0 ≡ size 0 → to 0 ≡ size 0 → ((c : ℕ) → Is t c → tail c ≡ 0) → Laid t size rest near 1 first end from to tail
-  laid-start {first} {end} {from} {to} {tail} i a b c d bare = record {
-    whole = λ x j h. let e : x ≡ 0 = omega arith in rw e (omega arith);
-    room = λ x j h. let e : x ≡ 0 = omega arith in rw e (omega (arith, z .few 0 i));
-    down = λ x s o h. absurd (omega (arith, o .low));
-    to-near = λ x s o h. absurd (omega (arith, o .low));
-    elder = λ x u v o h. absurd (omega (arith, o .second .low));
-    eldest = λ x v o g h. absurd (omega (arith, o .low));
-    latest = λ f j. Before.none (λ s o h. omega (arith, o .low)) (bare f j);
-    root-from = omega arith;
-    root-to = omega arith;
+pub record Long (c : Cols) : Type 0 where
+  pub firsts-long : length (c .firsts) ≡ most-cells
+  pub ends-long : length (c .ends) ≡ most-cells
+  pub froms-long : length (c .froms) ≡ most-cells
+  pub tos-long : length (c .tos) ≡ most-cells
+
+-- the same numbers at x
+pub record Same (c d : Cols) (x : ℕ) : Type 0 where
+  pub first-same : at (d .firsts) x ≡ at (c .firsts) x
+  pub end-same : at (d .ends) x ≡ at (c .ends) x
+  pub from-same : at (d .froms) x ≡ at (c .froms) x
+  pub to-same : at (d .tos) x ≡ at (c .tos) x
+
+module _ (size : ℕ → ℕ) where
+  -- the size of the first of a list
+  abbrev pub next-size : List ℕ → ℕ
+  next-size [] = 0
+  next-size (x ∷ l) = size x
+
+  -- the cell s gets the span from a on; b is where that of the sibling right before begins, z the size of the one right after
+  abbrev pub share : Cols → (b a s z : ℕ) → Cols
+  share c b a s z = cols (set (c .firsts) s a) (set (c .ends) s (a + size s)) (set (c .froms) s b) (set (c .tos) s (a + size s + z))
+
+  -- the cells of a list, one after the other
+  unfoldable pub spread : Cols → ℕ → ℕ → List ℕ → Cols
+  spread c b a [] = c
+  spread c b a (s ∷ l) = spread (share c b a s (next-size l)) a (a + size s) l
+
+  pub spread-none : (c : Cols) (b a : ℕ) → spread c b a [] ≡ c
+  unfolding spread
+  spread-none c b a = refl
+
+  pub spread-cons : (c : Cols) (b a s : ℕ) (l : List ℕ) → spread c b a (s ∷ l) ≡ spread (share c b a s (next-size l)) a (a + size s) l
+  unfolding spread
+  spread-cons c b a s l = refl
+
+  pub share-long : (c : Cols) (b a s z : ℕ) → Long c → Long (share c b a s z)
+  share-long c b a s z h = record {
+    firsts-long = length-set (c .firsts) s a ∙ h .firsts-long;
+    ends-long = length-set (c .ends) s (a + size s) ∙ h .ends-long;
+    froms-long = length-set (c .froms) s b ∙ h .froms-long;
+    tos-long = length-set (c .tos) s (a + size s + z) ∙ h .tos-long;
   }
 
-  pub spans : Sound t → {first end from to tail : ℕ → ℕ} → Laid t size rest near (length t) first end from to tail → Spans t first end from to
-  spans sound {first} {end} {from} {to} l = record {
-    some = λ c i. omega (arith, l .whole c i i, z .some c i);
-    under = λ c i s h.
-        let o = child-read t c i s h in
-        let u = above c s o in
-        (omega (arith, l .whole c u u, l .whole s (o .is) (o .is), l .down c s o (o .is), z .held c s o), omega (arith, l .down c s o (o .is)));
-    beside = λ c i u v h k. meets c u v (beside t c i u v h k);
-    elder = λ c i u v h k.
-        let b = beside t c i u v h k in
-        omega (arith, l .elder c u v b (b .second .is), meets c u v b, l .whole u (b .first .is) (b .first .is));
-    eldest = λ c v h. let o = child-read t c 0 v h in l .eldest c v o (λ s p m. first-lowest t c v s h p m) (o .is);
-    younger = λ c i u v h k.
-        let b = beside t c i u v h k in
-        omega (arith, l .to-near c u (b .first) (b .first .is), z .next-near c u v b, meets c u v b, l .whole v (b .second .is) (b .second .is));
-    youngest = λ c i u h e.
-        let o = child-read t c i u h in
-        omega (arith, l .to-near c u o (o .is), z .last c u o (λ s p m. last-highest t c i u s h e p m));
-    root-from = l .root-from;
-    root-to = l .root-to;
+  pub spread-long : (c : Cols) (b a : ℕ) (l : List ℕ) → Long c → Long (spread c b a l)
+  unfolding spread
+  spread-long c b a [] h = h
+  spread-long c b a (s ∷ l) h = spread-long (share c b a s (next-size l)) a (a + size s) l (share-long c b a s (next-size l) h)
+
+  -- other cells keep theirs
+  spread-off : (c : Cols) (b a : ℕ) (l : List ℕ) (x : ℕ) → (T (mem x l) → ⊥) → Same c (spread c b a l) x
+  unfolding spread
+  spread-off c b a [] x h = record { first-same = refl; end-same = refl; from-same = refl; to-same = refl }
+  spread-off c b a (s ∷ l) x h =
+      let e : x ≢ s = λ z. h (mem-here x s l z) in
+      let r = spread-off (share c b a s (next-size l)) a (a + size s) l x (λ m. h (mem-there x s l m)) in
+      record {
+        first-same = r .first-same ∙ getD-set-other (c .firsts) s x a 0 e;
+        end-same = r .end-same ∙ getD-set-other (c .ends) s x (a + size s) 0 e;
+        from-same = r .from-same ∙ getD-set-other (c .froms) s x b 0 e;
+        to-same = r .to-same ∙ getD-set-other (c .tos) s x (a + size s + next-size l) 0 e;
+      }
+
+  -- the spans of a list's cells, from a on, one right after the other
+  abbrev pub Row : Cols → ℕ → ℕ → List ℕ → Type 0
+  Row c b a [] = Unit {0}
+  Row c b a (s ∷ l) = record { first-is : at (c .firsts) s ≡ a; end-is : at (c .ends) s ≡ a + size s; from-is : at (c .froms) s ≡ b; to-is : at (c .tos) s ≡ a + size s + next-size l; rest : Row c a (a + size s) l }
+
+  row-same : (c d : Cols) (b a : ℕ) (l : List ℕ) → ((x : ℕ) → T (mem x l) → Same c d x) → Row c b a l → Row d b a l
+  row-same c d b a [] h r = tt
+  row-same c d b a (s ∷ l) h r =
+      let e = h s (mem-here s s l refl) in
+      record {
+        first-is = e .first-same ∙ r .first-is;
+        end-is = e .end-same ∙ r .end-is;
+        from-is = e .from-same ∙ r .from-is;
+        to-is = e .to-same ∙ r .to-is;
+        rest = row-same c d a (a + size s) l (λ x m. h x (mem-there x s l m)) (r .rest);
+      }
+
+  spread-row : (f : ℕ → ℕ) (c : Cols) (b a : ℕ) (l : List ℕ) → Long c → Ordered f l → ((x : ℕ) → T (mem x l) → x < most-cells) → Row (spread c b a l) b a l
+  unfolding spread
+  spread-row f c b a [] h o n = tt
+  spread-row f c b a (s ∷ l) h o n =
+      let c′ = share c b a s (next-size l) in
+      let k = n s (mem-here s s l refl) in
+      let r = spread-off c′ a (a + size s) l s (λ m. before-once f s s (o .0 s m) refl) in
+      record {
+        first-is = r .first-same ∙ getD-set-same (c .firsts) s a 0 (omega (arith, h .firsts-long));
+        end-is = r .end-same ∙ getD-set-same (c .ends) s (a + size s) 0 (omega (arith, h .ends-long));
+        from-is = r .from-same ∙ getD-set-same (c .froms) s b 0 (omega (arith, h .froms-long));
+        to-is = r .to-same ∙ getD-set-same (c .tos) s (a + size s + next-size l) 0 (omega (arith, h .tos-long));
+        rest = spread-row f c′ a (a + size s) l (share-long c b a s (next-size l) h) (o .1) (λ x m. n x (mem-there x s l m));
+      }
+
+  -- ---- what a row says of its cells
+  row-whole : (c : Cols) (b a : ℕ) (l : List ℕ) → Row c b a l → (i s : ℕ) → At l i s → at (c .ends) s ≡ at (c .firsts) s + size s
+  row-whole c b a [] r i s h = absurd h
+  row-whole c b a (x ∷ l) r zero s h = rw h (omega (arith, r .first-is, r .end-is))
+  row-whole c b a (x ∷ l) r (suc i) s h = row-whole c a (a + size x) l (r .rest) i s h
+
+  row-inside : (c : Cols) (b a : ℕ) (l : List ℕ) → Row c b a l → (i s : ℕ) → At l i s → (a ≤ at (c .firsts) s) × (at (c .ends) s ≤ a + total size l)
+  unfolding total
+  row-inside c b a [] r i s h = absurd h
+  row-inside c b a (x ∷ l) r zero s h = rw h (omega (arith, r .first-is), omega (arith, r .end-is))
+  row-inside c b a (x ∷ l) r (suc i) s h = let k = row-inside c a (a + size x) l (r .rest) i s h in (omega arith, omega arith)
+
+  record Met (c : Cols) (u v : ℕ) : Type 0 where
+    meets : at (c .ends) u ≡ at (c .firsts) v
+    from-is : at (c .froms) v ≡ at (c .firsts) u
+    to-is : at (c .tos) u ≡ at (c .ends) v
+
+  row-beside : (c : Cols) (b a : ℕ) (l : List ℕ) → Row c b a l → (i u v : ℕ) → At l i u → At l (suc i) v → Met c u v
+  row-beside c b a [] r i u v h k = absurd h
+  row-beside c b a (x ∷ []) r zero u v h k = absurd k
+  row-beside c b a (x ∷ y ∷ l) r zero u v h k =
+      rw (h, k)
+      (record { meets = r .end-is ∙ sym (r .rest .first-is); from-is = r .rest .from-is ∙ sym (r .first-is); to-is = r .to-is ∙ sym (r .rest .end-is) })
+  row-beside c b a (x ∷ l) r (suc i) u v h k = row-beside c a (a + size x) l (r .rest) i u v h k
+
+  row-first : (c : Cols) (a : ℕ) (l : List ℕ) → Row c a a l → (v : ℕ) → At l 0 v → at (c .froms) v ≡ at (c .firsts) v
+  row-first c a [] r v h = absurd h
+  row-first c a (x ∷ l) r v h = rw h (r .from-is ∙ sym (r .first-is))
+
+  row-last : (c : Cols) (b a : ℕ) (l : List ℕ) → Row c b a l → (i u : ℕ) → At l i u → length l ≡ suc i → at (c .tos) u ≡ at (c .ends) u
+  row-last c b a [] r i u h e = absurd h
+  row-last c b a (x ∷ []) r zero u h e = rw h (omega (arith, r .to-is, r .end-is))
+  row-last c b a (x ∷ y ∷ l) r zero u h e = absurd (omega arith)
+  row-last c b a (x ∷ l) r (suc i) u h e = row-last c a (a + size x) l (r .rest) i u h (omega arith)
+
+-- ---- the loop over the cells
+-- the children of f share what its span has after its own number
+abbrev pub spread-at : (ℕ → ℕ) → Cols → ℕ → List ℕ → Cols
+spread-at size c f l = spread size c (at (c .firsts) f + 1) (at (c .firsts) f + 1) l
+
+-- the children of f, as the links have them
+abbrev pub kids : List ℕ → ℕ → List ℕ
+kids ls f = line-of ls (link ls f 0)
+
+-- a number of a column, 0 for no cell
+abbrev pub or-none : List ℕ → ℕ → ℕ
+or-none xs zero = 0
+or-none xs (suc m) = at xs (suc m)
+
+-- what sharing out the span of f needs
+pub record Sharing (ls sizes : List ℕ) (c : Cols) (f : ℕ) : Type 0 where
+  pub long : Long c
+  pub is : f < most-cells
+  pub links-long : 4 * most-cells ≤ length ls
+  pub chain : Chain ls (link ls f 0) (kids ls f)
+  pub small : at (c .firsts) f + 1 + total (at sizes) (kids ls f) ≤ most-cells
+
+-- x has its span once the cells before k have shared theirs out
+abbrev pub Has : Table → ℕ → ℕ → Type 0
+Has t k zero = Unit {0}
+Has t k (suc m) = parent t (suc m) < k
+
+pub record Laid (t : Table) (size : ℕ → ℕ) (k : ℕ) (c : Cols) : Type 0 where
+  pub long : Long c
+  pub rows : (f : ℕ) → Is t f → f < k → Row size c (at (c .firsts) f + 1) (at (c .firsts) f + 1) (children t f)
+  pub room : (x : ℕ) → Is t x → Has t k x → at (c .firsts) x + size x ≤ length t
+  pub root-first : at (c .firsts) 0 ≡ 0
+  pub root-end : at (c .ends) 0 ≡ size 0
+  pub root-from : at (c .froms) 0 ≡ 0
+  pub root-to : at (c .tos) 0 ≡ size 0
+
+module _ (t : Table) (sound : Sound t) (few : length t ≤ most-cells) {size : ℕ → ℕ} (z : Sized t size) where
+  pub laid-start : (c : Cols) → Is t 0 → Long c → at (c .firsts) 0 ≡ 0 → at (c .ends) 0 ≡ size 0 → at (c .froms) 0 ≡ 0 → at (c .tos) 0 ≡ size 0 → Laid t size 0 c
+  laid-start c i long a b d e = record {
+    long = long;
+    rows = λ f j h. absurd (omega arith);
+    room = start;
+    root-first = a;
+    root-end = b;
+    root-from = d;
+    root-to = e;
   }
     where
-      above : (c s : ℕ) → Child t c s → Is t c
-      above c s o = omega (arith, sound s (o .low) (o .is), o .of, o .is)
+      start : (x : ℕ) → Is t x → Has t 0 x → at (c .firsts) x + size x ≤ length t
+      start zero j h = omega (arith, z .few 0 i)
+      start (suc m) j h = absurd (omega arith)
 
-      meets : (c u v : ℕ) → Beside t c u v → end u ≡ first v
-      meets c u v b =
-          omega (
-            arith,
-            l .down c u (b .first) (b .first .is),
-            l .down c v (b .second) (b .second .is),
-            z .next-rest c u v b,
-            l .whole v (b .second .is) (b .second .is),
-          )
+  -- the cell k has its span when its turn comes
+  has-own : (k : ℕ) → Is t k → Has t k k
+  has-own zero i = tt
+  has-own (suc m) i = sound (suc m) (omega arith) i
 
-  module _ (f j : ℕ) (own : Child t f j) (lower : f < j) {first end from to tail : ℕ → ℕ} (h : Laid t size rest near j first end from to tail) where
-    top : Is t f
-    top = omega (arith, own .is)
+  module _ (k : ℕ) (i : Is t k) (c : Cols) (h : Laid t size k c) where
+    abbrev d : Cols
+    d = spread-at size c k (children t k)
 
-    -- the child before j is the sibling right before it
-    right-before : (q : ℕ) → Child t f q → q < j → ((s : ℕ) → Child t f s → s < j → q < s → ⊥) → Beside t f q j
-    right-before q o l g = record { first = o; second = own; less = l; none = λ s p a b. g s p b a }
+    -- the children of k are later cells, and all in the table
+    later : (x : ℕ) → T (mem x (children t k)) → (k < x) × Is t x
+    later x m = let (j, a) = mem-at (children t k) x m in child-less t sound k j x a
 
-    pub end-fits : rest j + size j + 1 ≤ end f
-    end-fits = omega (arith, z .held f j own, h .whole f top lower)
+    pub room-here : at (c .firsts) k + 1 + total size (children t k) ≤ length t
+    room-here = omega (arith, h .room k i (has-own k i), z .parts k i)
 
-    pub tail-fits : tail f + (rest j + size j) ≤ end f
-    tail-fits = go (h .latest f top)
+    off : (x : ℕ) → (T (mem x (children t k)) → ⊥) → Same c d x
+    off x n = spread-off size c (at (c .firsts) k + 1) (at (c .firsts) k + 1) (children t k) x n
+
+    early : (x : ℕ) → x ≤ k → Same c d x
+    early x l = off x (λ m. omega (arith, later x m .0))
+
+    own-row : Row size d (at (c .firsts) k + 1) (at (c .firsts) k + 1) (children t k)
+    own-row =
+        spread-row size (rank t) c (at (c .firsts) k + 1) (at (c .firsts) k + 1) (children t k) (h .long) (children-ordered t k)
+        (λ x m. omega (arith, later x m .1, few))
+
+    -- a child of f is none of k
+    not-mine : (f x : ℕ) → f ≢ k → T (mem x (children t f)) → T (mem x (children t k)) → ⊥
+    not-mine f x ne p q =
+        let (i, a) = mem-at (children t f) x p in
+        let (j, b) = mem-at (children t k) x q in
+        ne (sym (child-read t f i x a .of) ∙ child-read t k j x b .of)
+
+    rows-next : (f : ℕ) → Is t f → f < suc k → Row size d (at (d .firsts) f + 1) (at (d .firsts) f + 1) (children t f)
+    rows-next f j l = rw (early f (omega arith) .first-same) (go (ℕ-discrete f k))
       where
-        go : Before t size rest near j tail f → tail f + (rest j + size j) ≤ end f
-        go (Before.none g e) = omega (arith, end-fits)
-        go (Before.some q o l g e) =
-            omega (arith, z .next-rest f q j (right-before q o l g), h .down f q o l, h .whole q (o .is) l)
+        go : Dec (f ≡ k) → Row size d (at (c .firsts) f + 1) (at (c .firsts) f + 1) (children t f)
+        go (yes e) = rw e own-row
+        go (no e) = row-same size c d (at (c .firsts) f + 1) (at (c .firsts) f + 1) (children t f) (λ x m. off x (not-mine f x e m)) (h .rows f j (omega arith))
 
-    pub near-fits : end f + near j ≤ length t + length t
-    near-fits = omega (arith, h .room f top lower, z .near-few j (own .is))
+    room-next : (x : ℕ) → Is t x → Has t (suc k) x → at (d .firsts) x + size x ≤ length t
+    room-next zero j p = rw (early 0 (omega arith) .first-same) (h .room 0 j tt)
+    room-next (suc m) j p = go (ℕ-discrete (parent t (suc m)) k)
+      where
+        go : Dec (parent t (suc m) ≡ k) → at (d .firsts) (suc m) + size (suc m) ≤ length t
+        go (yes e) =
+            let (q, a) = child-show t k (suc m) (record { low = omega arith; is = j; of = e }) in
+            let w = row-whole size d (at (c .firsts) k + 1) (at (c .firsts) k + 1) (children t k) own-row q (suc m) a in
+            let u = row-inside size d (at (c .firsts) k + 1) (at (c .firsts) k + 1) (children t k) own-row q (suc m) a .1 in
+            omega (arith, room-here)
+        go (no e) =
+            rw (off (suc m) (λ n. let (q, a) = mem-at (children t k) (suc m) n in e (child-read t k q (suc m) a .of)) .first-same)
+            (h .room (suc m) j (omega arith))
 
-    module _ {first′ end′ from′ to′ tail′ : ℕ → ℕ}
-        (pe : Put end end′ j (end f - rest j))
-        (pf : Put first first′ j (end f - rest j - size j))
-        (pt : Put to to′ j (end f - rest j + near j))
-        (pm : Put from from′ j (end f - rest j - size j - tail f))
-        (pl : Put tail tail′ f (size j)) where
-      -- u is j, whose parent is f
-      with-j : (P : ℕ → ℕ → Type 0) (c u : ℕ) → Child t c u → u ≡ j → P f j → P c u
-      with-j P c u o e p = let ef : f ≡ c = sym (own .of) ∙ sym (ap (parent t) e) ∙ o .of in rw (← ef, e) p
+    pub laid-next : Laid t size (suc k) d
+    laid-next =
+        let e = early 0 (omega arith) in
+        record {
+          long = spread-long size c (at (c .firsts) k + 1) (at (c .firsts) k + 1) (children t k) (h .long);
+          rows = rows-next;
+          room = room-next;
+          root-first = e .first-same ∙ h .root-first;
+          root-end = e .end-same ∙ h .root-end;
+          root-from = e .from-same ∙ h .root-from;
+          root-to = e .to-same ∙ h .root-to;
+        }
 
-      whole-next : (c : ℕ) → Is t c → c < suc j → end′ c ≡ first′ c + size c
-      whole-next c i l = go (ℕ-discrete c j)
-        where
-          go : Dec (c ≡ j) → end′ c ≡ first′ c + size c
-          go (yes e) = rw e (omega (arith, pe .here, pf .here, end-fits))
-          go (no e) = omega (arith, pe .off c e, pf .off c e, h .whole c i (omega arith))
+  -- ---- in the end
+  pub spans : (c : Cols) → Laid t size (length t) c → Spans t (at (c .firsts)) (at (c .ends)) (at (c .froms)) (at (c .tos))
+  spans c h = record {
+    some = some;
+    under = λ f i s a. under f i s a;
+    beside = λ f i u v a b. met f i u v a b .meets;
+    elder = λ f i u v a b. met f i u v a b .from-is;
+    eldest = λ f v a. row-first size c (at (c .firsts) f + 1) (children t f) (row f 0 v a) v a;
+    younger = λ f i u v a b. met f i u v a b .to-is;
+    youngest = λ f i u a e. row-last size c (at (c .firsts) f + 1) (at (c .firsts) f + 1) (children t f) (row f i u a) i u a e;
+    root-from = h .root-from ∙ sym (h .root-first);
+    root-to = h .root-to ∙ sym (h .root-end);
+  }
+    where
+      above : (f i s : ℕ) → At (children t f) i s → Is t f
+      above f i s a = let (l, j) = child-less t sound f i s a in omega arith
 
-      room-next : (c : ℕ) → Is t c → c < suc j → end′ c ≤ length t
-      room-next c i l = go (ℕ-discrete c j)
-        where
-          go : Dec (c ≡ j) → end′ c ≤ length t
-          go (yes e) = rw e (omega (arith, pe .here, h .room f top lower))
-          go (no e) = omega (arith, pe .off c e, h .room c i (omega arith))
+      row : (f i s : ℕ) → At (children t f) i s → Row size c (at (c .firsts) f + 1) (at (c .firsts) f + 1) (children t f)
+      row f i s a = h .rows f (above f i s a) (above f i s a)
 
-      down-next : (c s : ℕ) → Child t c s → s < suc j → c < s → end′ s + rest s ≡ end′ c
-      down-next c s o l m = go (ℕ-discrete s j)
-        where
-          go : Dec (s ≡ j) → end′ s + rest s ≡ end′ c
-          go (yes e) =
-              with-j (λ c s. end′ s + rest s ≡ end′ c) c s o e (omega (arith, pe .here, pe .off f (omega arith), end-fits))
-          go (no e) = omega (arith, pe .off s e, pe .off c (omega arith), h .down c s o (omega arith))
+      whole : (x : ℕ) → Is t x → at (c .ends) x ≡ at (c .firsts) x + size x
+      whole zero i = omega (arith, h .root-first, h .root-end)
+      whole (suc m) i =
+          let (q, a) = child-show t (parent t (suc m)) (suc m) (record { low = omega arith; is = i; of = refl }) in
+          row-whole size c _ _ (children t (parent t (suc m))) (row (parent t (suc m)) q (suc m) a) q (suc m) a
 
-      to-next : (c s : ℕ) → Child t c s → s < suc j → to′ s ≡ end′ s + near s
-      to-next c s o l = go (ℕ-discrete s j)
-        where
-          go : Dec (s ≡ j) → to′ s ≡ end′ s + near s
-          go (yes e) = rw e (omega (arith, pe .here, pt .here))
-          go (no e) = omega (arith, pe .off s e, pt .off s e, h .to-near c s o (omega arith))
+      some : (x : ℕ) → Is t x → at (c .firsts) x < at (c .ends) x
+      some x i = omega (arith, whole x i, z .parts x i)
 
-      elder-j : (u : ℕ) → Beside t f u j → Before t size rest near j tail f → tail f ≡ size u
-      elder-j u b (Before.none g e) = absurd (g u (b .first) (b .less))
-      elder-j u b (Before.some q o l g e) = go (decLt q u) (decLt u q)
-        where
-          go : Dec (q < u) → Dec (u < q) → tail f ≡ size u
-          go (yes m) d = absurd (g u (b .first) (b .less) m)
-          go (no m) (yes d) = absurd (b .none q o d l)
-          go (no m) (no d) = let q-u : q ≡ u = omega arith in e ∙ ap size q-u
+      under : (f i s : ℕ) → At (children t f) i s → (at (c .firsts) f < at (c .firsts) s) × (at (c .ends) s ≤ at (c .ends) f)
+      under f i s a =
+          let u = row-inside size c (at (c .firsts) f + 1) (at (c .firsts) f + 1) (children t f) (row f i s a) i s a in
+          (omega arith, omega (arith, whole f (above f i s a), z .parts f (above f i s a)))
 
-      elder-next : (c u v : ℕ) → Beside t c u v → v < suc j → from′ v + size u ≡ first′ v
-      elder-next c u v b l = go (ℕ-discrete v j)
-        where
-          go : Dec (v ≡ j) → from′ v + size u ≡ first′ v
-          go (yes e) =
-              with-j (λ c v. Beside t c u v → from′ v + size u ≡ first′ v) c v (b .second) e
-              (λ b. omega (arith, pm .here, pf .here, elder-j u b (h .latest f top), tail-fits)) b
-          go (no e) = omega (arith, pm .off v e, pf .off v e, h .elder c u v b (omega arith))
-
-      eldest-j : ((s : ℕ) → Child t f s → s < j → ⊥) → Before t size rest near j tail f → tail f ≡ 0
-      eldest-j g (Before.none _ e) = e
-      eldest-j g (Before.some q o l _ _) = absurd (g q o l)
-
-      eldest-next : (c v : ℕ) → Child t c v → ((s : ℕ) → Child t c s → s < v → ⊥) → v < suc j → from′ v ≡ first′ v
-      eldest-next c v o g l = go (ℕ-discrete v j)
-        where
-          go : Dec (v ≡ j) → from′ v ≡ first′ v
-          go (yes e) =
-              with-j (λ c v. ((s : ℕ) → Child t c s → s < v → ⊥) → from′ v ≡ first′ v) c v o e
-              (λ g. omega (arith, pm .here, pf .here, eldest-j g (h .latest f top))) g
-          go (no e) = omega (arith, pm .off v e, pf .off v e, h .eldest c v o g (omega arith))
-
-      latest-next : (g : ℕ) → Is t g → Before t size rest near (suc j) tail′ g
-      latest-next g i = go (ℕ-discrete g f) (h .latest g i)
-        where
-          not-j : (s : ℕ) → g ≢ f → Child t g s → s ≢ j
-          not-j s e o q = e (sym (o .of) ∙ ap (parent t) q ∙ own .of)
-
-          go : Dec (g ≡ f) → Before t size rest near j tail g → Before t size rest near (suc j) tail′ g
-          go (yes e) b = rw e (Before.some j own (omega arith) (λ s o x y. omega arith) (pl .here))
-          go (no e) (Before.none a b) = Before.none (λ s o m. let n = not-j s e o in a s o (omega arith)) (omega (arith, pl .off g e))
-          go (no e) (Before.some q o l a b) =
-              Before.some q o (omega arith) (λ s p x y. let n = not-j s e p in a s p (omega arith) y) (omega (arith, pl .off g e))
-
-      pub laid-next : Sound t → Laid t size rest near (suc j) first′ end′ from′ to′ tail′
-      laid-next sound = record {
-        whole = whole-next;
-        room = room-next;
-        down = λ c s o l. down-next c s o l (omega (arith, sound s (o .low) (o .is), o .of));
-        to-near = to-next;
-        elder = elder-next;
-        eldest = eldest-next;
-        latest = latest-next;
-        root-from = omega (arith, pm .off 0 (omega arith), pf .off 0 (omega arith), h .root-from);
-        root-to = omega (arith, pt .off 0 (omega arith), pe .off 0 (omega arith), h .root-to);
-      }
+      met : (f i u v : ℕ) → At (children t f) i u → At (children t f) (suc i) v → Met size c u v
+      met f i u v a b = row-beside size c (at (c .firsts) f + 1) (at (c .firsts) f + 1) (children t f) (row f i u a) i u v a b

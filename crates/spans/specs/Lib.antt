@@ -1,4 +1,3 @@
-pub mod Order
 pub mod Kin
 pub mod Spans
 pub mod Columns

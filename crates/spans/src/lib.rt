@@ -1,24 +1,20 @@
-// Where the cells stand as seen from one another, told by numbers: passes over the cells, up or down.
+// Where the cells stand as seen from one another, told by numbers: passes over the cells, up or down, and along the links.
+use links::link_of;
 use plan::Columns;
 use plan::limits::MOST_CELLS;
 ghost use mathlib.Core.Path.{_≡_};
-ghost use Prim.Native.Nat.{_<_, max};
-ghost use lib.ListN.{getD};
+ghost use Prim.Native.Nat.{_+_, _*_, _≤_, _<_, max};
+ghost use lib.ListN.{length, getD};
 ghost use Rattle.plan.specs.Limits.{«most-cells»};
 ghost use Rattle.plan.specs.Columns.{«table-of»};
 ghost use Rattle.plan.specs.Fit.{Fit};
+ghost use Rattle.links.specs.Links.{link, Links};
 ghost use Rattle.spans.specs.Columns.{at};
 ghost use Rattle.spans.specs.Counted.{Counted};
 ghost use Rattle.spans.specs.Deepest.{Deepest};
 ghost use Rattle.spans.specs.Sizes.{Sized};
+ghost use Rattle.spans.specs.Laid.{cols, kids, «or-none», «spread-at», Sharing};
 ghost use Rattle.spans.specs.Spans.{Spans};
-
-// size: how many cells are at or below a cell; rest: how many at or below its later siblings; near: at or below the next one.
-pub struct Sizes {
-    pub size: [u32; MOST_CELLS],
-    pub rest: [u32; MOST_CELLS],
-    pub near: [u32; MOST_CELLS],
-}
 
 // The span of each cell, from first to before end; where the span of the sibling right before begins, and where that of the one right after ends.
 pub struct Standing {
@@ -48,53 +44,79 @@ pub fn parent_of(parents: &[u16; MOST_CELLS], c: usize) -> usize
     wide(parents[c])
 }
 
-// From the last cell to the first: each is taken in by its parent.
-pub fn measure(t: Columns) -> Sizes
+// How many cells are at or below each cell. From the last cell to the first: each is taken in by its parent.
+pub fn measure(t: Columns) -> [u32; MOST_CELLS]
     requires { ⌜ Fit (table-of t) ⌝ }
-    ensures { λ r. ⌜ Sized (table-of t) (at (r .size)) (at (r .rest)) (at (r .near)) ⌝ }
+    ensures { λ r. ⌜ Sized (table-of t) (at r) ⌝ }
 {
     let mut size = [1u32; MOST_CELLS];
-    let mut rest = [0u32; MOST_CELLS];
-    let mut near = [0u32; MOST_CELLS];
-    let mut head = [0u32; MOST_CELLS];
     let mut c = t.count;
     while 1 < c {
         c -= 1;
         let f = parent_of(&t.parent, c);
-        let own = size[c];
-        rest[c] = size[f] - 1;
-        size[f] = size[f] + own;
-        near[c] = head[f];
-        head[f] = own;
+        size[f] = size[f] + size[c];
     }
-    Sizes { size, rest, near }
+    size
 }
 
-// From the first cell to the last: each has its part of its parent's span, the later siblings' parts after it.
-pub fn lay(t: Columns, s: Sizes) -> Standing
+// The size of a cell; 0 for none.
+fn size_at(size: &[u32; MOST_CELLS], s: usize) -> u32
+    requires { ⌜ s < most-cells ⌝ }
+    ensures { λ r. ⌜ r ≡ or-none (now (size .entry)) s ⌝ }
+{
+    if s == 0 {
+        return 0;
+    }
+    size[s]
+}
+
+// The children of f, along the links: each has its part of f's span, right after its elder sibling's.
+fn lay_children<'a>(
+    links: &'a [u16],
+    size: &'a [u32; MOST_CELLS],
+    f: usize,
+    first: &mut [u32; MOST_CELLS],
+    end: &mut [u32; MOST_CELLS],
+    from: &mut [u32; MOST_CELLS],
+    to: &mut [u32; MOST_CELLS],
+)
+    requires { ⌜ Sharing (now links) (now size) (cols (now first) (now end) (now from) (now to)) f ⌝ }
+    ensures { λ _. ⌜ cols (now (first .exit)) (now (end .exit)) (now (from .exit)) (now (to .exit))
+        ≡ spread-at (at (now (size .entry))) (cols (now (first .entry)) (now (end .entry)) (now (from .entry)) (now (to .entry))) f (kids (now (links .entry)) f) ⌝ }
+{
+    let mut s = link_of(links, f, 0);
+    let mut elder = first[f] + 1;
+    let mut here = elder;
+    while 0 < s {
+        let after = here + size[s];
+        let next = link_of(links, s, 1);
+        first[s] = here;
+        end[s] = after;
+        from[s] = elder;
+        to[s] = after + size_at(size, next);
+        elder = here;
+        here = after;
+        s = next;
+    }
+}
+
+// From the first cell to the last: each shares its span out among its children.
+pub fn lay(t: Columns, links: &[u16], size: [u32; MOST_CELLS]) -> Standing
     requires { ⌜ Fit (table-of t) ⌝ }
-    requires { ⌜ Sized (table-of t) (at (s .size)) (at (s .rest)) (at (s .near)) ⌝ }
+    requires { ⌜ Links (table-of t) (now links) ⌝ }
+    requires { ⌜ Sized (table-of t) (at size) ⌝ }
     ensures { λ r. ⌜ Spans (table-of t) (at (r .first)) (at (r .end)) (at (r .from)) (at (r .to)) ⌝ }
 {
     let mut first = [0u32; MOST_CELLS];
     let mut end = [0u32; MOST_CELLS];
     let mut from = [0u32; MOST_CELLS];
     let mut to = [0u32; MOST_CELLS];
-    let mut tail = [0u32; MOST_CELLS];
-    let whole = s.size[0];
+    let whole = size[0];
     end[0] = whole;
     to[0] = whole;
-    let mut c: usize = 1;
+    let mut c: usize = 0;
     while c < t.count {
-        let f = parent_of(&t.parent, c);
-        let own = s.size[c];
-        let after = end[f] - s.rest[c];
-        let start = after - own;
-        first[c] = start;
-        end[c] = after;
-        from[c] = start - tail[f];
-        to[c] = after + s.near[c];
-        tail[f] = own;
+        lay_children(links, &size, c, &mut first, &mut end, &mut from, &mut to);
         c += 1;
     }
     Standing {
@@ -126,9 +148,24 @@ pub fn sink(t: Columns, bases: [u32; MOST_CELLS]) -> [u32; MOST_CELLS]
     bottoms
 }
 
+fn wide32(x: u16) -> u32
+    ensures { λ r. ⌜ r ≡ x ⌝ }
+{
+    x as u32
+}
+
+// A cell's place among its siblings, from 0.
+fn place_of(links: &[u16], c: usize) -> u32
+    requires { ⌜ 4 * c + 4 ≤ length (now links) ⌝ }
+    ensures { λ r. ⌜ r ≡ link (now (links .entry)) c 2 ⌝ }
+{
+    wide32(links[4 * c + 2])
+}
+
 // The siblings numbered and the children counted.
-pub fn number(t: Columns) -> Numbers
+pub fn number(t: Columns, links: &[u16]) -> Numbers
     requires { ⌜ Fit (table-of t) ⌝ }
+    requires { ⌜ Links (table-of t) (now links) ⌝ }
     ensures { λ r. ⌜ Counted (table-of t) (at (r .nth)) (at (r .many)) ⌝ }
 {
     let mut nth = [0u32; MOST_CELLS];
@@ -136,9 +173,8 @@ pub fn number(t: Columns) -> Numbers
     let mut c: usize = 1;
     while c < t.count {
         let f = parent_of(&t.parent, c);
-        let k = many[f] + 1;
-        nth[c] = k;
-        many[f] = k;
+        nth[c] = place_of(links, c) + 1;
+        many[f] = many[f] + 1;
         c += 1;
     }
     Numbers { nth, many }

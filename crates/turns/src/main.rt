@@ -4,8 +4,7 @@ use drawing::layout_refusal;
 use io::print_decimal;
 use io::write_all;
 use libc::STDOUT_FILENO;
-use links::LINKS;
-use links::link_all;
+use links::links_of;
 use marks::MARKS;
 use plan::Columns;
 use plan::limits::MOST_CELLS;
@@ -92,8 +91,7 @@ fn watch<'a>(
 fn tour(t: Columns, tops: &[u16; MOST_CELLS], allowance: u32)
     requires { ⌜ Placeable t (now tops) (replicate scratch-size 0) ⌝ }
 {
-    let mut links = [0u16; LINKS];
-    link_all(&t.parent, &t.kind, t.count, &mut links);
+    let links = links_of(t);
     let mut rows = [0u32; SCRATCH_SIZE];
     let mut marks = [0u32; MARKS];
     watch(

@@ -14,14 +14,13 @@ use Rattle.whole.specs.Range.{Within}
 use Rattle.plan.specs.declared.Columns.{Columns}
 use Rattle.plan.specs.Limits.{farthest, most-cells, most-width, most-depth}
 use Rattle.plan.specs.Plan.{Is, parent, kind, appointed, W, D}
-use Rattle.plan.specs.PlanLaws.{Child}
+use Rattle.plan.specs.PlanLaws.{Child, children-few}
 use Rattle.plan.specs.Fit.{Fit}
 use Rattle.plan.specs.Near.{Near}
 use Rattle.plan.specs.Columns.{table-of}
 use Rattle.plan.specs.Trees.{Column}
 use Rattle.spans.specs.Columns.{at, all, all-long, Put, put}
 use Rattle.plan.specs.TableLaws.{length-is, parent-is, kind-is, width-is, depth-is, parent-lower, count-some, count-few}
-use Rattle.spans.specs.Order.{children-few}
 use Rattle.spans.specs.Counted.{Counted}
 use Rattle.rules.specs.Placement.{placed}
 use Rattle.verdict.specs.Passes.{Sights, Agree, Sighted, sight, view-in}

@@ -1,6 +1,7 @@
 // The columns that the rules read, made of a table and a placement.
 use crate::search::SIGHT;
 use crate::search::SIGHTS;
+use links::links_of;
 use plan::Columns;
 use plan::kinds::appointed;
 use plan::limits::FARTHEST;
@@ -129,9 +130,10 @@ fn look_at_tree(t: Columns, out: &mut [u32; SIGHTS])
     requires { ⌜ Fit (table-of t) × (length (now out) ≡ most-cells * sight) ⌝ }
     ensures { λ _. ⌜ Tree-seen (table-of t) (t .count) (now (out .entry)) (now (out .exit)) ⌝ }
 {
-    let numbers = number(t);
+    let links = links_of(t);
+    let numbers = number(t, &links);
     let head = heads_of(t, numbers.many);
-    let span = lay(t, measure(t));
+    let span = lay(t, &links, measure(t));
     scatter(&head.parent, t.count, 0, out);
     scatter(&numbers.nth, t.count, 1, out);
     scatter(&head.middle, t.count, 2, out);

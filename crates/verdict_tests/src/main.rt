@@ -39,6 +39,7 @@ fn table(count: usize, parents: &[u16], kinds: &[u8], widths: &[u16]) -> Columns
         kind,
         width,
         depth,
+        rank: [0u8; 256],
     }
 }
 
@@ -277,10 +278,76 @@ fn half_squares() {
     half_of(b"half of 1023 and 1022", 1023, 1022);
 }
 
+// The same table, with these ranks of cells 1 to 5.
+fn ranked(t: Columns, a: u8, b: u8, c: u8, d: u8, e: u8) -> Columns {
+    let mut rank = [0u8; 256];
+    rank[1] = a;
+    rank[2] = b;
+    rank[3] = c;
+    rank[4] = d;
+    rank[5] = e;
+    let parent = t.parent;
+    let kind = t.kind;
+    let width = t.width;
+    let depth = t.depth;
+    Columns {
+        count: t.count,
+        parent,
+        kind,
+        width,
+        depth,
+        rank,
+    }
+}
+
+// Siblings by rank, then in file order: exchanged, in reverse, with ties, a choice's first branch, of one rank.
+fn by_rank() {
+    let b = ranked(sheet_b(), 1, 0, 0, 0, 0);
+    show(b"B exchanged", check(b, &[0, 0, 0, 2, -6, 2], 0));
+    show(
+        b"B exchanged, in file order",
+        check(b, &[0, 0, -4, 2, 0, 2], 0),
+    );
+    let three = table(4, &[65535, 0, 0, 0], &[2, 1, 1, 1], &[2, 3, 3, 3]);
+    let c = ranked(three, 2, 1, 0, 0, 0);
+    show(b"C in reverse", check(c, &[0, 0, 4, 2, 0, 2, -4, 2], 0));
+    show(
+        b"C in reverse, in file order",
+        check(c, &[0, 0, -4, 2, 0, 2, 4, 2], 0),
+    );
+    let branches = table(4, &[65535, 0, 0, 0], &[4, 1, 1, 1], &[4, 3, 5, 2]);
+    let x = ranked(branches, 1, 1, 0, 0, 0);
+    show(b"last branch first", check(x, &[0, 0, 3, 2, 7, 2, 0, 2], 0));
+    show(
+        b"last branch first, in file order",
+        check(x, &[0, 0, 0, 2, 4, 2, 10, 2], 0),
+    );
+    let five = table(
+        6,
+        &[65535, 0, 0, 0, 0, 0],
+        &[2, 1, 1, 1, 1, 1],
+        &[2, 1, 2, 3, 4, 5],
+    );
+    let u = ranked(five, 200, 7, 255, 0, 7);
+    show(
+        b"ties",
+        check(u, &[0, 0, 6, 2, -3, 2, 8, 2, -8, 2, 0, 2], 0),
+    );
+    show(
+        b"tie exchanged",
+        check(u, &[0, 0, 6, 2, 0, 2, 8, 2, -8, 2, -3, 2], 0),
+    );
+    show(
+        b"B of one rank",
+        check(ranked(sheet_b(), 9, 9, 0, 0, 0), &[0, 0, -4, 2, 0, 2], 0),
+    );
+}
+
 fn main() {
     worked();
     alone();
     far();
     connected();
     half_squares();
+    by_rank();
 }

@@ -1,12 +1,13 @@
 //! The engine's calls for Rust. Each takes its buffers as slices and passes them on as a pointer and a
 //! length, which is all that the library asks: no call asks anything more of its caller.
 
-/// One record of a table; its width is at most 1,023.
+/// One record of a table; its width is at most 1,023. Siblings are ordered by rank, then by number.
 #[repr(C)]
 #[derive(Clone, Copy, Debug, Default, PartialEq, Eq)]
 pub struct Record {
     pub parent: u16,
     pub kind: u8,
+    pub rank: u8,
     pub width: u16,
     pub depth: u8,
     pub label_length: u8,

@@ -29,6 +29,7 @@ fn record(c: &Cell) -> Record {
     Record {
         parent: c.parent,
         kind: c.kind,
+        rank: c.rank,
         width: c.width,
         depth: c.depth,
         label_length: c.label_len,
@@ -91,6 +92,21 @@ impl Run {
         }
     }
 
+    /// How ranks stand in a plan: whether they change the order of some siblings, turn it round, or are shared.
+    fn note_ranks(&mut self, call: &'static str, cells: &[Cell], answer: &str) {
+        let (mut moved, mut turned, mut tied) = (false, false, false);
+        for family in reference::Plan::new(cells).sons {
+            moved |= !family.is_sorted();
+            turned |= family.len() > 2 && family.is_sorted_by(|a, b| a > b);
+            tied |= !family.is_sorted() && family.windows(2).any(|w| cells[w[0]].rank == cells[w[1]].rank);
+        }
+        for (what, is) in [("moved", moved), ("turned", turned), ("tied", tied)] {
+            if is {
+                self.note(call, format!("ranks {what} {answer}"));
+            }
+        }
+    }
+
     /// Coordinates at the edges of question 15, in positions that a call accepts or refuses by it.
     fn note_coordinates<T>(&mut self, call: &'static str, positions: &[i32], n: usize, expected: &Result<T, Refusal>) {
         let (far, cells) = match expected {
@@ -110,6 +126,7 @@ impl Run {
         let pattern = Cell {
             parent: rng.next() as u16,
             kind: rng.next() as u8,
+            rank: rng.next() as u8,
             width: rng.next() as u16,
             depth: rng.next() as u8,
             label_len: rng.next() as u8,
@@ -128,12 +145,11 @@ impl Run {
         self.same("the table after Read", &ours, &records(&theirs), &file);
         self.same("the file after Read", &lent.as_slice(), &file, &file);
         match expected {
-            Ok((n, _)) => self.note_widths("Read", &theirs[..n as usize], &expected),
-            Err(Refusal { number: 8, cell }) => {
-                if let Some(what) = wide_fault(file, cell as usize) {
-                    self.note("Read", what);
-                }
+            Ok((n, _)) => {
+                self.note_widths("Read", &theirs[..n as usize], &expected);
+                self.note_ranks("Read", &theirs[..n as usize], "read");
             }
+            Err(Refusal { number: 8, cell }) if is_too_wide(file, cell as usize) => self.note("Read", "width 1024"),
             _ => {}
         }
         let answer = named(&expected.map(|_| ()));
@@ -203,6 +219,9 @@ impl Run {
         if expected.is_ok_and(|m| m.width >= NEAR_WIDEST) {
             self.note("Layout", "near widest");
         }
+        if expected.is_ok() {
+            self.note_ranks("Layout", cells, "laid");
+        }
         self.note_widths("Layout", cells, &expected);
         self.count("Layout", named(&expected.map(|_| ())));
         ours
@@ -233,6 +252,9 @@ impl Run {
             Ok(reference::Verdict::Broken { rule, .. }) => format!("broken S{rule}"),
             Err(r) => format!("refused {:2}", r.number),
         };
+        if expected.is_ok() {
+            self.note_ranks("Check", cells, &answer);
+        }
         self.count("Check", answer);
     }
 
@@ -265,6 +287,9 @@ impl Run {
         self.same("Frame's answer", &got, &expected, &input);
         self.same("the scratch after Frame", &ours, &theirs, &input);
         self.same("the table after Frame", &table, &records(cells), &input);
+        if expected.is_ok() {
+            self.note_ranks("Frame", cells, "framed");
+        }
         self.note_widths("Frame", cells, &expected);
         let answer = match expected {
             Ok(Some(0)) => "0".into(),
@@ -279,14 +304,14 @@ impl Run {
     fn a_file(&mut self, rng: &mut Rng) {
         let form = rng.pick(&FORMS);
         let mut cells = if rng.once_in(10) { make::too_tall(rng) } else { some_table(rng) };
-        make::narrow(form, &mut cells);
+        make::fit(form, &mut cells);
         let labels = make::labels(rng, &mut cells);
         if rng.once_in(3) {
             make::damage_table(rng, &mut cells);
         }
         let mut file = make::file(form, &labels, &cells, rng.next() as u16);
         let mut mixed = false;
-        match rng.index(14) {
+        match rng.index(13) {
             0..=3 => {}
             4 => file = make::noise(rng, 80),
             5 => {
@@ -310,7 +335,6 @@ impl Run {
                 mixed = true;
                 make::mix_up(rng, form, labels.len(), cells.len(), &mut file);
             }
-            8 if form == Form::Wide && !cells.is_empty() => make::spoil_zero(rng, labels.len(), cells.len(), &mut file),
             _ => {
                 for _ in 0..rng.between(1, 2) {
                     make::damage_file(rng, &mut file);
@@ -403,20 +427,15 @@ fn of_form(file: &[u8], answer: &str) -> String {
     }
 }
 
-/// Which part of question 8 alone refuses a record of a wide file, of those that the old form has not.
-fn wide_fault(file: &[u8], cell: usize) -> Option<&'static str> {
+/// Whether a record of a wide file has a width one past the greatest.
+fn is_too_wide(file: &[u8], cell: usize) -> bool {
     if Form::of(file) != Some(Form::Wide) {
-        return None;
+        return false;
     }
     let trailer = &file[file.len() - 8..];
     let begin = trailer[0] as usize + 256 * trailer[1] as usize;
     let record = &file[begin + Form::Wide.size() * cell..];
-    let width = record[4] as u16 + 256 * record[5] as u16;
-    match ((1..=15).contains(&record[3]), width, record[7]) {
-        (true, 1_024, 0) => Some("width 1024"),
-        (true, 1..=MAX_WIDTH, 1..) => Some("byte 7"),
-        _ => None,
-    }
+    record[4] as u16 + 256 * record[5] as u16 == MAX_WIDTH + 1
 }
 
 fn named(r: &Result<(), Refusal>) -> String {
@@ -482,7 +501,11 @@ fn unseen(seen: &Seen) -> Vec<String> {
     for call in ["Check", "Ends"] {
         all.extend([262_143, 262_144, -262_143, -262_144].map(|x| (call, format!("at {x}"))));
     }
-    all.push(("Read", "byte 7".into()));
+    for ranks in ["moved", "turned", "tied"] {
+        all.extend([("Read", "read"), ("Layout", "laid"), ("Frame", "framed")].map(|(c, a)| (c, format!("ranks {ranks} {a}"))));
+        all.extend(["kept", "broken S1", "broken S2", "broken S3"].map(|a| ("Check", format!("ranks {ranks} {a}"))));
+    }
+    all.extend([4, 5].map(|s| ("Check", format!("ranks moved broken S{s}"))));
     all.extend(["refused  4", "refused  5", "refused  6", "refused  8", "refused 10"].map(|a| ("Read", format!("mixed {a}"))));
     all.into_iter().filter(|(c, a)| !seen.contains_key(&(*c, a.clone()))).map(|(c, a)| format!("{c} {a}")).collect()
 }
@@ -511,7 +534,7 @@ fn main() {
         }
     }
     for ((call, answer), times) in &run.seen {
-        println!("{call:7} {answer:17} {times:8}");
+        println!("{call:7} {answer:22} {times:8}");
     }
     println!("{inputs} inputs, {} calls, seed {seed}, {:.1} s: no difference", run.calls, began.elapsed().as_secs_f64());
     let missing = unseen(&run.seen);

@@ -119,11 +119,11 @@ fn two(file: &[u8], at: usize) -> u16 {
 }
 
 fn old_record(r: &[u8]) -> Record {
-    Record { parent: two(r, 0), kind: r[2], width: r[3] as u16, depth: r[4], label_length: r[5], label_start: two(r, 6) }
+    Record { parent: two(r, 0), kind: r[2], rank: 0, width: r[3] as u16, depth: r[4], label_length: r[5], label_start: two(r, 6) }
 }
 
 fn wide_record(r: &[u8]) -> Record {
-    Record { parent: two(r, 0), kind: r[2], width: two(r, 4), depth: r[3], label_length: r[6], label_start: two(r, 8) }
+    Record { parent: two(r, 0), kind: r[2], rank: r[7], width: two(r, 4), depth: r[3], label_length: r[6], label_start: two(r, 8) }
 }
 
 pub fn read(file: &[u8], table: &mut [Record]) -> Result<Plan, Refusal> {
@@ -154,9 +154,6 @@ pub fn read(file: &[u8], table: &mut [Record]) -> Result<Plan, Refusal> {
     }
     for (i, c) in cells[..n].iter().enumerate() {
         ask_record(i, c)?;
-        if wide && file[begin + size * i + 7] != 0 {
-            return refuse(8, i);
-        }
         if c.label_length > 40 || c.label_start as usize + c.label_length as usize > begin {
             return refuse(9, i);
         }
@@ -169,21 +166,36 @@ pub fn read(file: &[u8], table: &mut [Record]) -> Result<Plan, Refusal> {
     Ok(Plan { count: n, allowance: two(file, len - 4) })
 }
 
+/// Puts a cell among its siblings of greater numbers: behind those of a lower rank.
+fn insert(table: &[Record], links: &mut [[u16; 4]; CELLS], c: usize) {
+    let p = table[c].parent as usize;
+    let (mut before, mut next) = (0, links[p][0] as usize);
+    while next != 0 && table[next].rank < table[c].rank {
+        before = next;
+        next = links[next][1] as usize;
+    }
+    links[c][1] = next as u16;
+    if before == 0 {
+        links[p][0] = c as u16;
+    } else {
+        links[before][1] = c as u16;
+    }
+}
+
 /// First child, next sibling, place among the siblings and appointed place, 0 for none.
 fn links(table: &[Record]) -> [[u16; 4]; CELLS] {
     let mut links = [[0u16; 4]; CELLS];
     for c in (1..table.len()).rev() {
-        let p = table[c].parent as usize;
-        links[c][1] = links[p][0];
-        links[p][0] = c as u16;
+        insert(table, &mut links, c);
     }
-    for c in 1..table.len() {
-        let p = table[c].parent as usize;
-        links[c][2] = links[p][3];
-        links[p][3] += 1;
-    }
-    for (link, cell) in links.iter_mut().zip(table) {
-        link[3] = appointed(cell.kind, link[3]) - 1;
+    for p in 0..table.len() {
+        let (mut c, mut place) = (links[p][0] as usize, 0);
+        while c != 0 {
+            links[c][2] = place;
+            place += 1;
+            c = links[c][1] as usize;
+        }
+        links[p][3] = appointed(table[p].kind, place) - 1;
     }
     links
 }
@@ -369,7 +381,8 @@ struct View {
 fn look(table: &[Record], positions: &[i32]) -> [View; CELLS] {
     let n = table.len();
     let mut v = [View::default(); CELLS];
-    let (mut size, mut rest, mut near, mut head, mut tail) = ([1u16; CELLS], [0u16; CELLS], [0u16; CELLS], [0u16; CELLS], [0u16; CELLS]);
+    let links = links(table);
+    let mut size = [1u16; CELLS];
     for c in 0..n {
         let (x, y) = (positions[2 * c], positions[2 * c + 1]);
         let base = y + table[c].depth as i32;
@@ -377,28 +390,22 @@ fn look(table: &[Record], positions: &[i32]) -> [View; CELLS] {
     }
     for c in (1..n).rev() {
         let f = table[c].parent as usize;
-        rest[c] = size[f] - 1;
         size[f] += size[c];
-        near[c] = head[f];
-        head[f] = size[c];
         v[f].bottom = v[f].bottom.max(v[c].bottom);
     }
     v[0].end = size[0];
     v[0].to = size[0];
-    let mut sons = [0u16; CELLS];
-    for c in 1..n {
-        let f = table[c].parent as usize;
-        v[c].due = v[f].base + 1;
-        v[c].end = v[f].end - rest[c];
-        v[c].first = v[c].end - size[c];
-        v[c].from = v[c].first - tail[f];
-        v[c].to = v[c].end + near[c];
-        tail[f] = size[c];
-        sons[f] += 1;
-        v[c].nth = sons[f];
-    }
-    for c in 0..n {
-        v[c].middle = appointed(table[c].kind, sons[c]);
+    for f in 0..n {
+        let (mut c, mut from, mut first) = (links[f][0] as usize, v[f].first + 1, v[f].first + 1);
+        while c != 0 {
+            let next = links[c][1] as usize;
+            let end = first + size[c];
+            let to = if next == 0 { end } else { end + size[next] };
+            v[c] = View { due: v[f].base + 1, nth: links[c][2] + 1, first, end, from, to, ..v[c] };
+            (from, first) = (first, end);
+            c = next;
+        }
+        v[f].middle = links[f][3] + 1;
     }
     v
 }

@@ -32,7 +32,7 @@ pub struct Sizes {
     pub max_depth: i64,
 }
 
-/// A valid table of at most n cells (fewer where the rows or the levels run out), without labels.
+/// A valid table of at most n cells (fewer where the rows or the levels run out), without labels, each of rank 0.
 pub fn table(rng: &mut Rng, shape: Shape, n: usize, sizes: &Sizes) -> Vec<Cell> {
     let mut cells = vec![one(rng, ROOT, sizes)];
     let (mut row, mut level, mut sons) = (vec![0], vec![0], vec![0]);
@@ -96,11 +96,29 @@ fn kind_for(rng: &mut Rng, sons: usize) -> u8 {
     }
 }
 
-/// Widths, depths and shape of a random plan with at most n cells.
+/// Ranks for a table: none, any, a few that many brothers share, or an order against the file's.
+pub fn ranks(rng: &mut Rng, cells: &mut [Cell]) {
+    let how = rng.index(6);
+    let n = cells.len();
+    for (i, c) in cells.iter_mut().enumerate() {
+        c.rank = match how {
+            0 | 1 => 0,
+            2 => rng.next() as u8,
+            3 => rng.between(0, 2) as u8,
+            // Reversed, brothers of a large plan two by two.
+            4 => ((n - 1 - i) * 255 / n.max(255)) as u8,
+            _ => rng.pick(&[0, 0, 0, 1, 127, 128, 255]),
+        };
+    }
+}
+
+/// Widths, depths, ranks and shape of a random plan with at most n cells.
 pub fn any_table(rng: &mut Rng, n: usize) -> Vec<Cell> {
     let shape = rng.pick(&SHAPES);
     let sizes = Sizes { max_width: rng.pick(&[1, 3, 9, 30, 255, 1_023]), max_depth: rng.pick(&[1, 1, 2, 4, 15]) };
-    table(rng, shape, n, &sizes)
+    let mut cells = table(rng, shape, n, &sizes);
+    ranks(rng, &mut cells);
+    cells
 }
 
 pub fn allowance(rng: &mut Rng) -> u32 {
@@ -134,12 +152,15 @@ pub fn labels(rng: &mut Rng, cells: &mut [Cell]) -> Vec<u8> {
     bytes
 }
 
-/// Makes each box as narrow as a form of the file asks for.
-pub fn narrow(form: Form, cells: &mut [Cell]) {
-    cells.iter_mut().for_each(|c| c.width = c.width.min(form.max_width()));
+/// Makes a table such as a form of the file can hold: its widths, and in the old form no ranks.
+pub fn fit(form: Form, cells: &mut [Cell]) {
+    for c in cells {
+        c.width = c.width.min(form.max_width());
+        c.rank = if form == Form::Old { 0 } else { c.rank };
+    }
 }
 
-/// The file of a form that holds a table, whatever its fields are; in the old form a width's low byte.
+/// The file of a form that holds a table, whatever its fields are; the old form has a width's low byte and no rank.
 pub fn file(form: Form, labels: &[u8], cells: &[Cell], allowance: u16) -> Vec<u8> {
     let mut out = labels.to_vec();
     for c in cells {
@@ -147,7 +168,7 @@ pub fn file(form: Form, labels: &[u8], cells: &[Cell], allowance: u16) -> Vec<u8
         out.extend(c.parent.to_le_bytes());
         match form {
             Form::Old => out.extend([c.kind, low, c.depth, c.label_len]),
-            Form::Wide => out.extend([c.kind, c.depth, low, high, c.label_len, 0]),
+            Form::Wide => out.extend([c.kind, c.depth, low, high, c.label_len, c.rank]),
         }
         out.extend(c.label_start.to_le_bytes());
     }
@@ -186,16 +207,12 @@ pub fn mix_up(rng: &mut Rng, form: Form, labels: usize, cells: usize, file: &mut
     }
 }
 
-/// A byte 7 that is not zero, in some record of a wide file that was made with `file`.
-pub fn spoil_zero(rng: &mut Rng, labels: usize, cells: usize, file: &mut [u8]) {
-    file[labels + 10 * rng.index(cells) + 7] = rng.between(1, 255) as u8;
-}
-
 /// One random wrong done to a table. Labels in it may be wrong too, which only a file notices.
 pub fn damage_table(rng: &mut Rng, cells: &mut Vec<Cell>) {
     let i = rng.index(cells.len());
     let n = cells.len() as i64;
-    match rng.index(12) {
+    match rng.index(13) {
+        12 => cells[i].rank = rng.next() as u8,
         0 => cells[i].parent = rng.between(0, 65_535) as u16,
         1 => cells[i].parent = rng.between(i as i64, n) as u16,
         2 => cells[i].parent = rng.between(0, i as i64) as u16,
@@ -283,6 +300,7 @@ pub fn widest(rng: &mut Rng) -> Vec<Cell> {
             cells[c].width = rng.between(1_000, 1_023) as u16;
         }
     }
+    ranks(rng, &mut cells);
     cells
 }
 

@@ -15,6 +15,7 @@ pub const MAX_WIDTH: u16 = 1_023;
 pub struct Cell {
     pub parent: u16,
     pub kind: u8,
+    pub rank: u8,
     pub width: u16,
     pub depth: u8,
     pub label_len: u8,
@@ -56,6 +57,7 @@ fn sons_allowed(kind: u8, sons: usize) -> bool {
 pub struct Plan {
     pub cells: Vec<Cell>,
     pub father: Vec<Option<usize>>,
+    /// Each cell's sons in their order: by rank, then by file order (document 02, E13).
     pub sons: Vec<Vec<usize>>,
     /// Each cell's own first row, by S1.
     pub row: Vec<i64>,
@@ -79,6 +81,9 @@ impl Plan {
             plan.sons[f].push(c);
             plan.row[c] = plan.row[f] + table[f].depth as i64 + 1;
             plan.level[c] = plan.level[f] + 1;
+        }
+        for family in &mut plan.sons {
+            family.sort_by_key(|&c| (table[c].rank, c));
         }
         plan
     }

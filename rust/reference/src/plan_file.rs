@@ -49,18 +49,28 @@ fn two(file: &[u8], at: usize) -> u16 {
     file[at] as u16 + 256 * file[at + 1] as u16
 }
 
-/// The record at a place, and the byte that must be zero (an old record has none).
-fn record(file: &[u8], at: usize, form: Form) -> (Cell, u8) {
+/// The record at a place. Byte 7 of a wide one is the rank (document 02, E13); an old one has rank 0.
+fn record(file: &[u8], at: usize, form: Form) -> Cell {
     let (parent, kind) = (two(file, at), file[at + 2]);
     match form {
-        Form::Old => {
-            let (width, depth, label_len, label_start) = (file[at + 3] as u16, file[at + 4], file[at + 5], two(file, at + 6));
-            (Cell { parent, kind, width, depth, label_len, label_start }, 0)
-        }
-        Form::Wide => {
-            let (depth, width, label_len, label_start) = (file[at + 3], two(file, at + 4), file[at + 6], two(file, at + 8));
-            (Cell { parent, kind, width, depth, label_len, label_start }, file[at + 7])
-        }
+        Form::Old => Cell {
+            parent,
+            kind,
+            rank: 0,
+            width: file[at + 3] as u16,
+            depth: file[at + 4],
+            label_len: file[at + 5],
+            label_start: two(file, at + 6),
+        },
+        Form::Wide => Cell {
+            parent,
+            kind,
+            rank: file[at + 7],
+            width: two(file, at + 4),
+            depth: file[at + 3],
+            label_len: file[at + 6],
+            label_start: two(file, at + 8),
+        },
     }
 }
 
@@ -84,11 +94,8 @@ fn parse(file: &[u8]) -> Result<Parsed, Refusal> {
     }
     let mut cells = Vec::new();
     for i in 0..n {
-        let (c, zero) = record(file, begin + form.size() * i, form);
+        let c = record(file, begin + form.size() * i, form);
         ask_record(i, &c, form.max_width())?;
-        if zero != 0 {
-            return refuse(8, i);
-        }
         if c.label_len > 40 || c.label_start as usize + c.label_len as usize > begin {
             return refuse(9, i);
         }

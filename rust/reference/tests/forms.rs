@@ -1,6 +1,6 @@
 //! The two forms of the file, and wider boxes (document 02, E7).
 
-use reference::generate::{any_table, file, labels, mix_up, narrow, spoil_zero, widest};
+use reference::generate::{any_table, file, fit, labels, mix_up, widest};
 use reference::rng::Rng;
 use reference::*;
 
@@ -26,19 +26,19 @@ fn printed_wide() {
     assert_eq!(String::from_utf8(listing(wide)).unwrap(), text);
     let mut table = [Cell::default(); MAX_CELLS];
     assert_eq!(read(wide, &mut table), Ok((3, 0)));
-    assert_eq!(table[0], Cell { parent: ROOT, kind: 2, width: 1_023, depth: 1, label_len: 2, label_start: 0 });
-    assert_eq!(table[2], Cell { parent: 0, kind: 1, width: 5, depth: 1, label_len: 3, label_start: 3 });
+    assert_eq!(table[0], Cell { parent: ROOT, kind: 2, rank: 0, width: 1_023, depth: 1, label_len: 2, label_start: 0 });
+    assert_eq!(table[2], Cell { parent: 0, kind: 1, rank: 0, width: 5, depth: 1, label_len: 3, label_start: 3 });
     assert_eq!((0..3).map(|c| label(wide, c)).collect::<Vec<_>>(), [&b"Up"[..], b"A", b"Run"]);
 }
 
-/// A file of either form reads as the same table, where every width fits.
+/// A file of either form reads as the same table, where every width fits and no rank is given.
 #[test]
 fn both_forms_read_alike() {
     for number in 0..2_000 {
         let mut rng = Rng::new(SEED, number);
         let n = rng.between(1, 40) as usize;
         let mut cells = any_table(&mut rng, n);
-        narrow(Form::Old, &mut cells);
+        fit(Form::Old, &mut cells);
         let text = labels(&mut rng, &mut cells);
         let allowance = rng.next() as u16;
         let [old, wide] = FORMS.map(|form| file(form, &text, &cells, allowance));
@@ -60,22 +60,17 @@ fn the_mark_decides() {
         let n = rng.between(1, 40) as usize;
         let mut cells = any_table(&mut rng, n);
         let form = rng.pick(&FORMS);
-        narrow(form, &mut cells);
+        fit(form, &mut cells);
         let text = labels(&mut rng, &mut cells);
         let good = file(form, &text, &cells, 0);
         assert!(answer(&good).is_ok());
         let mut other = good.clone();
         *other.last_mut().unwrap() ^= 1;
         assert_eq!(answer(&other), refused(4, 0));
-        let mut mixed = good.clone();
+        let mut mixed = good;
         mix_up(&mut rng, form, text.len(), cells.len(), &mut mixed);
         assert_ne!(Form::of(&mixed), Some(form));
         let _ = answer(&mixed);
-        if form == Form::Wide {
-            let mut spoiled = good;
-            spoil_zero(&mut rng, text.len(), cells.len(), &mut spoiled);
-            assert_eq!(answer(&spoiled).map_err(|r| r.number), Err(8));
-        }
     }
 }
 
@@ -114,20 +109,16 @@ fn widths() {
     assert_eq!(answer(&file(Form::Wide, b"", &t, 0)), refused(8, 1));
 }
 
-/// Byte 7 is asked with question 8: after 6 and 7 of its record, before 9 and 10.
+/// Byte 7 is the rank, whatever it is; in the old form it belongs to the label's start.
 #[test]
 fn byte_7() {
-    let zero_at = |c: &Cell| {
-        let mut f = file(Form::Wide, b"", &[*c], 0);
-        f[7] = 1;
-        answer(&f)
-    };
-    assert_eq!(zero_at(&step(5)), refused(8, 0));
-    assert_eq!(zero_at(&Cell { parent: 0, ..step(5) }), refused(6, 0));
-    assert_eq!(zero_at(&Cell { kind: 6, ..step(5) }), refused(7, 0));
-    assert_eq!(zero_at(&Cell { label_len: 41, ..step(5) }), refused(8, 0));
-    assert_eq!(zero_at(&step(1)), refused(8, 0));
-    // In the old form that byte belongs to the label's start.
+    for rank in 0..=255 {
+        let mut table = [Cell::default(); MAX_CELLS];
+        let mut f = file(Form::Wide, b"", &[step(5)], 0);
+        f[7] = rank;
+        assert_eq!(read(&f, &mut table), Ok((1, 0)));
+        assert_eq!(table[0], Cell { rank, ..step(5) });
+    }
     let mut f = file(Form::Old, b"", &[step(5)], 0);
     f[7] = 1;
     assert_eq!(answer(&f), refused(9, 0));

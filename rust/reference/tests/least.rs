@@ -54,7 +54,7 @@ fn search(t: &[Cell], allowance: u32, window: i64) -> usize {
     kept
 }
 
-/// A kind that suits each cell's number of sons: of two or more, a run or a choice.
+/// A kind that suits each cell's number of sons: of two or more, a run or a choice; and a rank, which brothers often share.
 fn with_kinds(rng: &mut Rng, fathers: &[usize], widths: &[u16], depths: &[u8]) -> Vec<Cell> {
     (0..widths.len())
         .map(|i| Cell {
@@ -64,6 +64,7 @@ fn with_kinds(rng: &mut Rng, fathers: &[usize], widths: &[u16], depths: &[u8]) -
                 1 => 2,
                 _ => rng.pick(&[2, 4]),
             },
+            rank: rng.between(0, 2) as u8,
             width: widths[i],
             depth: depths[i],
             ..Cell::default()

@@ -28,17 +28,17 @@ lent-refusal-requires c κs = search needs
 -- src/lib.rt:72:9
 returns : tie.Need-returns
 returns c =
-    stops _ _ _ (c .before .before .lent-refusal .ensures) (c .if1 .taken) ∙ sym (ends-refusal (table-of (c .before .before .before .before .before .before .before .before .args .t1)) (c .before .before .before .before .before .before .before .before .args .positions .now) (c .before .before .before .before .before .before .before .before .args .cell))
+    stops _ _ _ (c .before .before .lent-refusal .ensures _) (c .if1 .taken) ∙ sym (ends-refusal (table-of (c .before .before .before .before .before .before .before .before .args .t1)) (c .before .before .before .before .before .before .before .before .args .positions .now) (c .before .before .before .before .before .before .before .before .args .cell))
 
 -- src/lib.rt:74:9
 near-refusal-requires : tie.Need-near-refusal-requires
 near-refusal-requires c κs =
-    let h = (lent-fit _ _ (ap (λ (x : Refusal). x .number) (sym (c .before .before .lent-refusal .ensures)) ∙ c .if1 .left)) in (count-few (c .before .before .before .before .before .before .before .before .args .t1) (h .fit), omega (arith, h .room, length-is (c .before .before .before .before .before .before .before .before .args .t1)))
+    let h = (lent-fit _ _ (ap (λ (x : Refusal). x .number) (sym (c .before .before .lent-refusal .ensures _)) ∙ c .if1 .left)) in (count-few (c .before .before .before .before .before .before .before .before .args .t1) (h .fit), omega (arith, h .room, length-is (c .before .before .before .before .before .before .before .before .args .t1)))
 
 -- src/lib.rt:76:9
 returns-2 : tie.Need-returns-2
 returns-2 c =
-    goes-on _ _ _ _ (c .before .before .before .before .before .lent-refusal .ensures) (c .before .before .before .if1 .left) (stops _ _ _ (c .before .before .near-refusal .ensures ∙ ap (near-refusal _) (sym (length-is (c .before .before .before .before .before .before .before .before .before .before .before .args .t1)))) (c .if2 .taken)) ∙ sym (ends-refusal (table-of (c .before .before .before .before .before .before .before .before .before .before .before .args .t1)) (c .before .before .before .before .before .before .before .before .before .before .before .args .positions .now) (c .before .before .before .before .before .before .before .before .before .before .before .args .cell))
+    goes-on _ _ _ _ (c .before .before .before .before .before .lent-refusal .ensures _) (c .before .before .before .if1 .left) (stops _ _ _ (c .before .before .near-refusal .ensures ∙ ap (near-refusal _) (sym (length-is (c .before .before .before .before .before .before .before .before .before .before .before .args .t1)))) (c .if2 .taken)) ∙ sym (ends-refusal (table-of (c .before .before .before .before .before .before .before .before .before .before .before .args .t1)) (c .before .before .before .before .before .before .before .before .before .before .before .args .positions .now) (c .before .before .before .before .before .before .before .before .before .before .before .args .cell))
 
 -- src/lib.rt:78:15
 named-requires : tie.Need-named-requires
@@ -51,7 +51,7 @@ asked-requires c κs = search needs
 -- src/lib.rt:62:1
 returns-3 : tie.Need-returns-3
 returns-3 c =
-    goes-on _ _ _ _ (c .before .before .before .before .before .before .before .lent-refusal .ensures) (c .before .before .before .before .before .if1 .left) (goes-on _ _ _ _ (c .before .before .before .before .near-refusal .ensures ∙ ap (near-refusal _) (sym (length-is (c .before .before .before .before .before .before .before .before .before .before .before .before .before .args .t1)))) (c .before .before .if2 .left) (c .asked .ensures ∙ ap (λ (b : Bool). asked 16 b 0) (c .before .named .ensures) ∙ ap (λ (n : ℕ). asked 16 (ltb (c .before .before .before .before .before .before .before .before .before .before .before .before .before .args .cell) n && ltb 0 (c .before .before .before .before .before .before .before .before .before .before .before .before .before .args .cell)) 0) (sym (length-is (c .before .before .before .before .before .before .before .before .before .before .before .before .before .args .t1))))) ∙ sym (ends-refusal (table-of (c .before .before .before .before .before .before .before .before .before .before .before .before .before .args .t1)) (c .before .before .before .before .before .before .before .before .before .before .before .before .before .args .positions .now) (c .before .before .before .before .before .before .before .before .before .before .before .before .before .args .cell))
+    goes-on _ _ _ _ (c .before .before .before .before .before .before .before .lent-refusal .ensures _) (c .before .before .before .before .before .if1 .left) (goes-on _ _ _ _ (c .before .before .before .before .near-refusal .ensures ∙ ap (near-refusal _) (sym (length-is (c .before .before .before .before .before .before .before .before .before .before .before .before .before .args .t1)))) (c .before .before .if2 .left) (c .asked .ensures ∙ ap (λ (b : Bool). asked 16 b 0) (c .before .named .ensures) ∙ ap (λ (n : ℕ). asked 16 (ltb (c .before .before .before .before .before .before .before .before .before .before .before .before .before .args .cell) n && ltb 0 (c .before .before .before .before .before .before .before .before .before .before .before .before .before .args .cell)) 0) (sym (length-is (c .before .before .before .before .before .before .before .before .before .before .before .before .before .args .t1))))) ∙ sym (ends-refusal (table-of (c .before .before .before .before .before .before .before .before .before .before .before .before .before .args .t1)) (c .before .before .before .before .before .before .before .before .before .before .before .before .before .args .positions .now) (c .before .before .before .before .before .before .before .before .before .before .before .before .before .args .cell))
 
 pub refuse-spec : {M : Type 1} → statement M
 refuse-spec =

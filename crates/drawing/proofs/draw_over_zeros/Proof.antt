@@ -15,7 +15,7 @@ survey-requires c κs =
 place-requires : tie.Need-place-requires
 place-requires c κs =
     let st = c .before .before .before .before .before .before .before .before .before .before in
-    record { fit = st .pre .0 .fit; rows = c .before .before .survey .ensures _ _ .2; scratch = st .pre .1 }
+    record { fit = st .pre .0 .fit; rows = c .before .before .survey .ensures _ _ _ .2; scratch = st .pre .1 }
 
 write-positions-requires : tie.Need-write-positions-requires
 write-positions-requires c κs =
@@ -46,11 +46,11 @@ returns c =
     let st = c .before .before .before .before .before .before .before .before .before .before .before .before .before .before .before .before .before .before .before .before .before .before .before .before .before .before in
     let t = st .args .t1 in
     let f = st .pre .0 .fit in
-    let tops = c .before .before .before .before .before .before .before .before .before .before .before .before .before .before .before .before .before .before .survey .ensures (t .kind) (t .width) .2 in
+    let tops = c .before .before .before .before .before .before .before .before .before .before .before .before .before .before .before .before .before .before .survey .ensures (t .kind) (t .width) (t .rank) .2 in
     let p = c .before .before .before .before .before .before .before .before .before .before .before .before .before .before .before .place .ensures in
     drawn t f _ tops (st .args .allowance) _ (p .0) _ (p .1) (st .args .positions .now) _ (c .before .before .before .before .before .before .before .before .before .write-positions .ensures) _ _
-    (c .before .before .before .before .sheet-width .ensures (sheet (table-of t) (st .args .allowance)) (t .parent) (t .kind) (t .depth) (p .0))
-    (c .sheet-rows .ensures (t .parent) (t .kind) (t .width) (f .sound) tops)
+    (c .before .before .before .before .sheet-width .ensures (sheet (table-of t) (st .args .allowance)) (t .parent) (t .kind) (t .depth) (t .rank) (p .0))
+    (c .sheet-rows .ensures (t .parent) (t .kind) (t .width) (t .rank) (f .sound) tops)
 
 pub draw-over-zeros-spec : {M : Type 1} → statement M
 draw-over-zeros-spec =

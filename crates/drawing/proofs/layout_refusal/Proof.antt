@@ -25,13 +25,13 @@ lent-refusal-requires : tie.Need-lent-refusal-requires
 lent-refusal-requires c κs = search needs
 
 returns-2 : tie.Need-returns-2
-returns-2 c = goes-on _ _ _ _ (c .before .before .before .before .before .before .before .before .before .before .asked .ensures) (c .before .before .before .before .before .before .before .before .if1 .left) (stops _ _ _ (c .before .before .lent-refusal .ensures) (c .if2 .taken)) ∙ put (c .before .before .before .before .before .before .before .before .before .before .before)
+returns-2 c = goes-on _ _ _ _ (c .before .before .before .before .before .before .before .before .before .before .asked .ensures) (c .before .before .before .before .before .before .before .before .if1 .left) (stops _ _ _ (c .before .before .lent-refusal .ensures _) (c .if2 .taken)) ∙ put (c .before .before .before .before .before .before .before .before .before .before .before)
 
 allowance-refusal-requires : tie.Need-allowance-refusal-requires
 allowance-refusal-requires c κs = search needs
 
 returns-3 : tie.Need-returns-3
-returns-3 c = goes-on _ _ _ _ (c .before .before .before .before .before .before .before .before .before .before .before .asked .ensures) (c .before .before .before .before .before .before .before .before .before .if1 .left) (goes-on _ _ _ _ (c .before .before .before .lent-refusal .ensures) (c .before .if2 .left) (c .allowance-refusal .ensures)) ∙ put (c .before .before .before .before .before .before .before .before .before .before .before .before)
+returns-3 c = goes-on _ _ _ _ (c .before .before .before .before .before .before .before .before .before .before .before .asked .ensures) (c .before .before .before .before .before .before .before .before .before .if1 .left) (goes-on _ _ _ _ (c .before .before .before .lent-refusal .ensures _) (c .before .if2 .left) (c .allowance-refusal .ensures)) ∙ put (c .before .before .before .before .before .before .before .before .before .before .before .before)
 
 pub layout-refusal-spec : {M : Type 1} → statement M
 layout-refusal-spec =

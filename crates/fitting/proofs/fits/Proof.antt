@@ -27,7 +27,7 @@ returns c =
     let a = c .before .before .before .before .before .before .before .before .before .args in
     let t = a .t1 in
     let p = c .before .before .before .before .before .before .place .ensures in
-    (measured (table-of t) (a .squares) (a .allowance) _ (c .sheet-width .ensures (sheet (table-of t) (a .allowance)) (t .parent) (t .kind) (t .depth) (p .0)), p .1)
+    (measured (table-of t) (a .squares) (a .allowance) _ (c .sheet-width .ensures (sheet (table-of t) (a .allowance)) (t .parent) (t .kind) (t .depth) (t .rank) (p .0)), p .1)
 
 pub fits-spec : {M : Type 1} → statement M
 fits-spec = tie.close (tie.spec place-requires sheet-width-requires same-length returns)

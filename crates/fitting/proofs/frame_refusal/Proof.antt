@@ -24,7 +24,7 @@ counted-refusal-requires c κs = search needs
 returns-2 : tie.Need-returns-2
 returns-2 c =
     let a = c .before .before .before .before .before .before .before .before .before .before .before .args in
-    goes-on _ _ _ _ (c .before .before .before .before .before .before .before .before .before .before .asked .ensures) (c .before .before .before .before .before .before .before .before .if1 .left) (stops _ _ _ (c .before .before .counted-refusal .ensures) (c .if2 .taken)) ∙ sym (calls.frame-refusal (table-of (a .t1)) (a .squares) (a .scratch))
+    goes-on _ _ _ _ (c .before .before .before .before .before .before .before .before .before .before .asked .ensures) (c .before .before .before .before .before .before .before .before .if1 .left) (stops _ _ _ (c .before .before .counted-refusal .ensures _) (c .if2 .taken)) ∙ sym (calls.frame-refusal (table-of (a .t1)) (a .squares) (a .scratch))
 
 asked-requires-2 : tie.Need-asked-requires-2
 asked-requires-2 c κs = search needs
@@ -32,7 +32,7 @@ asked-requires-2 c κs = search needs
 returns-3 : tie.Need-returns-3
 returns-3 c =
     let a = c .before .before .before .before .before .before .before .before .before .before .before .before .args in
-    goes-on _ _ _ _ (c .before .before .before .before .before .before .before .before .before .before .before .asked .ensures) (c .before .before .before .before .before .before .before .before .before .if1 .left) (goes-on _ _ _ _ (c .before .before .before .counted-refusal .ensures) (c .before .if2 .left) (c .asked2 .ensures)) ∙ sym (calls.frame-refusal (table-of (a .t1)) (a .squares) (a .scratch))
+    goes-on _ _ _ _ (c .before .before .before .before .before .before .before .before .before .before .before .asked .ensures) (c .before .before .before .before .before .before .before .before .before .if1 .left) (goes-on _ _ _ _ (c .before .before .before .counted-refusal .ensures _) (c .before .if2 .left) (c .asked2 .ensures)) ∙ sym (calls.frame-refusal (table-of (a .t1)) (a .squares) (a .scratch))
 
 pub frame-refusal-spec : {M : Type 1} → statement M
 frame-refusal-spec =

@@ -15,7 +15,7 @@ survey-requires c κs =
 returns : tie.Need-returns
 returns c =
     let t = c .before .before .before .before .before .before .before .args .t1 in
-    c .survey .ensures (t .kind) (t .width) .2
+    c .survey .ensures (t .kind) (t .width) (t .rank) .2
 
 pub tops-of-spec : {M : Type 1} → statement M
 tops-of-spec = tie.close (tie.spec survey-requires returns)

@@ -28,21 +28,21 @@ appointed-requires : tie.Need-appointed-requires Inv-loop μ-loop
 appointed-requires c κs =
     let a = c .before .before .before .before .before .before .before .args in
     let l = c .before .before .before .before .loop in
-    let q = placed-small (a .kinds .now) (a .links .now) (a .n) (l .c) (c .before .before .before .before .before .before .before .pre) (l .inv .2) (c .count-of .ensures) in
+    let q = placed-small (a .kinds .now) (a .links .now) (a .n) (l .c) (c .before .before .before .before .before .before .before .pre) (c .before .before .before .loop-test .taken) (l .inv .2) (c .count-of .ensures) in
     omega (arith, q)
 
 sub-links : tie.Need-sub-links Inv-loop μ-loop
 sub-links c =
     let a = c .before .before .before .before .before .before .before .before .args in
     let l = c .before .before .before .before .before .loop in
-    let q = placed-small (a .kinds .now) (a .links .now) (a .n) (l .c) (c .before .before .before .before .before .before .before .before .pre) (l .inv .2) (c .before .count-of .ensures) in
+    let q = placed-small (a .kinds .now) (a .links .now) (a .n) (l .c) (c .before .before .before .before .before .before .before .before .pre) (c .before .before .before .before .loop-test .taken) (l .inv .2) (c .before .count-of .ensures) in
     omega (arith, c .appointed .ensures, appointed-small (c .before .before .before .kind .result) (c .before .count-of .result) q)
 
 cast-links : tie.Need-cast-links Inv-loop μ-loop
 cast-links c =
     let a = c .before .before .before .before .before .before .before .before .args in
     let l = c .before .before .before .before .before .loop in
-    let q = placed-small (a .kinds .now) (a .links .now) (a .n) (l .c) (c .before .before .before .before .before .before .before .before .pre) (l .inv .2) (c .before .count-of .ensures) in
+    let q = placed-small (a .kinds .now) (a .links .now) (a .n) (l .c) (c .before .before .before .before .before .before .before .before .pre) (c .before .before .before .before .loop-test .taken) (l .inv .2) (c .before .count-of .ensures) in
     omega (arith, c .appointed .ensures, appointed-small (c .before .before .before .kind .result) (c .before .count-of .result) q)
 
 mul-links : tie.Need-mul-links Inv-loop μ-loop

@@ -1,6 +1,6 @@
 use borrow.Author.Needs.{needs}
-use Rattle.links.specs.Built.{links-are}
-use Rattle.links.specs.Build.{chained-building, appointing, links-found}
+use Rattle.links.specs.Build.{links-found}
+use Rattle.links.specs.Built.{counting, appointing, links-are}
 use Rattle.links.proofs.link_all.Statement.{statement}
 use Rattle.links.proofs.link_all.Tie as tie
 
@@ -9,21 +9,24 @@ chain-siblings-requires c κs = search needs
 
 number-siblings-requires : tie.Need-number-siblings-requires
 number-siblings-requires c κs =
-    let a = c .before .before .before .before .before .before .before .before .args in
-    chained-building (a .parents .now) (a .links .now) (a .n) (c .before .before .before .before .before .before .before .before .pre .building) (c .before .before .before .chain-siblings .ensures)
+    let st = c .before .before .before .before .before .before .before .before .before in
+    let a = st .args in
+    counting (a .parents .now) (a .kinds .now) (a .ranks .now) (a .n) (a .links .now) (st .pre) (c .before .before .before .chain-siblings .ensures)
 
 appoint-requires : tie.Need-appoint-requires
 appoint-requires c κs =
-    let a = c .before .before .before .before .before .before .before .before .before .before .before .before .args in
-    appointing (a .parents .now) (a .kinds .now) (a .links .now) (a .n) (c .before .before .before .before .before .before .before .before .before .before .before .before .pre) (c .before .before .before .before .before .before .before .chain-siblings .ensures) (c .before .before .before .number-siblings .ensures)
+    let st = c .before .before .before .before .before .before .before .before .before .before .before .before .before in
+    let a = st .args in
+    appointing (a .parents .now) (a .kinds .now) (a .ranks .now) (a .n) (a .links .now) (st .pre) (c .before .before .before .before .before .before .before .chain-siblings .ensures) (c .before .before .before .number-siblings .ensures)
 
 same-length : tie.Need-same-length
 same-length c = search needs
 
 returns : tie.Need-returns
 returns c =
-    let a = c .before .before .before .before .before .before .before .before .before .before .before .before .before .before .before .args in
-    links-are (a .parents .now) (a .kinds .now) (a .n) (a .links .now) (c .before .before .before .before .before .before .before .before .before .before .before .before .before .before .before .pre) (links-found (a .parents .now) (a .kinds .now) (a .links .now) (a .n) (c .before .before .before .before .before .before .before .before .before .before .chain-siblings .ensures) (c .before .before .before .before .before .before .number-siblings .ensures) (c .before .before .appoint .ensures))
+    let st = c .before .before .before .before .before .before .before .before .before .before .before .before .before .before .before .before in
+    let a = st .args in
+    links-are (a .parents .now) (a .kinds .now) (a .ranks .now) (a .n) (a .links .now) (st .pre) (links-found (a .parents .now) (a .kinds .now) (a .ranks .now) (a .links .now) (a .n) (c .before .before .before .before .before .before .before .before .before .before .chain-siblings .ensures) (c .before .before .before .before .before .before .number-siblings .ensures) (c .before .before .appoint .ensures))
 
 pub link-all-spec : {M : Type 1} → statement M
 link-all-spec =

@@ -47,7 +47,7 @@ returns c =
     let l = c .before .loop in
     let a = c .before .before .before .args in
     let e : l .c ≡ a .n = omega arith in
-    λ ps ks ws sound col. ap (λ (x : ℕ). x + 1) (bottom-is ps ks ws (a .depths .now) (a .n) (omega arith) sound (a .tops .now) col (l .last) (rw e at (l .inv .2)))
+    λ ps ks ws qs sound col. ap (λ (x : ℕ). x + 1) (bottom-is ps ks ws (a .depths .now) qs (a .n) (omega arith) sound (a .tops .now) col (l .last) (rw e at (l .inv .2)))
 
 pub sheet-rows-spec : {M : Type 1} → statement M
 sheet-rows-spec =

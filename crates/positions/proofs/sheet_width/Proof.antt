@@ -61,7 +61,7 @@ returns c =
     let l = c .before .loop in
     let a = c .before .before .before .before .args in
     let e : l .c ≡ a .n = omega arith in
-    λ p ps ks ds r. width-is ps ks (a .widths .now) ds (a .n) (omega arith) p (a .xs .now) r (l .least) (l .most) (rw e at (l .inv .2)) (rw e at (l .inv .3))
+    λ p ps ks ds qs r. width-is ps ks (a .widths .now) ds qs (a .n) (omega arith) p (a .xs .now) r (l .least) (l .most) (rw e at (l .inv .2)) (rw e at (l .inv .3))
 
 pub sheet-width-spec : {M : Type 1} → statement M
 sheet-width-spec =

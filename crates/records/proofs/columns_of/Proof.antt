@@ -93,24 +93,24 @@ mach t = B′.lowered t
 abbrev IsColumns : Columns → Type 0
 IsColumns t = Is B.the-row t (mach t ∷ [])
 
-lengths : (t : Columns) → IsColumns t → (length (t .parent) ≡ most-cells) × (length (t .kind) ≡ most-cells) × (length (t .width) ≡ most-cells) × (length (t .depth) ≡ most-cells)
+lengths : (t : Columns) → IsColumns t → (length (t .parent) ≡ most-cells) × (length (t .kind) ≡ most-cells) × (length (t .width) ≡ most-cells) × (length (t .depth) ≡ most-cells) × (length (t .rank) ≡ most-cells)
 lengths t is =
     let p = LL.owed B.the-type B′.the-laws t _ is in
-    (numbers-length w16 most-cells (t .parent) (p .1 .0), numbers-length w8 most-cells (t .kind) (p .1 .1 .0), numbers-length w16 most-cells (t .width) (p .1 .1 .1 .0), numbers-length w8 most-cells (t .depth) (p .1 .1 .1 .1 .0))
+    (numbers-length w16 most-cells (t .parent) (p .1 .0), numbers-length w8 most-cells (t .kind) (p .1 .1 .0), numbers-length w16 most-cells (t .width) (p .1 .1 .1 .0), numbers-length w8 most-cells (t .depth) (p .1 .1 .1 .1 .0), numbers-length w8 most-cells (t .rank) (p .1 .1 .1 .1 .1 .0))
 
-fits : (r : Record) (vs : List Val) → Is T.the-row r vs → (r .parent < 2 ^ 16) × (r .kind < 2 ^ 8) × (r .width < 2 ^ 16) × (r .depth < 2 ^ 8)
-fits r vs is = let p = LL.owed T.the-type T′.the-laws r vs is in (p .0 .1, p .1 .0 .1, p .1 .1 .0 .1, p .1 .1 .1 .0 .1)
+fits : (r : Record) (vs : List Val) → Is T.the-row r vs → (r .parent < 2 ^ 16) × (r .kind < 2 ^ 8) × (r .width < 2 ^ 16) × (r .depth < 2 ^ 8) × (r .rank < 2 ^ 8)
+fits r vs is = let p = LL.owed T.the-type T′.the-laws r vs is in (p .0 .1, p .1 .0 .1, p .1 .1 .1 .0 .1, p .1 .1 .1 .1 .0 .1, p .1 .1 .0 .1)
 
--- what the four stores make of columns, and that it is the columns with a record's numbers
+-- what the five stores make of columns, and that it is the columns with a record's numbers
 abbrev stored : Columns → ℕ → Record → Val
 stored t c r =
     arrayVal (vint w64 (t .count) ∷ arrayVal (set (map (vint w16) (t .parent)) c (vint w16 (r .parent))) ∷ arrayVal (set (map (vint w8) (t .kind)) c (vint w8 (r .kind)))
-    ∷ arrayVal (set (map (vint w16) (t .width)) c (vint w16 (r .width))) ∷ arrayVal (set (map (vint w8) (t .depth)) c (vint w8 (r .depth))) ∷ [])
+    ∷ arrayVal (set (map (vint w16) (t .width)) c (vint w16 (r .width))) ∷ arrayVal (set (map (vint w8) (t .depth)) c (vint w8 (r .depth))) ∷ arrayVal (set (map (vint w8) (t .rank)) c (vint w8 (r .rank))) ∷ [])
 
 stored-is : (t : Columns) (c : ℕ) (r : Record) → stored t c r ≡ mach (with-record t c r)
 stored-is t c r = λ i.
     arrayVal (vint w64 (t .count) ∷ arrayVal (map-set (vint w16) (t .parent) c (r .parent) i) ∷ arrayVal (map-set (vint w8) (t .kind) c (r .kind) i)
-    ∷ arrayVal (map-set (vint w16) (t .width) c (r .width) i) ∷ arrayVal (map-set (vint w8) (t .depth) c (r .depth) i) ∷ [])
+    ∷ arrayVal (map-set (vint w16) (t .width) c (r .width) i) ∷ arrayVal (map-set (vint w8) (t .depth) c (r .depth) i) ∷ arrayVal (map-set (vint w8) (t .rank) c (r .rank) i) ∷ [])
 
 with-is : (t : Columns) (c : ℕ) (r : Record) → IsColumns t → (vs : List Val) → Is T.the-row r vs → IsColumns (with-record t c r)
 with-is t c r is vs is-r =
@@ -121,7 +121,7 @@ with-is t c r is vs is-r =
         numbers-set w16 most-cells (t .parent) c (r .parent) (f .0) (p .1 .0),
         (
           numbers-set w8 most-cells (t .kind) c (r .kind) (f .1) (p .1 .1 .0),
-          (numbers-set w16 most-cells (t .width) c (r .width) (f .2) (p .1 .1 .1 .0), (numbers-set w8 most-cells (t .depth) c (r .depth) (f .3) (p .1 .1 .1 .1 .0), tt)),
+          (numbers-set w16 most-cells (t .width) c (r .width) (f .2) (p .1 .1 .1 .0), (numbers-set w8 most-cells (t .depth) c (r .depth) (f .3) (p .1 .1 .1 .1 .0), (numbers-set w8 most-cells (t .rank) c (r .rank) (f .4) (p .1 .1 .1 .1 .1 .0), tt))),
         ),
       ),
     ) in
@@ -223,16 +223,16 @@ module _ {M : Type 1} (𝓤 : URA M) (H : Heap 𝓤) (A : Atoms 𝓤) (W : Given
     abbrev Λ : Loops 𝓤 H
     Λ = 𝓣 .Λ
 
-    module _ (l₀ l₁ l₂ l₃ l₄ l₅ l₆ l₇ l₈ l₉ l₁₀ l₁₁ l₁₂ l₁₃ l₁₄ l₁₅ l₁₆ l₁₇ : ℕ) where
+    module _ (l₀ l₁ l₂ l₃ l₄ l₅ l₆ l₇ l₈ l₉ l₁₀ l₁₁ l₁₂ l₁₃ l₁₄ l₁₅ l₁₆ l₁₇ l₁₈ l₁₉ : ℕ) where
       abbrev En : Env 𝓤 H
-      En = (B′.mir, l₀) ∷ (slice, l₁) ∷ (word, l₂) ∷ (word, l₃) ∷ (B′.mir, l₄) ∷ (word, l₅) ∷ (T′.mir, l₆) ∷ (B′.mir, l₇) ∷ (tyBool, l₈) ∷ (word, l₉) ∷ (tyPtr, l₁₀) ∷ (tyPtr, l₁₁) ∷ (tyPtr, l₁₂) ∷ (tyPtr, l₁₃) ∷ (tyPtr, l₁₄) ∷ (tyPtr, l₁₅) ∷ (tyPtr, l₁₆) ∷ (tyPtr, l₁₇) ∷ []
+      En = (B′.mir, l₀) ∷ (slice, l₁) ∷ (word, l₂) ∷ (word, l₃) ∷ (B′.mir, l₄) ∷ (word, l₅) ∷ (T′.mir, l₆) ∷ (B′.mir, l₇) ∷ (tyBool, l₈) ∷ (word, l₉) ∷ (tyPtr, l₁₀) ∷ (tyPtr, l₁₁) ∷ (tyPtr, l₁₂) ∷ (tyPtr, l₁₃) ∷ (tyPtr, l₁₄) ∷ (tyPtr, l₁₅) ∷ (tyPtr, l₁₆) ∷ (tyPtr, l₁₇) ∷ (tyPtr, l₁₈) ∷ (tyPtr, l₁₉) ∷ []
 
       -- the context at the loop's test: the locals, the last first, what t owns, and the token
       abbrev At : Upto → List (Item 𝓤)
-      At i = room tyPtr l₁₇ (room tyPtr l₁₆ (room tyPtr l₁₅ (room tyPtr l₁₄ (
+      At i = room tyPtr l₁₉ (room tyPtr l₁₈ (room tyPtr l₁₇ (room tyPtr l₁₆ (room tyPtr l₁₅ (room tyPtr l₁₄ (
           room tyPtr l₁₃ (room tyPtr l₁₂ (room tyPtr l₁₁ (room tyPtr l₁₀ (room word l₉ (
           room tyBool l₈ (room B′.mir l₇ (room T′.mir l₆ (holds word l₅ (vint w64 (i .0)) (holds B′.mir l₄ (mach (tab (i .0))) (
-          holds word l₃ (vint w64 m) (holds word l₂ (vint w64 n) (holds slice l₁ s (room B′.mir l₀ (Own ∷ ‵ (flft κ q) ∷ []))))))))))))))))))
+          holds word l₃ (vint w64 m) (holds word l₂ (vint w64 n) (holds slice l₁ s (room B′.mir l₀ (Own ∷ ‵ (flft κ q) ∷ []))))))))))))))))))))
 
       abbrev Turned : Upto → Out → SProp 𝓤
       Turned i = afterTurn 𝓤 H (Below 𝓤 H A Nearer At i) (afterBlock 𝓤 H (afterSeq 𝓤 H (Wp 𝓤 H C Λ En mir.t-7 (atReturn 𝓤 H En Post)) (atReturn 𝓤 H En Post)))
@@ -241,33 +241,35 @@ module _ {M : Type 1} (𝓤 : URA M) (H : Heap 𝓤) (A : Atoms 𝓤) (W : Given
       takes : (i : ℕ) (il : i ≤ m) (is : IsColumns (tab i)) → ltb i m ≡ true → Sq W (At (i, il, is)) (runs C Λ En mir.turn-1 (anyQ (Turned (i, il, is))))
       unfolding afterTurn
       takes i il is test =
-          assigns ! (bin ! (load ! (from ! (stop !)) (look ! 24 refl)) (load ! (from ! (stop !)) (look ! 28 refl)) tt) (from ! (stop !)) (init ! 18 refl (tt, tt)) $
-          rewrite ! 18 (λ (t : Bool). ‵ (fat fullShare tyBool l₈ 0 (vbool t))) test refl $ stays ! (load ! (from ! (stop !)) (look ! 18 refl)) $
-          move ! (36 ∷ []) $ use1 W (Own ⊛ Own) (shr-slice-copy 𝓤 H A W (named 0) κ T.the-row .twice x (s ∷ [])) $ split ! $ move ! (0 ∷ 38 ∷ []) $
+          assigns ! (bin ! (load ! (from ! (stop !)) (look ! 28 refl)) (load ! (from ! (stop !)) (look ! 32 refl)) tt) (from ! (stop !)) (init ! 22 refl (tt, tt)) $
+          rewrite ! 22 (λ (t : Bool). ‵ (fat fullShare tyBool l₈ 0 (vbool t))) test refl $ stays ! (load ! (from ! (stop !)) (look ! 22 refl)) $
+          move ! (40 ∷ []) $ use1 W (Own ⊛ Own) (shr-slice-copy 𝓤 H A W (named 0) κ T.the-row .twice x (s ∷ [])) $ split ! $ move ! (0 ∷ 42 ∷ []) $
           use2 W (raw (RecordAt 𝓤 H A mem run .pre (to-record-at i))) (goes-record-at i less) $
-          -- [what `record_at` asks; t's; _17; …; _1; …; _0; …]
-          calls-at ! (fmOf 𝓤 H (W .laws) 𝓣) (RecordAt 𝓤 H A mem run) known-record-at (to-record-at i) (and-then ! (load ! (from ! (stop !)) (look ! 34 refl)) (and-then ! (load ! (from ! (stop !)) (look ! 26 refl)) (no-more !))) (λ v.
+          -- [what `record_at` asks; t's; _19; …; _1; …; _0; …]
+          calls-at ! (fmOf 𝓤 H (W .laws) 𝓣) (RecordAt 𝓤 H A mem run) known-record-at (to-record-at i) (and-then ! (load ! (from ! (stop !)) (look ! 38 refl)) (and-then ! (load ! (from ! (stop !)) (look ! 30 refl)) (no-more !))) (λ v.
           use1 W (later (some (λ (c : Record). ((‵ (flft κ q) ⊛ ‵ ftrue) ⊛ ‵ (T.the-row .own c (v ∷ []))) ⊛ raw (ensured 𝓤 H A record-at.ended (record-at.clauses 𝓤 H A mem run) (κ, tt) (x, (i, tt)) tt c)))) (id⊢ 𝓤 _) $ await ! tt $ pick ! (λ c.
           split ! $ move ! (1 ∷ []) $ use1 W (raw (fact 𝓤 (c ≡ lent-at (x .now) i))) (said-record-at i c) $ heard ! (c ≡ lent-at (x .now) i) (λ e. split ! $ move ! (1 ∷ []) $
           peeks ! T.the-row (Is T.the-row) (shows 𝓤 H A T.the-row) c (v ∷ []) (λ is-c. drop ! $
-          -- [the token; t's; _17; …; _1; …; _0; …]
-          land ! (from ! (stop !)) (init ! 24 refl (LL.lawful T.the-type T′.the-laws 𝓤 H A W .typed c _ is-c .0)) $
-          rewrite ! 24 (λ (w : Val). ‵ (fat fullShare T′.mir l₆ 0 w)) (ap only (LL.tells T.the-type T′.the-laws c (v ∷ []) is-c)) refl $
-          split ! $ keep ! (3 ∷ 4 ∷ 5 ∷ 6 ∷ 7 ∷ 8 ∷ 9 ∷ 10 ∷ 11 ∷ 12 ∷ 13 ∷ 14 ∷ 15 ∷ 16 ∷ 17 ∷ 18 ∷ 19 ∷ 20 ∷ 21 ∷ 22 ∷ 23 ∷ 24 ∷ 25 ∷ 26 ∷ 27 ∷ 28 ∷ 29 ∷ 30 ∷ 31 ∷ 32 ∷ 33 ∷ 34 ∷ 35 ∷ 36 ∷ 37 ∷ 38 ∷ 2 ∷ 0 ∷ []) $
-          -- [_17; …; _1; …; _0; …; t's; the token]
-          assigns ! (bin ! (load ! (from ! (stop !)) (look ! 24 refl)) (lit ! tt) (record { fits = twice })) (from ! (stop !)) (init ! 16 refl (tt, record { fits = twice })) $
-          assigns ! (addr ! (from ! (fld ! refl (stop !)))) (from ! (stop !)) (init ! 14 refl (tt, tt)) $ assigns ! (bin ! (load ! (from ! (stop !)) (look ! 14 refl)) (load ! (from ! (stop !)) (look ! 16 refl)) tt) (from ! (stop !)) (init ! 12 refl (tt, tt)) $
-          assigns ! (of-opd ! (load ! (from ! (fld ! refl (stop !))) (look-in ! 22 (sub ! 0 refl (whole !))))) (from ! (hop ! (look ! 12 refl) (stop !))) (store-in ! 26 (number ! (tab i .parent) i (lengths (tab i) is .0) within refl (sub ! 1 refl (whole !))) (tt, record { fits = fits c (v ∷ []) is-c .0 })) $
-          assigns ! (addr ! (from ! (fld ! refl (stop !)))) (from ! (stop !)) (init ! 10 refl (tt, tt)) $ assigns ! (bin ! (load ! (from ! (stop !)) (look ! 10 refl)) (load ! (from ! (stop !)) (look ! 24 refl)) tt) (from ! (stop !)) (init ! 8 refl (tt, tt)) $
-          assigns ! (of-opd ! (load ! (from ! (fld ! refl (stop !))) (look-in ! 22 (sub ! 1 refl (whole !))))) (from ! (hop ! (look ! 8 refl) (stop !))) (store-in ! 26 (number ! (tab i .kind) i (lengths (tab i) is .1) within (byte i _) (sub ! 2 refl (whole !))) (tt, record { fits = fits c (v ∷ []) is-c .1 })) $
-          assigns ! (bin ! (load ! (from ! (stop !)) (look ! 24 refl)) (lit ! tt) (record { fits = twice })) (from ! (stop !)) (store ! 16 refl (tt, record { fits = twice })) $
-          assigns ! (addr ! (from ! (fld ! refl (stop !)))) (from ! (stop !)) (init ! 6 refl (tt, tt)) $ assigns ! (bin ! (load ! (from ! (stop !)) (look ! 6 refl)) (load ! (from ! (stop !)) (look ! 16 refl)) tt) (from ! (stop !)) (init ! 4 refl (tt, tt)) $
-          assigns ! (of-opd ! (load ! (from ! (fld ! refl (stop !))) (look-in ! 22 (sub ! 2 refl (whole !))))) (from ! (hop ! (look ! 4 refl) (stop !))) (store-in ! 26 (number ! (tab i .width) i (lengths (tab i) is .2) within refl (sub ! 3 refl (whole !))) (tt, record { fits = fits c (v ∷ []) is-c .2 })) $
-          assigns ! (addr ! (from ! (fld ! refl (stop !)))) (from ! (stop !)) (init ! 2 refl (tt, tt)) $ assigns ! (bin ! (load ! (from ! (stop !)) (look ! 2 refl)) (load ! (from ! (stop !)) (look ! 24 refl)) tt) (from ! (stop !)) (init ! 0 refl (tt, tt)) $
-          assigns ! (of-opd ! (load ! (from ! (fld ! refl (stop !))) (look-in ! 22 (sub ! 3 refl (whole !))))) (from ! (hop ! (look ! 0 refl) (stop !))) (store-in ! 26 (number ! (tab i .depth) i (lengths (tab i) is .3) within (byte i _) (sub ! 4 refl (whole !))) (tt, record { fits = fits c (v ∷ []) is-c .3 })) $
-          rewrite ! 26 (λ (w : Val). ‵ (fat fullShare B′.mir l₄ 0 w)) (stored-is (tab i) i c ∙ ap mach (next c e)) refl $
-          assigns-last ! (bin ! (load ! (from ! (stop !)) (look ! 24 refl)) (lit ! tt) (record { fits = next-fits })) (from ! (stop !)) (store ! 24 refl (tt, record { fits = next-fits })) $
-          forget ! 0 refl $ forget ! 2 refl $ forget ! 4 refl $ forget ! 6 refl $ forget ! 8 refl $ forget ! 10 refl $ forget ! 12 refl $ forget ! 14 refl $ forget ! 16 refl $ forget ! 18 refl $ forget ! 22 refl $
+          -- [the token; t's; _19; …; _1; …; _0; …]
+          land ! (from ! (stop !)) (init ! 28 refl (LL.lawful T.the-type T′.the-laws 𝓤 H A W .typed c _ is-c .0)) $
+          rewrite ! 28 (λ (w : Val). ‵ (fat fullShare T′.mir l₆ 0 w)) (ap only (LL.tells T.the-type T′.the-laws c (v ∷ []) is-c)) refl $
+          split ! $ keep ! (3 ∷ 4 ∷ 5 ∷ 6 ∷ 7 ∷ 8 ∷ 9 ∷ 10 ∷ 11 ∷ 12 ∷ 13 ∷ 14 ∷ 15 ∷ 16 ∷ 17 ∷ 18 ∷ 19 ∷ 20 ∷ 21 ∷ 22 ∷ 23 ∷ 24 ∷ 25 ∷ 26 ∷ 27 ∷ 28 ∷ 29 ∷ 30 ∷ 31 ∷ 32 ∷ 33 ∷ 34 ∷ 35 ∷ 36 ∷ 37 ∷ 38 ∷ 39 ∷ 40 ∷ 41 ∷ 42 ∷ 2 ∷ 0 ∷ []) $
+          -- [_19; …; _1; …; _0; …; t's; the token]
+          assigns ! (bin ! (load ! (from ! (stop !)) (look ! 28 refl)) (lit ! tt) (record { fits = twice })) (from ! (stop !)) (init ! 20 refl (tt, record { fits = twice })) $
+          assigns ! (addr ! (from ! (fld ! refl (stop !)))) (from ! (stop !)) (init ! 18 refl (tt, tt)) $ assigns ! (bin ! (load ! (from ! (stop !)) (look ! 18 refl)) (load ! (from ! (stop !)) (look ! 20 refl)) tt) (from ! (stop !)) (init ! 16 refl (tt, tt)) $
+          assigns ! (of-opd ! (load ! (from ! (fld ! refl (stop !))) (look-in ! 26 (sub ! 0 refl (whole !))))) (from ! (hop ! (look ! 16 refl) (stop !))) (store-in ! 30 (number ! (tab i .parent) i (lengths (tab i) is .0) within refl (sub ! 1 refl (whole !))) (tt, record { fits = fits c (v ∷ []) is-c .0 })) $
+          assigns ! (addr ! (from ! (fld ! refl (stop !)))) (from ! (stop !)) (init ! 14 refl (tt, tt)) $ assigns ! (bin ! (load ! (from ! (stop !)) (look ! 14 refl)) (load ! (from ! (stop !)) (look ! 28 refl)) tt) (from ! (stop !)) (init ! 12 refl (tt, tt)) $
+          assigns ! (of-opd ! (load ! (from ! (fld ! refl (stop !))) (look-in ! 26 (sub ! 1 refl (whole !))))) (from ! (hop ! (look ! 12 refl) (stop !))) (store-in ! 30 (number ! (tab i .kind) i (lengths (tab i) is .1) within (byte i _) (sub ! 2 refl (whole !))) (tt, record { fits = fits c (v ∷ []) is-c .1 })) $
+          assigns ! (bin ! (load ! (from ! (stop !)) (look ! 28 refl)) (lit ! tt) (record { fits = twice })) (from ! (stop !)) (store ! 20 refl (tt, record { fits = twice })) $
+          assigns ! (addr ! (from ! (fld ! refl (stop !)))) (from ! (stop !)) (init ! 10 refl (tt, tt)) $ assigns ! (bin ! (load ! (from ! (stop !)) (look ! 10 refl)) (load ! (from ! (stop !)) (look ! 20 refl)) tt) (from ! (stop !)) (init ! 8 refl (tt, tt)) $
+          assigns ! (of-opd ! (load ! (from ! (fld ! refl (stop !))) (look-in ! 26 (sub ! 3 refl (whole !))))) (from ! (hop ! (look ! 8 refl) (stop !))) (store-in ! 30 (number ! (tab i .width) i (lengths (tab i) is .2) within refl (sub ! 3 refl (whole !))) (tt, record { fits = fits c (v ∷ []) is-c .2 })) $
+          assigns ! (addr ! (from ! (fld ! refl (stop !)))) (from ! (stop !)) (init ! 6 refl (tt, tt)) $ assigns ! (bin ! (load ! (from ! (stop !)) (look ! 6 refl)) (load ! (from ! (stop !)) (look ! 28 refl)) tt) (from ! (stop !)) (init ! 4 refl (tt, tt)) $
+          assigns ! (of-opd ! (load ! (from ! (fld ! refl (stop !))) (look-in ! 26 (sub ! 4 refl (whole !))))) (from ! (hop ! (look ! 4 refl) (stop !))) (store-in ! 30 (number ! (tab i .depth) i (lengths (tab i) is .3) within (byte i _) (sub ! 4 refl (whole !))) (tt, record { fits = fits c (v ∷ []) is-c .3 })) $
+          assigns ! (addr ! (from ! (fld ! refl (stop !)))) (from ! (stop !)) (init ! 2 refl (tt, tt)) $ assigns ! (bin ! (load ! (from ! (stop !)) (look ! 2 refl)) (load ! (from ! (stop !)) (look ! 28 refl)) tt) (from ! (stop !)) (init ! 0 refl (tt, tt)) $
+          assigns ! (of-opd ! (load ! (from ! (fld ! refl (stop !))) (look-in ! 26 (sub ! 2 refl (whole !))))) (from ! (hop ! (look ! 0 refl) (stop !))) (store-in ! 30 (number ! (tab i .rank) i (lengths (tab i) is .4) within (byte i _) (sub ! 5 refl (whole !))) (tt, record { fits = fits c (v ∷ []) is-c .4 })) $
+          rewrite ! 30 (λ (w : Val). ‵ (fat fullShare B′.mir l₄ 0 w)) (stored-is (tab i) i c ∙ ap mach (next c e)) refl $
+          assigns-last ! (bin ! (load ! (from ! (stop !)) (look ! 28 refl)) (lit ! tt) (record { fits = next-fits })) (from ! (stop !)) (store ! 28 refl (tt, record { fits = next-fits })) $
+          forget ! 0 refl $ forget ! 2 refl $ forget ! 4 refl $ forget ! 6 refl $ forget ! 8 refl $ forget ! 10 refl $ forget ! 12 refl $ forget ! 14 refl $ forget ! 16 refl $ forget ! 18 refl $ forget ! 20 refl $ forget ! 22 refl $ forget ! 26 refl $
           again ! Nearer At (i, il, is) (i + 1, add-one-le less, subst IsColumns (next c e) (with-is (tab i) i c is (v ∷ []) is-c)) (add-one-dec m i less)))))
         where
           less : i < m
@@ -289,11 +291,11 @@ module _ {M : Type 1} (𝓤 : URA M) (H : Heap 𝓤) (A : Atoms 𝓤) (W : Given
       leaves : (i : ℕ) (il : i ≤ m) (is : IsColumns (tab i)) → ltb i m ≡ false → Sq W (At (i, il, is)) (runs C Λ En mir.turn-1 (anyQ (Turned (i, il, is))))
       unfolding afterTurn
       leaves i il is test =
-          assigns ! (bin ! (load ! (from ! (stop !)) (look ! 24 refl)) (load ! (from ! (stop !)) (look ! 28 refl)) tt) (from ! (stop !)) (init ! 18 refl (tt, tt)) $
-          rewrite ! 18 (λ (t : Bool). ‵ (fat fullShare tyBool l₈ 0 (vbool t))) test refl $ leaves-loop ! (load ! (from ! (stop !)) (look ! 18 refl)) $ exec ! C Λ En mir.t-7 (atRet En Post) $
-          assigns ! (of-opd ! (load ! (from ! (stop !)) (look ! 26 refl))) (from ! (stop !)) (init ! 34 refl (LL.lawful B.the-type B′.the-laws 𝓤 H A W .typed (tab i) _ is .0)) $
-          returns ! (look ! 34 refl) $ forget ! 18 refl $ forget ! 24 refl $ forget ! 26 refl $ forget ! 28 refl $ forget ! 30 refl $ forget ! 32 refl $ forget ! 34 refl $
-          move ! (34 ∷ 35 ∷ []) $ free1 ! $ move ! (32 ∷ 33 ∷ []) $ free1 ! $ move ! (30 ∷ 31 ∷ []) $ free1 ! $ move ! (28 ∷ 29 ∷ []) $ free1 ! $ move ! (26 ∷ 27 ∷ []) $ free1 ! $ move ! (24 ∷ 25 ∷ []) $ free1 ! $ move ! (22 ∷ 23 ∷ []) $ free1 ! $ move ! (20 ∷ 21 ∷ []) $ free1 ! $ move ! (18 ∷ 19 ∷ []) $ free1 ! $ move ! (16 ∷ 17 ∷ []) $ free1 ! $ move ! (14 ∷ 15 ∷ []) $ free1 ! $ move ! (12 ∷ 13 ∷ []) $ free1 ! $ move ! (10 ∷ 11 ∷ []) $ free1 ! $ move ! (8 ∷ 9 ∷ []) $ free1 ! $ move ! (6 ∷ 7 ∷ []) $ free1 ! $ move ! (4 ∷ 5 ∷ []) $ free1 ! $ move ! (2 ∷ 3 ∷ []) $ free1 ! $ move ! (0 ∷ 1 ∷ []) $ free1 ! $ free0 ! $
+          assigns ! (bin ! (load ! (from ! (stop !)) (look ! 28 refl)) (load ! (from ! (stop !)) (look ! 32 refl)) tt) (from ! (stop !)) (init ! 22 refl (tt, tt)) $
+          rewrite ! 22 (λ (t : Bool). ‵ (fat fullShare tyBool l₈ 0 (vbool t))) test refl $ leaves-loop ! (load ! (from ! (stop !)) (look ! 22 refl)) $ exec ! C Λ En mir.t-7 (atRet En Post) $
+          assigns ! (of-opd ! (load ! (from ! (stop !)) (look ! 30 refl))) (from ! (stop !)) (init ! 38 refl (LL.lawful B.the-type B′.the-laws 𝓤 H A W .typed (tab i) _ is .0)) $
+          returns ! (look ! 38 refl) $ forget ! 22 refl $ forget ! 28 refl $ forget ! 30 refl $ forget ! 32 refl $ forget ! 34 refl $ forget ! 36 refl $ forget ! 38 refl $
+          move ! (38 ∷ 39 ∷ []) $ free1 ! $ move ! (36 ∷ 37 ∷ []) $ free1 ! $ move ! (34 ∷ 35 ∷ []) $ free1 ! $ move ! (32 ∷ 33 ∷ []) $ free1 ! $ move ! (30 ∷ 31 ∷ []) $ free1 ! $ move ! (28 ∷ 29 ∷ []) $ free1 ! $ move ! (26 ∷ 27 ∷ []) $ free1 ! $ move ! (24 ∷ 25 ∷ []) $ free1 ! $ move ! (22 ∷ 23 ∷ []) $ free1 ! $ move ! (20 ∷ 21 ∷ []) $ free1 ! $ move ! (18 ∷ 19 ∷ []) $ free1 ! $ move ! (16 ∷ 17 ∷ []) $ free1 ! $ move ! (14 ∷ 15 ∷ []) $ free1 ! $ move ! (12 ∷ 13 ∷ []) $ free1 ! $ move ! (10 ∷ 11 ∷ []) $ free1 ! $ move ! (8 ∷ 9 ∷ []) $ free1 ! $ move ! (6 ∷ 7 ∷ []) $ free1 ! $ move ! (4 ∷ 5 ∷ []) $ free1 ! $ move ! (2 ∷ 3 ∷ []) $ free1 ! $ move ! (0 ∷ 1 ∷ []) $ free1 ! $ free0 ! $
           by ! (exits i (le-antisymm il (nltb→le i m (subst (λ (t : Bool). Holds (not t)) (sym test) tt))) is)
 
       turns : (i : Upto) → Sq W (At i) (runs C Λ En mir.turn-1 (anyQ (Turned i)))
@@ -310,28 +312,28 @@ module _ {M : Type 1} (𝓤 : URA M) (H : Heap 𝓤) (A : Atoms 𝓤) (W : Given
     walk : ent 𝓤 (onEntry 𝓤 H A columns-of.signature (κ, tt) (q, tt) (x, tt) (s ∷ [], tt)) (WpFn 𝓤 H C Λ code.function (s ∷ []) Post)
     walk =
         qed W ((‵ (flft κ q) ⊛ ‵ ftrue) ∷ ‵ (owns (ShrSlice (named 0) κ T.the-row ∷ []) (x, tt) (s ∷ [], tt)) ∷ []) ∵ enter ! C Λ code.function (s ∷ []) _ $
-        alloc1 ! (λ l₀. alloc1 ! (λ l₁. alloc1 ! (λ l₂. alloc1 ! (λ l₃. alloc1 ! (λ l₄. alloc1 ! (λ l₅. alloc1 ! (λ l₆. alloc1 ! (λ l₇. alloc1 ! (λ l₈. alloc1 ! (λ l₉. alloc1 ! (λ l₁₀. alloc1 ! (λ l₁₁. alloc1 ! (λ l₁₂. alloc1 ! (λ l₁₃. alloc1 ! (λ l₁₄. alloc1 ! (λ l₁₅. alloc1 ! (λ l₁₆. alloc1 ! (λ l₁₇. alloc0 ! $ params1 ! $
-        pass1 ! (init ! 32 refl (tt, (tt, (record { fits = room-fits .0 }, tt)))) $ pass0 ! $
-        assigns ! (of-opd ! (load ! (from ! (fld ! refl (stop !))) (look-in ! 32 (sub ! 1 refl (whole !))))) (from ! (stop !)) (init ! 30 refl (tt, record { fits = room-fits .0 })) $
+        alloc1 ! (λ l₀. alloc1 ! (λ l₁. alloc1 ! (λ l₂. alloc1 ! (λ l₃. alloc1 ! (λ l₄. alloc1 ! (λ l₅. alloc1 ! (λ l₆. alloc1 ! (λ l₇. alloc1 ! (λ l₈. alloc1 ! (λ l₉. alloc1 ! (λ l₁₀. alloc1 ! (λ l₁₁. alloc1 ! (λ l₁₂. alloc1 ! (λ l₁₃. alloc1 ! (λ l₁₄. alloc1 ! (λ l₁₅. alloc1 ! (λ l₁₆. alloc1 ! (λ l₁₇. alloc1 ! (λ l₁₈. alloc1 ! (λ l₁₉. alloc0 ! $ params1 ! $
+        pass1 ! (init ! 36 refl (tt, (tt, (record { fits = room-fits .0 }, tt)))) $ pass0 ! $
+        assigns ! (of-opd ! (load ! (from ! (fld ! refl (stop !))) (look-in ! 36 (sub ! 1 refl (whole !))))) (from ! (stop !)) (init ! 34 refl (tt, record { fits = room-fits .0 })) $
         nothing ! $ use1 W (raw (Clip 𝓤 H A mem run .pre ((tt, tt, tt, (n, tt), with-n), tt))) goes-clip $
-        calls-at ! (fmOf 𝓤 H (W .laws) 𝓣) (Clip 𝓤 H A mem run) known-clip ((tt, tt, tt, (n, tt), with-n), tt) (and-then ! (load ! (from ! (stop !)) (look ! 31 refl)) (no-more !)) (λ v.
+        calls-at ! (fmOf 𝓤 H (W .laws) 𝓣) (Clip 𝓤 H A mem run) known-clip ((tt, tt, tt, (n, tt), with-n), tt) (and-then ! (load ! (from ! (stop !)) (look ! 35 refl)) (no-more !)) (λ v.
         use1 W (later (some (λ (k : ℕ). (‵ ftrue ⊛ ‵ (usize .own k (v ∷ []))) ⊛ raw (ensured 𝓤 H A clip.ended (clip.clauses 𝓤 H A mem run) tt (n, tt) tt k)))) (id⊢ 𝓤 _) $ await ! tt $ pick ! (λ k.
         split ! $ move ! (1 ∷ []) $ use1 W (raw (fact 𝓤 (k ≡ m))) (said-clip k) $ heard ! (k ≡ m) (λ e₀. split ! $ drop ! $
         peeks ! usize (Is usize) (shows 𝓤 H A usize) k (v ∷ []) (λ is-k. drop ! $
-        land ! (from ! (stop !)) (init ! 28 refl (uint-lawful 𝓤 H A W w64 .typed k _ is-k .0)) $
-        rewrite ! 28 (λ (w : Val). ‵ (fat fullShare word l₃ 0 w)) (ap only (uint-tells w64 k (v ∷ []) is-k) ∙ ap (vint w64) e₀) refl $
+        land ! (from ! (stop !)) (init ! 32 refl (uint-lawful 𝓤 H A W w64 .typed k _ is-k .0)) $
+        rewrite ! 32 (λ (w : Val). ‵ (fat fullShare word l₃ 0 w)) (ap only (uint-tells w64 k (v ∷ []) is-k) ∙ ap (vint w64) e₀) refl $
         nothing ! $ use1 W (raw (Empty 𝓤 H A mem run .pre ((tt, tt, tt, (n, tt), with-n), tt))) goes-empty $
-        calls-at ! (fmOf 𝓤 H (W .laws) 𝓣) (Empty 𝓤 H A mem run) known-empty ((tt, tt, tt, (n, tt), with-n), tt) (and-then ! (load ! (from ! (stop !)) (look ! 31 refl)) (no-more !)) (λ u.
+        calls-at ! (fmOf 𝓤 H (W .laws) 𝓣) (Empty 𝓤 H A mem run) known-empty ((tt, tt, tt, (n, tt), with-n), tt) (and-then ! (load ! (from ! (stop !)) (look ! 35 refl)) (no-more !)) (λ u.
         use1 W (later (some (λ (r : Columns). (‵ ftrue ⊛ ‵ (B.the-row .own r (u ∷ []))) ⊛ raw (ensured 𝓤 H A empty.ended (empty.clauses 𝓤 H A mem run) tt (n, tt) tt r)))) (id⊢ 𝓤 _) $ await ! tt $ pick ! (λ r.
         split ! $ move ! (1 ∷ []) $ use1 W (raw (fact 𝓤 (r ≡ blank n))) (said-empty r) $ heard ! (r ≡ blank n) (λ e. split ! $ drop ! $
         peeks ! B.the-row (Is B.the-row) (shows 𝓤 H A B.the-row) r (u ∷ []) (λ is. drop ! $
-        land ! (from ! (stop !)) (init ! 20 refl (LL.lawful B.the-type B′.the-laws 𝓤 H A W .typed r _ is .0)) $
-        assigns ! (of-opd ! (load ! (from ! (stop !)) (look ! 20 refl))) (from ! (stop !)) (init ! 26 refl (LL.lawful B.the-type B′.the-laws 𝓤 H A W .typed r _ is .0)) $ forget ! 20 refl $
-        rewrite ! 26 (λ (w : Val). ‵ (fat fullShare B′.mir l₄ 0 w)) (value-is r u is 0 (e ∙ columns-none (x .now) n)) refl $
-        assigns ! (of-opd ! (lit ! tt)) (from ! (stop !)) (init ! 24 refl (tt, record { fits = lit< tt })) $
-        -- [_17; …; _1; …; room for _0; …; the token; what t owns]
-        move ! (37 ∷ []) $ fsplit ! $ move ! (38 ∷ []) $ split ! $ keep ! (4 ∷ 5 ∷ 6 ∷ 7 ∷ 8 ∷ 9 ∷ 10 ∷ 11 ∷ 12 ∷ 13 ∷ 14 ∷ 15 ∷ 16 ∷ 17 ∷ 18 ∷ 19 ∷ 20 ∷ 21 ∷ 22 ∷ 23 ∷ 24 ∷ 25 ∷ 26 ∷ 27 ∷ 28 ∷ 29 ∷ 30 ∷ 31 ∷ 32 ∷ 33 ∷ 34 ∷ 35 ∷ 36 ∷ 37 ∷ 38 ∷ 39 ∷ 2 ∷ 0 ∷ []) $
-        looped l₀ l₁ l₂ l₃ l₄ l₅ l₆ l₇ l₈ l₉ l₁₀ l₁₁ l₁₂ l₁₃ l₁₄ l₁₅ l₁₆ l₁₇ (are-columns r u is 0 (e ∙ columns-none (x .now) n))))))))))))))))))))))))))))
+        land ! (from ! (stop !)) (init ! 24 refl (LL.lawful B.the-type B′.the-laws 𝓤 H A W .typed r _ is .0)) $
+        assigns ! (of-opd ! (load ! (from ! (stop !)) (look ! 24 refl))) (from ! (stop !)) (init ! 30 refl (LL.lawful B.the-type B′.the-laws 𝓤 H A W .typed r _ is .0)) $ forget ! 24 refl $
+        rewrite ! 30 (λ (w : Val). ‵ (fat fullShare B′.mir l₄ 0 w)) (value-is r u is 0 (e ∙ columns-none (x .now) n)) refl $
+        assigns ! (of-opd ! (lit ! tt)) (from ! (stop !)) (init ! 28 refl (tt, record { fits = lit< tt })) $
+        -- [_19; …; _1; …; room for _0; …; the token; what t owns]
+        move ! (41 ∷ []) $ fsplit ! $ move ! (42 ∷ []) $ split ! $ keep ! (4 ∷ 5 ∷ 6 ∷ 7 ∷ 8 ∷ 9 ∷ 10 ∷ 11 ∷ 12 ∷ 13 ∷ 14 ∷ 15 ∷ 16 ∷ 17 ∷ 18 ∷ 19 ∷ 20 ∷ 21 ∷ 22 ∷ 23 ∷ 24 ∷ 25 ∷ 26 ∷ 27 ∷ 28 ∷ 29 ∷ 30 ∷ 31 ∷ 32 ∷ 33 ∷ 34 ∷ 35 ∷ 36 ∷ 37 ∷ 38 ∷ 39 ∷ 40 ∷ 41 ∷ 42 ∷ 43 ∷ 2 ∷ 0 ∷ []) $
+        looped l₀ l₁ l₂ l₃ l₄ l₅ l₆ l₇ l₈ l₉ l₁₀ l₁₁ l₁₂ l₁₃ l₁₄ l₁₅ l₁₆ l₁₇ l₁₈ l₁₉ (are-columns r u is 0 (e ∙ columns-none (x .now) n))))))))))))))))))))))))))))))
 
 module _ {M : Type 1} (𝓤 : URA M) (H : Heap 𝓤) (A : Atoms 𝓤) (W : Given 𝓤 H A) (mem : Memory → SProp 𝓤) (run : Routine → Fun 𝓤) (𝓣 : Tables 𝓤 H) (known-clip : Triple 𝓤 (𝓣 .C #records·clip) (Clip 𝓤 H A mem run))
     (known-empty : Triple 𝓤 (𝓣 .C #records·empty) (Empty 𝓤 H A mem run)) (known-record-at : Triple 𝓤 (𝓣 .C #records·record-at) (RecordAt 𝓤 H A mem run)) where

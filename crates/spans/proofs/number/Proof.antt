@@ -1,71 +1,88 @@
-use Rattle.spans.proofs.Numbering.{Numbering, numbering-starts, many-fits, numbering-turns, numbering-ends}
 use Prim.Native.Nat.{_-_}
+use Rattle.spans.proofs.Numbering.{Numbering, numbering-starts, many-fits, place-fits, numbering-turns, numbering-ends}
 use Rattle.plan.specs.TableLaws.{parent-lower}
 use native.Mathlib.Omega.{arith}
 use borrow.Author.Needs.{needs}
 use Rattle.spans.proofs.number.Statement.{statement}
 use Rattle.spans.proofs.number.Tie as tie
-use Rattle.spans.proofs.number.Reads as reads
-use Rattle.spans.proofs.number.Lts as lts
-use Rattle.spans.proofs.parent_of.Reads as parent-of-reads
 
 abbrev Inv-loop : tie.InvT-loop
-Inv-loop t nth₀ many₀ c₀ nth many c = Numbering t c nth many
+Inv-loop links t nth₀ many₀ c₀ nth many c = Numbering t links c nth many
 
 abbrev μ-loop : tie.MeasureT-loop
-μ-loop t nth₀ many₀ c₀ nth many c = t .count - c
+μ-loop links t nth₀ many₀ c₀ nth many c = t .count - c
 
--- src/lib.rt:135:5
 loop-holds : tie.Need-loop-holds Inv-loop μ-loop
-loop-holds c = numbering-starts (c .args .t1) (c .pre)
+loop-holds c =
+    let st = c .before in
+    let a = st .args in
+    numbering-starts (a .t1) (st .pre .0) (a .links .now) (st .pre .1)
 
--- src/lib.rt:136:13
 parent-of-requires : tie.Need-parent-of-requires Inv-loop μ-loop
-parent-of-requires c κs = (omega arith, parent-lower (c .before .before .before .before .args .t1) (c .before .before .before .before .pre) _ (omega arith) (omega arith))
+parent-of-requires c κs =
+    let st = c .before .before .before .before .before in
+    let a = st .args in
+    let l = c .before .before .before .loop in
+    (omega arith, parent-lower (a .t1) (st .pre .0) (l .c) (omega arith) (omega arith))
 
--- src/lib.rt:137:17
-mul-k : tie.Need-mul-k Inv-loop μ-loop
-mul-k c = search needs
+place-of-requires : tie.Need-place-of-requires Inv-loop μ-loop
+place-of-requires c κs =
+    let st = c .before .before .before .before .before .before in
+    let a = st .args in
+    let l = c .before .before .before .before .loop in
+    omega (arith, st .pre .1 .size, l .inv .few)
 
--- src/lib.rt:137:17
-array-read-k : tie.Need-array-read-k Inv-loop μ-loop
-array-read-k c = search needs
+add-nth : tie.Need-add-nth Inv-loop μ-loop
+add-nth c =
+    let st = c .before .before .before .before .before .before .before in
+    let a = st .args in
+    let l = c .before .before .before .before .before .loop in
+    omega (arith, c .place-of .ensures, place-fits (a .t1) (st .pre .0) (a .links .now) (st .pre .1) (l .inv) (c .before .before .before .before .loop-test .taken) (c .before .parent-of .ensures .0))
 
--- src/lib.rt:137:17
-add-k : tie.Need-add-k Inv-loop μ-loop
-add-k c = omega (arith, many-fits (c .before .before .before .before .before .args .t1) (c .before .before .before .before .before .pre) (c .before .before .before .before .loop .inv) (c .before .before .before .loop-test .taken) (c .parent-of .ensures .0))
-
--- src/lib.rt:138:9
 mul-nth : tie.Need-mul-nth Inv-loop μ-loop
 mul-nth c = search needs
 
--- src/lib.rt:138:9
 array-write-nth : tie.Need-array-write-nth Inv-loop μ-loop
 array-write-nth c = search needs
 
--- src/lib.rt:139:9
 mul-many : tie.Need-mul-many Inv-loop μ-loop
 mul-many c = search needs
 
--- src/lib.rt:139:9
+array-read-many : tie.Need-array-read-many Inv-loop μ-loop
+array-read-many c = search needs
+
+add-many : tie.Need-add-many Inv-loop μ-loop
+add-many c =
+    let st = c .before .before .before .before .before .before .before in
+    let a = st .args in
+    let l = c .before .before .before .before .before .loop in
+    omega (arith, many-fits (a .t1) (st .pre .0) (a .links .now) (st .pre .1) (l .inv) (c .before .before .before .before .loop-test .taken) (c .before .parent-of .ensures .0))
+
+mul-many-2 : tie.Need-mul-many-2 Inv-loop μ-loop
+mul-many-2 c = search needs
+
 array-write-many : tie.Need-array-write-many Inv-loop μ-loop
 array-write-many c = search needs
 
--- src/lib.rt:140:9
 add-c : tie.Need-add-c Inv-loop μ-loop
 add-c c = search needs
 
--- src/lib.rt:135:5
 loop-less : tie.Need-loop-less Inv-loop μ-loop
 loop-less c = search needs
 
--- src/lib.rt:135:5
 loop-again : tie.Need-loop-again Inv-loop μ-loop
-loop-again c = numbering-turns (c .before .before .before .before .before .args .t1) (c .before .before .before .before .before .pre) (c .before .before .before .before .loop .inv) (c .before .before .before .loop-test .taken) (c .parent-of .ensures .0)
+loop-again c =
+    let st = c .before .before .before .before .before .before .before in
+    let a = st .args in
+    let l = c .before .before .before .before .before .loop in
+    numbering-turns (a .t1) (st .pre .0) (a .links .now) (st .pre .1) (l .inv) (c .before .before .before .before .loop-test .taken) (c .before .parent-of .ensures .0) (c .place-of .ensures)
 
--- src/lib.rt:128:1
 returns : tie.Need-returns Inv-loop μ-loop
-returns c = numbering-ends (c .before .before .args .t1) (c .before .before .pre) (c .before .loop .inv) (c .loop-test .left)
+returns c =
+    let st = c .before .before .before in
+    let a = st .args in
+    let l = c .before .loop in
+    numbering-ends (a .t1) (st .pre .0) (a .links .now) (st .pre .1) (l .inv) (c .loop-test .left)
 
 pub number-spec : {M : Type 1} → statement M
 number-spec =
@@ -75,12 +92,14 @@ number-spec =
     μ-loop
     loop-holds
     parent-of-requires
-    mul-k
-    array-read-k
-    add-k
+    place-of-requires
+    add-nth
     mul-nth
     array-write-nth
     mul-many
+    array-read-many
+    add-many
+    mul-many-2
     array-write-many
     add-c
     loop-less

@@ -10,7 +10,7 @@ survey-requires c κs =
     (fit-lower (s .args .t1) (s .pre), (fit-flat (s .args .t1) (s .pre), (refl, refl, refl)))
 
 tour-requires : tie.Need-tour-requires
-tour-requires c κs = record { fit = c .before .before .before .before .before .before .before .before .pre; rows = c .before .survey .ensures _ _ .2; scratch = refl }
+tour-requires c κs = record { fit = c .before .before .before .before .before .before .before .before .pre; rows = c .before .survey .ensures _ _ _ .2; scratch = refl }
 
 returns : tie.Need-returns
 returns c = search needs

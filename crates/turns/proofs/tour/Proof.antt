@@ -3,7 +3,7 @@ use mathlib.Core.Path.{_≡_, refl}
 use lib.ListN.{length}
 use native.Mathlib.Omega.{arith}
 use Rattle.plan.specs.Limits.{most-cells}
-use Rattle.marks.specs.Marks.{Long, linking, walking}
+use Rattle.marks.specs.Marks.{Long, walking}
 use Rattle.drawing.specs.LaidLaws.{markable}
 use Rattle.turns.proofs.tour.Statement.{statement}
 use Rattle.turns.proofs.tour.Tie as tie
@@ -12,20 +12,12 @@ use Rattle.turns.proofs.tour.Tie as tie
 long : (s : tie.Start) → Long (s .args .t1)
 long s =
     let t = s .args .t1 in
-    let p : length (t .parent) ≡ most-cells = search needs in
-    let k : length (t .kind) ≡ most-cells = search needs in
     let w : length (t .width) ≡ most-cells = search needs in
     let d : length (t .depth) ≡ most-cells = search needs in
-    record { parents = omega arith; kinds = omega arith; widths = omega arith; depths = omega arith }
+    record { widths = omega arith; depths = omega arith }
 
-slice-aggregate-link-all : tie.Need-slice-aggregate-link-all
-slice-aggregate-link-all c = search needs
-
-link-all-requires : tie.Need-link-all-requires
-link-all-requires c κs =
-    let s = c .before .before .before .before .before .before in
-    let a = s .args in
-    linking (a .t1) (a .tops .now) (a .allowance) _ _ (markable (a .t1) (s .pre .fit) (a .tops .now) (s .pre .rows) _ refl) (long s)
+links-of-requires : tie.Need-links-of-requires
+links-of-requires c κs = c .pre .fit
 
 slice-aggregate-watch : tie.Need-slice-aggregate-watch
 slice-aggregate-watch c = search needs
@@ -38,10 +30,10 @@ slice-aggregate-watch-3 c = search needs
 
 watch-requires : tie.Need-watch-requires
 watch-requires c κs =
-    let s = c .before .before .before .before .before .before .before .before .before .before .before .before .before .before .before .before .before in
+    let s = c .before .before .before .before .before .before .before .before .before .before in
     let a = s .args in
     let y : length (a .tops .now) ≡ most-cells = search needs in
-    walking (a .t1) (a .tops .now) (a .allowance) _ _ (markable (a .t1) (s .pre .fit) (a .tops .now) (s .pre .rows) _ refl) (long s) _ (c .before .before .before .before .before .before .before .before .before .before .link-all .ensures) (omega arith) (search needs)
+    walking (a .t1) (a .tops .now) (a .allowance) _ _ (markable (a .t1) (s .pre .fit) (a .tops .now) (s .pre .rows) _ refl) (long s) _ (c .before .before .before .before .before .before .before .before .before .links-of .ensures) (omega arith) (search needs)
 
 returns : tie.Need-returns
 returns c = search needs
@@ -50,8 +42,7 @@ pub tour-spec : {M : Type 1} → statement M
 tour-spec =
     tie.close
     (tie.spec
-    slice-aggregate-link-all
-    link-all-requires
+    links-of-requires
     slice-aggregate-watch
     slice-aggregate-watch-2
     slice-aggregate-watch-3

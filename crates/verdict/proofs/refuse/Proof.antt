@@ -22,7 +22,7 @@ lent-refusal-requires c κs = search needs
 
 -- src/lib.rt:43:9
 returns : tie.Need-returns
-returns c = stops _ _ _ (c .before .before .lent-refusal .ensures) (c .if1 .taken) ∙ sym (check-refusal (table-of (c .before .before .before .before .before .before .before .before .args .t1)) (c .before .before .before .before .before .before .before .before .args .allowance) (c .before .before .before .before .before .before .before .before .args .positions .now))
+returns c = stops _ _ _ (c .before .before .lent-refusal .ensures _) (c .if1 .taken) ∙ sym (check-refusal (table-of (c .before .before .before .before .before .before .before .before .args .t1)) (c .before .before .before .before .before .before .before .before .args .allowance) (c .before .before .before .before .before .before .before .before .args .positions .now))
 
 -- src/lib.rt:45:9
 allowance-refusal-requires : tie.Need-allowance-refusal-requires
@@ -30,15 +30,15 @@ allowance-refusal-requires c κs = search needs
 
 -- src/lib.rt:47:9
 returns-2 : tie.Need-returns-2
-returns-2 c = goes-on _ _ _ _ (c .before .before .before .before .before .lent-refusal .ensures) (c .before .before .before .if1 .left) (stops _ _ _ (c .before .before .allowance-refusal .ensures) (c .if2 .taken)) ∙ sym (check-refusal (table-of (c .before .before .before .before .before .before .before .before .before .before .before .args .t1)) (c .before .before .before .before .before .before .before .before .before .before .before .args .allowance) (c .before .before .before .before .before .before .before .before .before .before .before .args .positions .now))
+returns-2 c = goes-on _ _ _ _ (c .before .before .before .before .before .lent-refusal .ensures _) (c .before .before .before .if1 .left) (stops _ _ _ (c .before .before .allowance-refusal .ensures) (c .if2 .taken)) ∙ sym (check-refusal (table-of (c .before .before .before .before .before .before .before .before .before .before .before .args .t1)) (c .before .before .before .before .before .before .before .before .before .before .before .args .allowance) (c .before .before .before .before .before .before .before .before .before .before .before .args .positions .now))
 
 -- src/lib.rt:49:5
 near-refusal-requires : tie.Need-near-refusal-requires
-near-refusal-requires c κs = let h = (lent-fit _ _ (ap (λ (x : Refusal). x .number) (sym (c .before .before .before .before .before .lent-refusal .ensures)) ∙ (c .before .before .before .if1 .left))) in (count-few (c .before .before .before .before .before .before .before .before .before .before .before .args .t1) (h .fit), omega (arith, h .room, length-is (c .before .before .before .before .before .before .before .before .before .before .before .args .t1)))
+near-refusal-requires c κs = let h = (lent-fit _ _ (ap (λ (x : Refusal). x .number) (sym (c .before .before .before .before .before .lent-refusal .ensures _)) ∙ (c .before .before .before .if1 .left))) in (count-few (c .before .before .before .before .before .before .before .before .before .before .before .args .t1) (h .fit), omega (arith, h .room, length-is (c .before .before .before .before .before .before .before .before .before .before .before .args .t1)))
 
 -- src/lib.rt:33:1
 returns-3 : tie.Need-returns-3
-returns-3 c = goes-on _ _ _ _ (c .before .before .before .before .before .before .lent-refusal .ensures) (c .before .before .before .before .if1 .left) (goes-on _ _ _ _ (c .before .before .before .allowance-refusal .ensures) (c .before .if2 .left) ((c .near-refusal .ensures) ∙ ap (near-refusal _) (sym (length-is (c .before .before .before .before .before .before .before .before .before .before .before .before .args .t1))))) ∙ sym (check-refusal (table-of (c .before .before .before .before .before .before .before .before .before .before .before .before .args .t1)) (c .before .before .before .before .before .before .before .before .before .before .before .before .args .allowance) (c .before .before .before .before .before .before .before .before .before .before .before .before .args .positions .now))
+returns-3 c = goes-on _ _ _ _ (c .before .before .before .before .before .before .lent-refusal .ensures _) (c .before .before .before .before .if1 .left) (goes-on _ _ _ _ (c .before .before .before .allowance-refusal .ensures) (c .before .if2 .left) ((c .near-refusal .ensures) ∙ ap (near-refusal _) (sym (length-is (c .before .before .before .before .before .before .before .before .before .before .before .before .args .t1))))) ∙ sym (check-refusal (table-of (c .before .before .before .before .before .before .before .before .before .before .before .before .args .t1)) (c .before .before .before .before .before .before .before .before .before .before .before .before .args .allowance) (c .before .before .before .before .before .before .before .before .before .before .before .before .args .positions .now))
 
 pub refuse-spec : {M : Type 1} → statement M
 refuse-spec =

@@ -4,11 +4,11 @@
 //!     bench                          the calls
 //!     bench PLAN PROGRAM...          programs that print a plan's listing, such as `sheet`: microseconds a run
 
-use bindings::Record;
+use bindings::{Record, Sheet};
 use compare::plain;
 use reference::generate::{file, labels, table, Shape, Sizes};
 use reference::rng::Rng;
-use reference::Form;
+use reference::{Cell, Form};
 use std::fs::File;
 use std::hint::black_box;
 use std::process::Command;
@@ -71,6 +71,23 @@ fn main() {
     }
 }
 
+/// One line of the table.
+fn line(call: &str, shape: Shape, cells: usize, sheet: Sheet, (engine, rust): (f64, f64)) {
+    println!("| {call} | {shape:?} | {cells} | {} | {engine:.0} | {rust:.0} | {:.2} |", sheet.rows, engine / rust);
+}
+
+fn record(c: &Cell) -> Record {
+    Record {
+        parent: c.parent,
+        kind: c.kind,
+        rank: c.rank,
+        width: c.width,
+        depth: c.depth,
+        label_length: c.label_len,
+        label_start: c.label_start,
+    }
+}
+
 fn calls() {
     println!("| call | shape | cells | rows | engine ns | Rust ns | ratio |\n|---|---|---|---|---|---|---|");
     for shape in [Shape::Bushy, Shape::Chain, Shape::Deep, Shape::Wide] {
@@ -78,69 +95,59 @@ fn calls() {
             let mut rng = Rng::new(SEED, n as u64);
             let mut cells = table(&mut rng, shape, n, &Sizes { max_width: 30, max_depth: 3 });
             let text = labels(&mut rng, &mut cells);
-            let (bytes, wide) = (file(Form::Old, &text, &cells, 10), file(Form::Wide, &text, &cells, 10));
-            let records: Vec<Record> = cells
-                .iter()
-                .map(|c| Record {
-                    parent: c.parent,
-                    kind: c.kind,
-                    width: c.width,
-                    depth: c.depth,
-                    label_length: c.label_len,
-                    label_start: c.label_start,
-                })
-                .collect();
-            let (mut scratch, mut positions) = (vec![0; 16_384], vec![0; 2 * records.len()]);
-            let sheet = bindings::layout(&records, 10, &mut scratch, &mut positions).expect("a valid plan");
-            let mut same = positions.clone();
-            assert_eq!(plain::layout(&records, 10, &mut scratch, &mut same), Ok(sheet));
-            assert_eq!(same, positions);
-            let (mut t, mut u) = (vec![Record::default(); 256], vec![Record::default(); 256]);
-            for form in [&bytes, &wide] {
-                assert_eq!(bindings::read(form, &mut t), plain::read(form, &mut u));
-                assert_eq!(t, u);
-            }
-            let (mut out, mut text) = (vec![0; 17_408], vec![0; 17_408]);
-            assert_eq!(bindings::list(&bytes, &mut out), plain::list(&bytes, &mut text));
-            assert_eq!(out, text);
-            assert_eq!(bindings::check(&records, &positions, 10), plain::check(&records, &positions, 10));
-            let last = records.len() - 1;
-            assert_eq!(bindings::ends(&records, &positions, last), plain::ends(&records, &positions, last));
-
-            assert_eq!(bindings::frame(&records, sheet.width, &mut scratch), plain::frame(&records, sheet.width, &mut scratch));
-
-            let line = |call: &str, (engine, rust): (f64, f64)| {
-                println!("| {call} | {shape:?} | {} | {} | {engine:.0} | {rust:.0} | {:.2} |", records.len(), sheet.rows, engine / rust);
-            };
-            let mut other = scratch.clone();
-            line("Layout", race(
-                || { let _ = black_box(bindings::layout(black_box(&records), 10, &mut scratch, &mut positions)); },
-                || { let _ = black_box(plain::layout(black_box(&records), 10, &mut other, &mut same)); },
-            ));
-            line("Check", race(
-                || { let _ = black_box(bindings::check(black_box(&records), &positions, 10)); },
-                || { let _ = black_box(plain::check(black_box(&records), &positions, 10)); },
-            ));
-            line("Read", race(
-                || { let _ = black_box(bindings::read(black_box(&bytes), &mut t)); },
-                || { let _ = black_box(plain::read(black_box(&bytes), &mut u)); },
-            ));
-            line("Read, wide form", race(
-                || { let _ = black_box(bindings::read(black_box(&wide), &mut t)); },
-                || { let _ = black_box(plain::read(black_box(&wide), &mut u)); },
-            ));
-            line("Ends", race(
-                || { let _ = black_box(bindings::ends(black_box(&records), &positions, last)); },
-                || { let _ = black_box(plain::ends(black_box(&records), &positions, last)); },
-            ));
-            line("List", race(
-                || { let _ = black_box(bindings::list(black_box(&bytes), &mut out)); },
-                || { let _ = black_box(plain::list(black_box(&bytes), &mut text)); },
-            ));
-            line("Frame", race(
-                || { let _ = black_box(bindings::frame(black_box(&records), sheet.width, &mut scratch)); },
-                || { let _ = black_box(plain::frame(black_box(&records), sheet.width, &mut other)); },
-            ));
+            file_calls(shape, cells.len(), &file(Form::Old, &text, &cells, 10), "");
+            table_calls(shape, &cells.iter().map(record).collect::<Vec<_>>(), "");
+            cells.iter_mut().for_each(|c| c.rank = rng.next() as u8);
+            file_calls(shape, cells.len(), &file(Form::Wide, &text, &cells, 10), ", wide form");
+            table_calls(shape, &cells.iter().map(record).collect::<Vec<_>>(), ", ranks");
         }
     }
+}
+
+fn file_calls(shape: Shape, n: usize, bytes: &[u8], note: &str) {
+    let (mut t, mut u) = (vec![Record::default(); 256], vec![Record::default(); 256]);
+    assert_eq!(bindings::read(bytes, &mut t), plain::read(bytes, &mut u));
+    assert_eq!(t, u);
+    let (mut out, mut text) = (vec![0; 17_408], vec![0; 17_408]);
+    assert_eq!(bindings::list(bytes, &mut out), plain::list(bytes, &mut text));
+    assert_eq!(out, text);
+    let sheet = plain::layout(&t[..n], 10, &mut vec![0; 16_384], &mut vec![0; 2 * n]).expect("a valid plan");
+
+    line(&format!("Read{note}"), shape, n, sheet, race(
+        || { let _ = black_box(bindings::read(black_box(bytes), &mut t)); },
+        || { let _ = black_box(plain::read(black_box(bytes), &mut u)); },
+    ));
+    line(&format!("List{note}"), shape, n, sheet, race(
+        || { let _ = black_box(bindings::list(black_box(bytes), &mut out)); },
+        || { let _ = black_box(plain::list(black_box(bytes), &mut text)); },
+    ));
+}
+
+fn table_calls(shape: Shape, records: &[Record], note: &str) {
+    let n = records.len();
+    let (mut scratch, mut positions) = (vec![0; 16_384], vec![0; 2 * n]);
+    let sheet = bindings::layout(records, 10, &mut scratch, &mut positions).expect("a valid plan");
+    let (mut same, mut other) = (positions.clone(), scratch.clone());
+    assert_eq!(plain::layout(records, 10, &mut scratch, &mut same), Ok(sheet));
+    assert_eq!(same, positions);
+    assert_eq!(bindings::check(records, &positions, 10), plain::check(records, &positions, 10));
+    assert_eq!(bindings::ends(records, &positions, n - 1), plain::ends(records, &positions, n - 1));
+    assert_eq!(bindings::frame(records, sheet.width, &mut scratch), plain::frame(records, sheet.width, &mut scratch));
+
+    line(&format!("Layout{note}"), shape, n, sheet, race(
+        || { let _ = black_box(bindings::layout(black_box(records), 10, &mut scratch, &mut positions)); },
+        || { let _ = black_box(plain::layout(black_box(records), 10, &mut other, &mut same)); },
+    ));
+    line(&format!("Check{note}"), shape, n, sheet, race(
+        || { let _ = black_box(bindings::check(black_box(records), &positions, 10)); },
+        || { let _ = black_box(plain::check(black_box(records), &positions, 10)); },
+    ));
+    line(&format!("Ends{note}"), shape, n, sheet, race(
+        || { let _ = black_box(bindings::ends(black_box(records), &positions, n - 1)); },
+        || { let _ = black_box(plain::ends(black_box(records), &positions, n - 1)); },
+    ));
+    line(&format!("Frame{note}"), shape, n, sheet, race(
+        || { let _ = black_box(bindings::frame(black_box(records), sheet.width, &mut scratch)); },
+        || { let _ = black_box(plain::frame(black_box(records), sheet.width, &mut other)); },
+    ));
 }

@@ -36,7 +36,7 @@ fn some_file(rng: &mut Rng) -> Vec<u8> {
     let mut cells = make::any_table(rng, n);
     let form = rng.pick(&FORMS);
     if !rng.once_in(8) {
-        make::narrow(form, &mut cells);
+        make::fit(form, &mut cells);
     }
     let labels = make::labels(rng, &mut cells);
     let mut file = make::file(form, &labels, &cells, rng.next() as u16);
@@ -60,6 +60,7 @@ fn some_table(rng: &mut Rng) -> Vec<Record> {
             .map(|_| Record {
                 parent: rng.next() as u16,
                 kind: rng.next() as u8,
+                rank: rng.next() as u8,
                 width: rng.next() as u16,
                 depth: rng.next() as u8,
                 label_length: rng.next() as u8,
@@ -75,6 +76,7 @@ fn some_table(rng: &mut Rng) -> Vec<Record> {
     let record = |c: &reference::Cell| Record {
         parent: c.parent,
         kind: c.kind,
+        rank: c.rank,
         width: c.width,
         depth: c.depth,
         label_length: rng.next() as u8,

@@ -28,7 +28,7 @@ fn main() {
         let n = if number % 50 == 0 { 256 } else { rng.between(1, 40) as usize };
         let mut cells = make::any_table(&mut rng, n);
         let form = rng.pick(&FORMS);
-        make::narrow(form, &mut cells);
+        make::fit(form, &mut cells);
         let labels = make::labels(&mut rng, &mut cells);
         let mut file = make::file(form, &labels, &cells, make::allowance(&mut rng).min(65_535) as u16);
         match number % 10 {

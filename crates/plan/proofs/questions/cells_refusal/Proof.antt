@@ -53,7 +53,7 @@ cell-refusal-requires c κs = search needs
 
 -- src/questions.rt:93:13
 returns : tie.Need-returns Inv-loop μ-loop
-returns c = loop-stops _ _ _ (c .before .before .before .before .before .before .before .before .loop .inv .1) (c .before .before .before .before .before .before .before .loop-test .taken) _ (c .before .before .cell-refusal .ensures) (c .if1 .taken) ∙ sym (cells-columns _ _ _ _ _)
+returns c = λ qs. loop-stops _ _ _ (c .before .before .before .before .before .before .before .before .loop .inv .1) (c .before .before .before .before .before .before .before .loop-test .taken) _ (c .before .before .cell-refusal .ensures) (c .if1 .taken) ∙ sym (cells-columns _ _ _ _ qs _)
 
 -- src/questions.rt:95:9
 add-c : tie.Need-add-c Inv-loop μ-loop
@@ -69,7 +69,7 @@ loop-again c = (omega arith, loop-goes-on _ _ _ (c .before .before .before .befo
 
 -- src/questions.rt:79:1
 returns-2 : tie.Need-returns-2 Inv-loop μ-loop
-returns-2 c = loop-ends _ _ _ (c .before .loop .inv .1) (c .loop-test .left) ∙ sym (cells-columns _ _ _ _ _)
+returns-2 c = λ qs. loop-ends _ _ _ (c .before .loop .inv .1) (c .loop-test .left) ∙ sym (cells-columns _ _ _ _ qs _)
 
 pub cells-refusal-spec : {M : Type 1} → statement M
 cells-refusal-spec =

@@ -20,7 +20,7 @@ asked-requires c κs = search needs
 returns : tie.Need-returns
 returns c =
     let a = c .before .before .before .before .args in
-    stops _ _ _ (c .before .before .asked .ensures ∙ ap (λ x. asked 4 x 0) (c .before .before .before .counted .ensures)) (c .if1 .taken) ∙ sym (counted-columns (a .parents .now) (a .kinds .now) (a .widths .now) (a .depths .now) (a .n))
+    λ qs. stops _ _ _ (c .before .before .asked .ensures ∙ ap (λ x. asked 4 x 0) (c .before .before .before .counted .ensures)) (c .if1 .taken) ∙ sym (counted-columns (a .parents .now) (a .kinds .now) (a .widths .now) (a .depths .now) qs (a .n))
 
 table-refusal-requires : tie.Need-table-refusal-requires
 table-refusal-requires c κs = counted-read _ _ (c .before .before .asked .ensures ∙ ap (λ x. asked 4 x 0) (c .before .before .before .counted .ensures)) (c .if1 .left)
@@ -28,7 +28,7 @@ table-refusal-requires c κs = counted-read _ _ (c .before .before .asked .ensur
 returns-2 : tie.Need-returns-2
 returns-2 c =
     let a = c .before .before .before .before .before .args in
-    goes-on _ _ _ _ (c .before .before .before .asked .ensures ∙ ap (λ x. asked 4 x 0) (c .before .before .before .before .counted .ensures)) (c .before .if1 .left) (c .table-refusal .ensures) ∙ sym (counted-columns (a .parents .now) (a .kinds .now) (a .widths .now) (a .depths .now) (a .n))
+    λ qs. goes-on _ _ _ _ (c .before .before .before .asked .ensures ∙ ap (λ x. asked 4 x 0) (c .before .before .before .before .counted .ensures)) (c .before .if1 .left) (c .table-refusal .ensures qs) ∙ sym (counted-columns (a .parents .now) (a .kinds .now) (a .widths .now) (a .depths .now) qs (a .n))
 
 pub counted-refusal-spec : {M : Type 1} → statement M
 counted-refusal-spec =

@@ -22,7 +22,7 @@ asked-requires c κs = search needs
 
 -- src/questions.rt:223:9
 returns : tie.Need-returns
-returns c = stops _ _ _ (c .before .before .asked .ensures ∙ ap (λ x. asked 4 x 0) (c .before .before .before .counted .ensures)) (c .if1 .taken) ∙ sym (lent-columns (c .before .before .before .before .args .parents .now) (c .before .before .before .before .args .kinds .now) (c .before .before .before .before .args .widths .now) (c .before .before .before .before .args .depths .now) (c .before .before .before .before .args .n) (c .before .before .before .before .args .positions))
+returns c = λ qs. stops _ _ _ (c .before .before .asked .ensures ∙ ap (λ x. asked 4 x 0) (c .before .before .before .counted .ensures)) (c .if1 .taken) ∙ sym (lent-columns (c .before .before .before .before .args .parents .now) (c .before .before .before .before .args .kinds .now) (c .before .before .before .before .args .widths .now) (c .before .before .before .before .args .depths .now) qs (c .before .before .before .before .args .n) (c .before .before .before .before .args .positions))
 
 -- src/questions.rt:225:25
 mul-asked : tie.Need-mul-asked
@@ -34,7 +34,7 @@ asked-requires-2 c κs = search needs
 
 -- src/questions.rt:227:9
 returns-2 : tie.Need-returns-2
-returns-2 c = goes-on _ _ _ _ (c .before .before .before .before .before .asked .ensures ∙ ap (λ x. asked 4 x 0) (c .before .before .before .before .before .before .counted .ensures)) (c .before .before .before .if1 .left) (stops _ _ _ (c .before .before .asked2 .ensures) (c .if2 .taken)) ∙ sym (lent-columns (c .before .before .before .before .before .before .before .args .parents .now) (c .before .before .before .before .before .before .before .args .kinds .now) (c .before .before .before .before .before .before .before .args .widths .now) (c .before .before .before .before .before .before .before .args .depths .now) (c .before .before .before .before .before .before .before .args .n) (c .before .before .before .before .before .before .before .args .positions))
+returns-2 c = λ qs. goes-on _ _ _ _ (c .before .before .before .before .before .asked .ensures ∙ ap (λ x. asked 4 x 0) (c .before .before .before .before .before .before .counted .ensures)) (c .before .before .before .if1 .left) (stops _ _ _ (c .before .before .asked2 .ensures) (c .if2 .taken)) ∙ sym (lent-columns (c .before .before .before .before .before .before .before .args .parents .now) (c .before .before .before .before .before .before .before .args .kinds .now) (c .before .before .before .before .before .before .before .args .widths .now) (c .before .before .before .before .before .before .before .args .depths .now) qs (c .before .before .before .before .before .before .before .args .n) (c .before .before .before .before .before .before .before .args .positions))
 
 -- src/questions.rt:229:5
 table-refusal-requires : tie.Need-table-refusal-requires
@@ -42,7 +42,7 @@ table-refusal-requires c κs = counted-read _ _ (c .before .before .before .befo
 
 -- src/questions.rt:211:1
 returns-3 : tie.Need-returns-3
-returns-3 c = goes-on _ _ _ _ (c .before .before .before .before .before .before .asked .ensures ∙ ap (λ x. asked 4 x 0) (c .before .before .before .before .before .before .before .counted .ensures)) (c .before .before .before .before .if1 .left) (goes-on _ _ _ _ (c .before .before .before .asked2 .ensures) (c .before .if2 .left) (c .table-refusal .ensures)) ∙ sym (lent-columns (c .before .before .before .before .before .before .before .before .args .parents .now) (c .before .before .before .before .before .before .before .before .args .kinds .now) (c .before .before .before .before .before .before .before .before .args .widths .now) (c .before .before .before .before .before .before .before .before .args .depths .now) (c .before .before .before .before .before .before .before .before .args .n) (c .before .before .before .before .before .before .before .before .args .positions))
+returns-3 c = λ qs. goes-on _ _ _ _ (c .before .before .before .before .before .before .asked .ensures ∙ ap (λ x. asked 4 x 0) (c .before .before .before .before .before .before .before .counted .ensures)) (c .before .before .before .before .if1 .left) (goes-on _ _ _ _ (c .before .before .before .asked2 .ensures) (c .before .if2 .left) (c .table-refusal .ensures qs)) ∙ sym (lent-columns (c .before .before .before .before .before .before .before .before .args .parents .now) (c .before .before .before .before .before .before .before .before .args .kinds .now) (c .before .before .before .before .before .before .before .before .args .widths .now) (c .before .before .before .before .before .before .before .before .args .depths .now) qs (c .before .before .before .before .before .before .before .before .args .n) (c .before .before .before .before .before .before .before .before .args .positions))
 
 pub lent-refusal-spec : {M : Type 1} → statement M
 lent-refusal-spec =

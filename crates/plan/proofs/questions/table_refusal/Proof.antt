@@ -1,4 +1,5 @@
 use mathlib.Core.Path.{sym, ap, _∙_}
+use mathlib.Core.List.{[]}
 use Rattle.plan.specs.declared.Refusal.{Refusal}
 use Rattle.plan.specs.Steps.{table-refusal}
 use Rattle.plan.specs.QuestionLaws.{stops, goes-on}
@@ -21,16 +22,16 @@ cells-refusal-requires c κs = search needs
 -- src/questions.rt:210:9
 returns : tie.Need-returns
 unfolding table-refusal
-returns c = stops _ _ _ (c .before .before .cells-refusal .ensures) (c .if1 .taken)
+returns c = λ qs. stops _ _ _ (c .before .before .cells-refusal .ensures qs) (c .if1 .taken)
 
 -- src/questions.rt:212:5
 tree-refusal-requires : tie.Need-tree-refusal-requires
-tree-refusal-requires c κs = (cells-lower (c .before .before .before .args .parents .now) (c .before .before .before .args .kinds .now) (c .before .before .before .args .widths .now) (c .before .before .before .args .depths .now) (c .before .before .before .args .n) (ap (λ (x : Refusal). x .number) (sym (c .before .before .cells-refusal .ensures)) ∙ c .if1 .left) (c .before .before .before .pre .0) (c .before .before .before .pre .1), cells-flat (c .before .before .before .args .parents .now) (c .before .before .before .args .kinds .now) (c .before .before .before .args .widths .now) (c .before .before .before .args .depths .now) (c .before .before .before .args .n) (ap (λ (x : Refusal). x .number) (sym (c .before .before .cells-refusal .ensures)) ∙ c .if1 .left))
+tree-refusal-requires c κs = (cells-lower (c .before .before .before .args .parents .now) (c .before .before .before .args .kinds .now) (c .before .before .before .args .widths .now) (c .before .before .before .args .depths .now) [] (c .before .before .before .args .n) (ap (λ (x : Refusal). x .number) (sym (c .before .before .cells-refusal .ensures [])) ∙ c .if1 .left) (c .before .before .before .pre .0) (c .before .before .before .pre .1), cells-flat (c .before .before .before .args .parents .now) (c .before .before .before .args .kinds .now) (c .before .before .before .args .widths .now) (c .before .before .before .args .depths .now) [] (c .before .before .before .args .n) (ap (λ (x : Refusal). x .number) (sym (c .before .before .cells-refusal .ensures [])) ∙ c .if1 .left))
 
 -- src/questions.rt:198:1
 returns-2 : tie.Need-returns-2
 unfolding table-refusal
-returns-2 c = goes-on _ _ _ _ (c .before .before .before .cells-refusal .ensures) (c .before .if1 .left) (c .tree-refusal .ensures _)
+returns-2 c = λ qs. goes-on _ _ _ _ (c .before .before .before .cells-refusal .ensures qs) (c .before .if1 .left) (c .tree-refusal .ensures _ qs)
 
 pub table-refusal-spec : {M : Type 1} → statement M
 table-refusal-spec =

@@ -16,7 +16,7 @@ returns : tie.Need-returns
 unfolding tree-refusal
 returns c =
     let g = c .before .before .before .before .before .before .before .before .args in
-    λ ws. stops _ _ _ (c .before .before .children-refusal .ensures ∙ sym (children-columns (g .parents .now) (g .kinds .now) ws (g .depths .now) (g .n) _ (c .before .before .before .before .survey .ensures _ ws .0))) (c .if1 .taken)
+    λ ws qs. stops _ _ _ (c .before .before .children-refusal .ensures ∙ sym (children-columns (g .parents .now) (g .kinds .now) ws (g .depths .now) qs (g .n) _ (c .before .before .before .before .survey .ensures _ ws qs .0))) (c .if1 .taken)
 
 levels-refusal-requires : tie.Need-levels-refusal-requires
 levels-refusal-requires c κs = c .before .before .before .before .before .before .before .before .before .pre .0 .few
@@ -25,22 +25,22 @@ returns-2 : tie.Need-returns-2
 unfolding tree-refusal
 returns-2 c =
     let g = c .before .before .before .before .before .before .before .before .before .before .before .before .args in
-    λ ws. goes-on _ _ _ _ (c .before .before .before .before .before .before .children-refusal .ensures ∙ sym (children-columns (g .parents .now) (g .kinds .now) ws (g .depths .now) (g .n) _ (c .before .before .before .before .before .before .before .before .survey .ensures _ ws .0))) (c .before .before .before .before .if1 .left)
-    (stops _ _ _ (c .before .before .levels-refusal .ensures ∙ sym (levels-columns (g .parents .now) (g .kinds .now) ws (g .depths .now) (g .n) _ (c .before .before .before .before .before .before .before .before .survey .ensures _ ws .1))) (c .if2 .taken))
+    λ ws qs. goes-on _ _ _ _ (c .before .before .before .before .before .before .children-refusal .ensures ∙ sym (children-columns (g .parents .now) (g .kinds .now) ws (g .depths .now) qs (g .n) _ (c .before .before .before .before .before .before .before .before .survey .ensures _ ws qs .0))) (c .before .before .before .before .if1 .left)
+    (stops _ _ _ (c .before .before .levels-refusal .ensures ∙ sym (levels-columns (g .parents .now) (g .kinds .now) ws (g .depths .now) qs (g .n) _ (c .before .before .before .before .before .before .before .before .survey .ensures _ ws qs .1))) (c .if2 .taken))
 
 rows-refusal-requires : tie.Need-rows-refusal-requires
 rows-refusal-requires c κs =
     let st = c .before .before .before .before .before .before .before .before .before .before .before .before .before in
     let g = st .args in
-    (st .pre .0 .few, rows-short (g .parents .now) (g .kinds .now) [] (g .depths .now) _ _ (st .pre .0) (st .pre .1) (c .before .before .before .before .before .before .before .before .before .survey .ensures _ _ .2))
+    (st .pre .0 .few, rows-short (g .parents .now) (g .kinds .now) [] (g .depths .now) [] _ _ (st .pre .0) (st .pre .1) (c .before .before .before .before .before .before .before .before .before .survey .ensures _ _ _ .2))
 
 returns-3 : tie.Need-returns-3
 unfolding tree-refusal
 returns-3 c =
     let g = c .before .before .before .before .before .before .before .before .before .before .before .before .before .before .args in
-    λ ws. goes-on _ _ _ _ (c .before .before .before .before .before .before .before .before .children-refusal .ensures ∙ sym (children-columns (g .parents .now) (g .kinds .now) ws (g .depths .now) (g .n) _ (c .before .before .before .before .before .before .before .before .before .before .survey .ensures _ ws .0))) (c .before .before .before .before .before .before .if1 .left)
-    (goes-on _ _ _ _ (c .before .before .before .before .levels-refusal .ensures ∙ sym (levels-columns (g .parents .now) (g .kinds .now) ws (g .depths .now) (g .n) _ (c .before .before .before .before .before .before .before .before .before .before .survey .ensures _ ws .1))) (c .before .before .if2 .left)
-    (c .rows-refusal .ensures ∙ sym (rows-columns (g .parents .now) (g .kinds .now) ws (g .depths .now) (g .n) _ (c .before .before .before .before .before .before .before .before .before .before .survey .ensures _ ws .2))))
+    λ ws qs. goes-on _ _ _ _ (c .before .before .before .before .before .before .before .before .children-refusal .ensures ∙ sym (children-columns (g .parents .now) (g .kinds .now) ws (g .depths .now) qs (g .n) _ (c .before .before .before .before .before .before .before .before .before .before .survey .ensures _ ws qs .0))) (c .before .before .before .before .before .before .if1 .left)
+    (goes-on _ _ _ _ (c .before .before .before .before .levels-refusal .ensures ∙ sym (levels-columns (g .parents .now) (g .kinds .now) ws (g .depths .now) qs (g .n) _ (c .before .before .before .before .before .before .before .before .before .before .survey .ensures _ ws qs .1))) (c .before .before .if2 .left)
+    (c .rows-refusal .ensures ∙ sym (rows-columns (g .parents .now) (g .kinds .now) ws (g .depths .now) qs (g .n) _ (c .before .before .before .before .before .before .before .before .before .before .survey .ensures _ ws qs .2))))
 
 pub tree-refusal-spec : {M : Type 1} → statement M
 tree-refusal-spec =

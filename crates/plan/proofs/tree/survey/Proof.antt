@@ -13,7 +13,7 @@ use Rattle.plan.proofs.tree.survey.Tie as tie
 abbrev Inv-loop : tie.InvT-loop
 Inv-loop parents depths n counts₀ levels₀ rows₀ c₀ counts levels rows c =
     (1 ≤ c) × (c ≤ n) × (length counts ≡ most-cells) × (length levels ≡ most-cells) × (length rows ≡ most-cells) × ((f : ℕ) → f < most-cells → getD counts f 0 ≡ seen parents (c - 1) f)
-    × ((ks ws : List ℕ) (x : ℕ) → x < c → getD levels x 0 ≡ level (table parents ks ws depths n) x) × ((ks ws : List ℕ) (x : ℕ) → x < c → getD rows x 0 ≡ row (table parents ks ws depths n) x)
+    × ((ks ws qs : List ℕ) (x : ℕ) → x < c → getD levels x 0 ≡ level (table parents ks ws depths qs n) x) × ((ks ws qs : List ℕ) (x : ℕ) → x < c → getD rows x 0 ≡ row (table parents ks ws depths qs n) x)
 
 abbrev μ-loop : tie.MeasureT-loop
 μ-loop parents depths n counts₀ levels₀ rows₀ c₀ counts levels rows c = n - c
@@ -29,8 +29,8 @@ loop-holds c =
       refl,
       refl,
       λ f h. getD-replicate most-cells f 0 0 h,
-      λ ks ws. first-only (replicate most-cells 0) (level (table (a .parents .now) ks ws (a .depths .now) (a .n))) refl,
-      λ ks ws. first-only (replicate most-cells 0) (row (table (a .parents .now) ks ws (a .depths .now) (a .n))) refl,
+      λ ks ws qs. first-only (replicate most-cells 0) (level (table (a .parents .now) ks ws (a .depths .now) qs (a .n))) refl,
+      λ ks ws qs. first-only (replicate most-cells 0) (row (table (a .parents .now) ks ws (a .depths .now) qs (a .n))) refl,
     )
 
 mul-p : tie.Need-mul-p Inv-loop μ-loop
@@ -71,7 +71,7 @@ add-levels : tie.Need-add-levels Inv-loop μ-loop
 add-levels c =
     let st = c .before .before .before .before .before in
     let l = c .before .before .before .before .loop in
-    omega (arith, st .pre .0 .few, level-value (st .args .parents .now) [] [] (st .args .depths .now) (st .args .n) (st .pre .0) (l .levels) (l .c) (l .inv .0) (c .before .before .before .loop-test .taken) (l .inv .3) (l .inv .6 [] []), level-small (st .args .parents .now) [] [] (st .args .depths .now) (st .args .n) (st .pre .0) (l .c))
+    omega (arith, st .pre .0 .few, level-value (st .args .parents .now) [] [] (st .args .depths .now) [] (st .args .n) (st .pre .0) (l .levels) (l .c) (l .inv .0) (c .before .before .before .loop-test .taken) (l .inv .3) (l .inv .6 [] [] []), level-small (st .args .parents .now) [] [] (st .args .depths .now) [] (st .args .n) (st .pre .0) (l .c))
 
 mul-levels-2 : tie.Need-mul-levels-2 Inv-loop μ-loop
 mul-levels-2 c = omega (arith, c .before .before .before .before .before .pre .0 .few)
@@ -100,14 +100,14 @@ add-rows c =
     let st = c .before .before .before .before .before .before .before in
     let l = c .before .before .before .before .before .before .loop in
     let less = c .before .before .before .before .before .loop-test .taken in
-    omega (arith, st .pre .0 .few, st .pre .1 .0 .flat (l .c) less, row-value (st .args .parents .now) [] [] (st .args .depths .now) (st .args .n) (st .pre .0) (l .rows) (l .c) (l .inv .0) less (l .inv .4) (l .inv .7 [] []), row-small (st .args .parents .now) [] [] (st .args .depths .now) (st .args .n) (st .pre .0) (st .pre .1 .0) (l .c) less)
+    omega (arith, st .pre .0 .few, st .pre .1 .0 .flat (l .c) less, row-value (st .args .parents .now) [] [] (st .args .depths .now) [] (st .args .n) (st .pre .0) (l .rows) (l .c) (l .inv .0) less (l .inv .4) (l .inv .7 [] [] []), row-small (st .args .parents .now) [] [] (st .args .depths .now) [] (st .args .n) (st .pre .0) (st .pre .1 .0) (l .c) less)
 
 add-rows-2 : tie.Need-add-rows-2 Inv-loop μ-loop
 add-rows-2 c =
     let st = c .before .before .before .before .before .before .before in
     let l = c .before .before .before .before .before .before .loop in
     let less = c .before .before .before .before .before .loop-test .taken in
-    omega (arith, st .pre .0 .few, st .pre .1 .0 .flat (l .c) less, row-value (st .args .parents .now) [] [] (st .args .depths .now) (st .args .n) (st .pre .0) (l .rows) (l .c) (l .inv .0) less (l .inv .4) (l .inv .7 [] []), row-small (st .args .parents .now) [] [] (st .args .depths .now) (st .args .n) (st .pre .0) (st .pre .1 .0) (l .c) less)
+    omega (arith, st .pre .0 .few, st .pre .1 .0 .flat (l .c) less, row-value (st .args .parents .now) [] [] (st .args .depths .now) [] (st .args .n) (st .pre .0) (l .rows) (l .c) (l .inv .0) less (l .inv .4) (l .inv .7 [] [] []), row-small (st .args .parents .now) [] [] (st .args .depths .now) [] (st .args .n) (st .pre .0) (st .pre .1 .0) (l .c) less)
 
 mul-rows-2 : tie.Need-mul-rows-2 Inv-loop μ-loop
 mul-rows-2 c = omega (arith, c .before .before .before .before .before .before .before .pre .0 .few)
@@ -132,17 +132,17 @@ loop-again c =
       simp length-set (l .inv .3),
       simp length-set (l .inv .4),
       seen-more (st .args .parents .now) (l .counts) (st .args .n) (l .c) (st .pre .0) (l .inv .0) less (l .inv .2) (l .inv .5),
-      λ ks ws. level-more (st .args .parents .now) ks ws (st .args .depths .now) (st .args .n) (st .pre .0) (l .levels) (l .c) (l .inv .0) less (l .inv .3) (l .inv .6 ks ws),
-      λ ks ws. row-more (st .args .parents .now) ks ws (st .args .depths .now) (st .args .n) (st .pre .0) (l .rows) (l .c) (l .inv .0) less (l .inv .4) (l .inv .7 ks ws),
+      λ ks ws qs. level-more (st .args .parents .now) ks ws (st .args .depths .now) qs (st .args .n) (st .pre .0) (l .levels) (l .c) (l .inv .0) less (l .inv .3) (l .inv .6 ks ws qs),
+      λ ks ws qs. row-more (st .args .parents .now) ks ws (st .args .depths .now) qs (st .args .n) (st .pre .0) (l .rows) (l .c) (l .inv .0) less (l .inv .4) (l .inv .7 ks ws qs),
     )
 
 returns : tie.Need-returns Inv-loop μ-loop
-returns c = λ ks ws.
+returns c = λ ks ws qs.
     let l = c .before .loop in
     let e : l .c ≡ c .before .before .args .n = omega arith in (
-      record { long = l .inv .2; each = λ f h. l .inv .5 f (omega (arith, c .before .before .pre .0 .few)) ∙ rw e (seen-children _ ks ws _ _ f) },
-      record { long = l .inv .3; each = λ x h. l .inv .6 ks ws x (omega arith) },
-      record { long = l .inv .4; each = λ x h. l .inv .7 ks ws x (omega arith) },
+      record { long = l .inv .2; each = λ f h. l .inv .5 f (omega (arith, c .before .before .pre .0 .few)) ∙ rw e (seen-children _ ks ws _ qs _ f) },
+      record { long = l .inv .3; each = λ x h. l .inv .6 ks ws qs x (omega arith) },
+      record { long = l .inv .4; each = λ x h. l .inv .7 ks ws qs x (omega arith) },
     )
 
 pub survey-spec : {M : Type 1} → statement M

@@ -13,51 +13,39 @@ use Rattle.planfile.proofs.questions.refused.Reads as refused-reads
 use Rattle.planfile.proofs.table.records.Reads as records-reads
 use Rattle.planfile.proofs.table.trailer.Reads as trailer-reads
 
--- src/questions.rt:254:9
 header-refusal-requires : tie.Need-header-refusal-requires
 header-refusal-requires c κs = search needs
 
--- src/questions.rt:256:9
 refused-requires : tie.Need-refused-requires
 refused-requires c κs = search needs
 
--- src/questions.rt:256:9
 returns : tie.Need-returns
 returns c = c .refused .ensures ∙ examined-refused (c .before .before .before .before .before .args .file .now) _ (header-stops (c .before .before .before .before .before .args .file .now) _ (c .before .before .before .header-refusal .ensures) (c .before .if1 .taken)) (c .before .if1 .taken)
 
--- src/questions.rt:258:9
 trailer-requires : tie.Need-trailer-requires
 trailer-requires c κs = omega (arith, header-read (c .before .before .before .before .args .file .now) (zero-of _ _ (c .before .before .header-refusal .ensures) (c .if1 .left)) .long)
 
--- src/questions.rt:259:17
 cast-begin : tie.Need-cast-begin
 cast-begin c = search needs
 
--- src/questions.rt:260:9
 form-of-requires : tie.Need-form-of-requires
 form-of-requires c κs = search needs
 
--- src/questions.rt:261:43
 cast-records : tie.Need-cast-records
 cast-records c = search needs
 
--- src/questions.rt:261:9
 records-requires : tie.Need-records-requires
 records-requires c κs = rw (c .before .form-of .ensures) (room-read (c .before .before .before .before .before .before .before .before .args .file .now) (zero-of _ _ (c .before .before .before .before .before .before .header-refusal .ensures) (c .before .before .before .before .if1 .left)) _ (c .before .before .before .trailer .ensures))
 
--- src/questions.rt:262:9
 body-refusal-requires : tie.Need-body-refusal-requires
-body-refusal-requires c κs = rw (c .before .before .form-of .ensures) (count-read (c .before .before .before .before .before .before .before .before .before .args .file .now) (zero-of _ _ (c .before .before .before .before .before .before .before .header-refusal .ensures) (c .before .before .before .before .before .if1 .left)) _ (c .before .before .before .before .trailer .ensures) _ (rw (c .before .before .form-of .ensures) at (c .records .ensures)))
+body-refusal-requires c κs = count-read (c .before .before .before .before .before .before .before .before .before .args .file .now) (zero-of _ _ (c .before .before .before .before .before .before .before .header-refusal .ensures) (c .before .before .before .before .before .if1 .left)) _ (c .before .before .before .before .trailer .ensures) _ (rw (c .before .before .form-of .ensures) at (c .records .ensures))
 
--- src/questions.rt:264:9
 refused-requires-2 : tie.Need-refused-requires-2
 refused-requires-2 c κs = search needs
 
--- src/questions.rt:264:9
 returns-2 : tie.Need-returns-2
 returns-2 c = c .refused2 .ensures ∙ examined-refused (c .before .before .before .before .before .before .before .before .before .before .before .before .before .args .file .now) _ (file-passed (c .before .before .before .before .before .before .before .before .before .before .before .before .before .args .file .now) _ _ (c .before .before .before .before .before .before .before .before .before .before .before .header-refusal .ensures) (c .before .before .before .before .before .before .before .before .before .if1 .left) (c .before .before .before .body-refusal .ensures ∙ rw (c .before .before .before .before .before .before .form-of .ensures) (body-is (c .before .before .before .before .before .before .before .before .before .before .before .before .before .args .file .now) (zero-of _ _ (c .before .before .before .before .before .before .before .before .before .before .before .header-refusal .ensures) (c .before .before .before .before .before .before .before .before .before .if1 .left)) _ (c .before .before .before .before .before .before .before .before .trailer .ensures) _ (rw (c .before .before .before .before .before .before .form-of .ensures) at (c .before .before .before .before .records .ensures))))) (c .before .if2 .taken)
 
--- src/questions.rt:251:1
 returns-3 : tie.Need-returns-3
 returns-3 c = plan-examined (c .before .before .before .before .before .before .before .before .before .before .before .before .args .file .now) (zero-of _ _ (c .before .before .before .before .before .before .before .before .before .before .header-refusal .ensures) (c .before .before .before .before .before .before .before .before .if1 .left)) _ (c .before .before .before .before .before .before .before .trailer .ensures) _ (rw (c .before .before .before .before .before .form-of .ensures) at (c .before .before .before .records .ensures)) _ (file-passed (c .before .before .before .before .before .before .before .before .before .before .before .before .args .file .now) _ _ (c .before .before .before .before .before .before .before .before .before .before .header-refusal .ensures) (c .before .before .before .before .before .before .before .before .if1 .left) (c .before .before .body-refusal .ensures ∙ rw (c .before .before .before .before .before .form-of .ensures) (body-is (c .before .before .before .before .before .before .before .before .before .before .before .before .args .file .now) (zero-of _ _ (c .before .before .before .before .before .before .before .before .before .before .header-refusal .ensures) (c .before .before .before .before .before .before .before .before .if1 .left)) _ (c .before .before .before .before .before .before .before .trailer .ensures) _ (rw (c .before .before .before .before .before .form-of .ensures) at (c .before .before .before .records .ensures))))) (c .if2 .left)
 

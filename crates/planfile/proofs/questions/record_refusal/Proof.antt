@@ -12,50 +12,33 @@ use Rattle.plan.proofs.questions.cell_refusal.Reads as cell-refusal-reads
 use Rattle.plan.proofs.questions.or_else.Reads as or-else-reads
 use Rattle.planfile.proofs.questions.inside.Reads as inside-reads
 
--- src/questions.rt:124:32
 widest-requires : tie.Need-widest-requires
 widest-requires c κs = search needs
 
--- src/questions.rt:124:9
 cell-refusal-requires : tie.Need-cell-refusal-requires
 cell-refusal-requires c κs = search needs
 
--- src/questions.rt:125:9
 asked-requires : tie.Need-asked-requires
 asked-requires c κs = search needs
 
--- src/questions.rt:126:33
 inside-requires : tie.Need-inside-requires
 inside-requires c κs = search needs
 
--- src/questions.rt:126:9
 asked-requires-2 : tie.Need-asked-requires-2
 asked-requires-2 c κs = search needs
 
--- src/questions.rt:127:32
 bordered-requires : tie.Need-bordered-requires
 bordered-requires c κs = search needs
 
--- src/questions.rt:127:9
-asked-requires-3 : tie.Need-asked-requires-3
-asked-requires-3 c κs = search needs
-
--- src/questions.rt:130:29
 or-else-requires : tie.Need-or-else-requires
 or-else-requires c κs = search needs
 
--- src/questions.rt:130:9
 or-else-requires-2 : tie.Need-or-else-requires-2
 or-else-requires-2 c κs = search needs
 
--- src/questions.rt:128:5
-or-else-requires-3 : tie.Need-or-else-requires-3
-or-else-requires-3 c κs = search needs
-
--- src/questions.rt:109:1
 returns : tie.Need-returns
 unfolding record-refusal
-returns c = c .or-else3 .ensures ∙ rw (c .before .or-else2 .ensures, c .before .before .or-else .ensures, c .before .before .before .before .before .before .before .asked .ensures, c .before .before .before .before .before .asked2 .ensures, c .before .before .before .before .before .before .inside .ensures, c .before .before .before .asked3 .ensures, c .before .before .before .before .bordered .ensures, c .before .before .before .before .before .before .before .before .cell-refusal .ensures, c .before .before .before .before .before .before .before .before .before .widest .ensures)
+returns c = c .or-else2 .ensures ∙ rw (c .before .or-else .ensures, c .before .before .asked2 .ensures, c .before .before .before .bordered .ensures, c .before .before .before .before .asked .ensures, c .before .before .before .before .before .inside .ensures, c .before .before .before .before .before .before .cell-refusal .ensures, c .before .before .before .before .before .before .before .widest .ensures)
 
 pub record-refusal-spec : {M : Type 1} → statement M
 record-refusal-spec =
@@ -63,12 +46,10 @@ record-refusal-spec =
     (tie.spec
     widest-requires
     cell-refusal-requires
-    asked-requires
     inside-requires
-    asked-requires-2
+    asked-requires
     bordered-requires
-    asked-requires-3
+    asked-requires-2
     or-else-requires
     or-else-requires-2
-    or-else-requires-3
     returns)

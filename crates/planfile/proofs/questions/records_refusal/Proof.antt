@@ -1,4 +1,3 @@
-use Rattle.plan.specs.FormLaws.{record-inside}
 use Rattle.planfile.specs.FileSteps.{records-at}
 use Rattle.plan.specs.QuestionLaws.{loop-starts, loop-stops, loop-goes-on, loop-ends}
 use Rattle.plan.specs.Questions.{at-each}
@@ -11,80 +10,59 @@ use Rattle.planfile.proofs.questions.records_refusal.Tie as tie
 use Rattle.planfile.proofs.questions.records_refusal.Reads as reads
 use Rattle.planfile.proofs.questions.records_refusal.Lts as lts
 use Rattle.planfile.proofs.questions.record_refusal.Reads as record-refusal-reads
-use Rattle.planfile.proofs.questions.spare.Reads as spare-reads
 
 abbrev Inv-loop : tie.InvT-loop
-Inv-loop file form begin parents kinds widths depths sizes starts n c₀ c =
-    (c ≤ n) × (at-each (records-at form file begin parents kinds widths depths sizes starts) 0 n ≡ at-each (records-at form file begin parents kinds widths depths sizes starts) c (n - c))
+Inv-loop form begin parents kinds widths depths sizes starts n c₀ c =
+    (c ≤ n) × (at-each (records-at form begin parents kinds widths depths sizes starts) 0 n ≡ at-each (records-at form begin parents kinds widths depths sizes starts) c (n - c))
 
 abbrev μ-loop : tie.MeasureT-loop
-μ-loop file form begin parents kinds widths depths sizes starts n c₀ c = n - c
+μ-loop form begin parents kinds widths depths sizes starts n c₀ c = n - c
 
--- src/questions.rt:151:5
 loop-holds : tie.Need-loop-holds Inv-loop μ-loop
 loop-holds c = (omega arith, loop-starts _ _)
 
--- src/questions.rt:156:13
 mul-record-refusal : tie.Need-mul-record-refusal Inv-loop μ-loop
 mul-record-refusal c = search needs
 
--- src/questions.rt:156:13
 element-copy-out-record-refusal : tie.Need-element-copy-out-record-refusal Inv-loop μ-loop
 element-copy-out-record-refusal c = search needs
 
--- src/questions.rt:157:13
 element-copy-out-record-refusal-2 : tie.Need-element-copy-out-record-refusal-2 Inv-loop μ-loop
 element-copy-out-record-refusal-2 c = search needs
 
--- src/questions.rt:158:13
 mul-record-refusal-2 : tie.Need-mul-record-refusal-2 Inv-loop μ-loop
 mul-record-refusal-2 c = search needs
 
--- src/questions.rt:158:13
 element-copy-out-record-refusal-3 : tie.Need-element-copy-out-record-refusal-3 Inv-loop μ-loop
 element-copy-out-record-refusal-3 c = search needs
 
--- src/questions.rt:159:13
 element-copy-out-record-refusal-4 : tie.Need-element-copy-out-record-refusal-4 Inv-loop μ-loop
 element-copy-out-record-refusal-4 c = search needs
 
--- src/questions.rt:160:13
 element-copy-out-record-refusal-5 : tie.Need-element-copy-out-record-refusal-5 Inv-loop μ-loop
 element-copy-out-record-refusal-5 c = search needs
 
--- src/questions.rt:161:13
 mul-record-refusal-3 : tie.Need-mul-record-refusal-3 Inv-loop μ-loop
 mul-record-refusal-3 c = search needs
 
--- src/questions.rt:161:13
 element-copy-out-record-refusal-6 : tie.Need-element-copy-out-record-refusal-6 Inv-loop μ-loop
 element-copy-out-record-refusal-6 c = search needs
 
--- src/questions.rt:162:13
-spare-requires : tie.Need-spare-requires Inv-loop μ-loop
-spare-requires c κs = (omega (arith, c .before .before .before .before .before .before .loop-test .taken, c .before .before .before .before .before .before .before .before .before .pre .0), omega (arith, record-inside (c .before .before .before .before .before .before .before .before .before .args .form) (c .before .before .before .before .before .before .before .loop .c) (c .before .before .before .before .before .before .before .before .before .args .n) (c .before .before .before .before .before .before .loop-test .taken), c .before .before .before .before .before .before .before .before .before .pre .1))
-
--- src/questions.rt:152:13
 record-refusal-requires : tie.Need-record-refusal-requires Inv-loop μ-loop
 record-refusal-requires c κs = search needs
 
--- src/questions.rt:165:13
 returns : tie.Need-returns Inv-loop μ-loop
-returns c = loop-stops _ _ _ (c .before .before .before .before .before .before .before .before .before .before .before .loop .inv .1) (c .before .before .before .before .before .before .before .before .before .before .loop-test .taken) _ (c .before .before .record-refusal .ensures ∙ rw (c .before .before .before .spare .ensures)) (c .if1 .taken)
+returns c = loop-stops _ _ _ (c .before .before .before .before .before .before .before .before .before .before .loop .inv .1) (c .before .before .before .before .before .before .before .before .before .loop-test .taken) _ (c .before .before .record-refusal .ensures) (c .if1 .taken)
 
--- src/questions.rt:167:9
 add-c : tie.Need-add-c Inv-loop μ-loop
 add-c c = search needs
 
--- src/questions.rt:151:5
 loop-less : tie.Need-loop-less Inv-loop μ-loop
 loop-less c = omega arith
 
--- src/questions.rt:151:5
 loop-again : tie.Need-loop-again Inv-loop μ-loop
-loop-again c = (omega arith, loop-goes-on _ _ _ (c .before .before .before .before .before .before .before .before .before .before .before .loop .inv .1) (c .before .before .before .before .before .before .before .before .before .before .loop-test .taken) _ (c .before .before .record-refusal .ensures ∙ rw (c .before .before .before .spare .ensures)) (c .if1 .left))
+loop-again c = (omega arith, loop-goes-on _ _ _ (c .before .before .before .before .before .before .before .before .before .before .loop .inv .1) (c .before .before .before .before .before .before .before .before .before .loop-test .taken) _ (c .before .before .record-refusal .ensures) (c .if1 .left))
 
--- src/questions.rt:135:1
 returns-2 : tie.Need-returns-2 Inv-loop μ-loop
 returns-2 c = loop-ends _ _ _ (c .before .loop .inv .1) (c .loop-test .left)
 
@@ -104,7 +82,6 @@ records-refusal-spec =
     element-copy-out-record-refusal-5
     mul-record-refusal-3
     element-copy-out-record-refusal-6
-    spare-requires
     record-refusal-requires
     returns
     add-c

@@ -10,72 +10,60 @@ use Rattle.planfile.proofs.table.records.Lts as lts
 use Rattle.planfile.proofs.cursor.Cursor.entry.Reads as entry-reads
 
 abbrev Inv-loop : tie.InvT-loop
-Inv-loop file form begin n allowance parent₀ kind₀ width₀ depth₀ label-length₀ label-start₀ cursor₀ c₀ parent kind width depth label-length label-start cursor c =
-    (c ≤ n) × Filled form file begin c (cursor .at) parent kind width depth label-length label-start
+Inv-loop file form begin n allowance parent₀ kind₀ width₀ depth₀ rank₀ label-length₀ label-start₀ cursor₀ c₀ parent kind width depth rank label-length label-start cursor c =
+    (c ≤ n) × Filled form file begin c (cursor .at) parent kind width depth rank label-length label-start
 
 abbrev μ-loop : tie.MeasureT-loop
-μ-loop file form begin n allowance parent₀ kind₀ width₀ depth₀ label-length₀ label-start₀ cursor₀ c₀ parent kind width depth label-length label-start cursor c =
+μ-loop file form begin n allowance parent₀ kind₀ width₀ depth₀ rank₀ label-length₀ label-start₀ cursor₀ c₀ parent kind width depth rank label-length label-start cursor c =
     n - c
 
--- src/table.rt:64:5
 loop-holds : tie.Need-loop-holds Inv-loop μ-loop
 loop-holds c = (omega arith, filled-none _ _ _)
 
--- src/table.rt:65:13
 entry-requires : tie.Need-entry-requires Inv-loop μ-loop
 entry-requires c κs = omega (arith, c .before .loop .inv .1 .next-at, record-inside (c .before .before .before .args .form) (c .before .loop .c) (c .before .before .before .args .n) (c .loop-test .taken), c .before .before .before .pre .1)
 
--- src/table.rt:67:9
 mul-parent : tie.Need-mul-parent Inv-loop μ-loop
 mul-parent c = search needs
 
--- src/table.rt:67:9
 array-write-parent : tie.Need-array-write-parent Inv-loop μ-loop
 array-write-parent c = search needs
 
--- src/table.rt:68:9
 array-write-kind : tie.Need-array-write-kind Inv-loop μ-loop
 array-write-kind c = search needs
 
--- src/table.rt:69:9
 mul-width : tie.Need-mul-width Inv-loop μ-loop
 mul-width c = search needs
 
--- src/table.rt:69:9
 array-write-width : tie.Need-array-write-width Inv-loop μ-loop
 array-write-width c = search needs
 
--- src/table.rt:70:9
 array-write-depth : tie.Need-array-write-depth Inv-loop μ-loop
 array-write-depth c = search needs
 
--- src/table.rt:71:9
+array-write-rank : tie.Need-array-write-rank Inv-loop μ-loop
+array-write-rank c = search needs
+
 array-write-label-length : tie.Need-array-write-label-length Inv-loop μ-loop
 array-write-label-length c = search needs
 
--- src/table.rt:72:9
 mul-label-start : tie.Need-mul-label-start Inv-loop μ-loop
 mul-label-start c = search needs
 
--- src/table.rt:72:9
 array-write-label-start : tie.Need-array-write-label-start Inv-loop μ-loop
 array-write-label-start c = search needs
 
--- src/table.rt:74:9
 add-c : tie.Need-add-c Inv-loop μ-loop
 add-c c = search needs
 
--- src/table.rt:64:5
 loop-less : tie.Need-loop-less Inv-loop μ-loop
 loop-less c = omega arith
 
--- src/table.rt:64:5
 loop-again : tie.Need-loop-again Inv-loop μ-loop
-loop-again c = (omega arith, filled-more _ _ _ _ _ _ _ _ _ _ _ (c .before .before .before .before .loop .inv .1) _ _ (c .before .before .entry .ensures .0) (c .before .before .entry .ensures .1))
+loop-again c = (omega arith, filled-more _ _ _ _ _ _ _ _ _ _ _ _ (c .before .before .before .before .loop .inv .1) _ _ (c .before .before .entry .ensures .0) (c .before .before .entry .ensures .1))
 
--- src/table.rt:52:1
 returns : tie.Need-returns Inv-loop μ-loop
-returns c = filled-all _ _ _ _ _ _ _ _ _ _ _ (c .before .loop .inv .1) _ _ (omega arith)
+returns c = filled-all _ _ _ _ _ _ _ _ _ _ _ _ (c .before .loop .inv .1) _ _ (omega arith)
 
 pub records-spec : {M : Type 1} → statement M
 records-spec =
@@ -91,6 +79,7 @@ records-spec =
     mul-width
     array-write-width
     array-write-depth
+    array-write-rank
     array-write-label-length
     mul-label-start
     array-write-label-start
