@@ -5,7 +5,7 @@
     tools/unused.py --fix      take them out
 
 A name is used where it stands as a word of its own outside comments and `use` lines: not as a field (`.name`), nor as a part of a longer word.
-An operator (`_+_`) is used where each of its signs stands. So what is printed is unused; a few that are shadowed may be missed.
+An operator (`_+_`) is used where each of its signs stands, or the operator itself. So what is printed is unused; a few that are shadowed may be missed.
 A crate's re-exports (`pub use`) count as used. Run `rt check` after --fix: a name may be wanted by the checker and written nowhere.
 """
 import os
@@ -60,7 +60,7 @@ def rewritten(text, ghost):
             out.append(line)
             continue
         names = [n.strip() for n in use['names'].split(',') if n.strip()]
-        left = [n for n in names if all(p in seen for p in parts(n))]
+        left = [n for n in names if n in seen or all(p in seen for p in parts(n))]
         gone += [use['module'] + '.' + n for n in names if n not in left]
         if left == names:
             out.append(line)
