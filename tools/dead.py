@@ -61,7 +61,14 @@ def main():
                             out.append(d)
                     return out
                 f.tree = left(f.tree)
-                open(f.path, 'w').write(f.write())
+                if f.tree:
+                    open(f.path, 'w').write(f.write())
+                    continue
+                os.remove(f.path)
+                folder, name = os.path.split(f.path)
+                lib = folder + '.antt' if os.path.basename(folder) == 'laws' else os.path.join(folder, 'Lib.antt')
+                mods = [l for l in open(lib).read().split('\n') if l != f'pub mod {name[:-5]}']
+                open(lib, 'w').write('\n'.join(mods))
     print(f'{total} laws and definitions that nothing needs')
     return 1 if total and '--fix' not in sys.argv else 0
 
