@@ -2,10 +2,10 @@
 """Laws and definitions that nothing needs: neither a proof in proofs/, nor a contract, nor a statement directly under specs/, nor what one of these needs.
 
     tools/dead.py          print them, file by file; exit 1 if there are any
-    tools/dead.py --fix    take them out (then tools/unused.py --fix, rt fmt, rt check)
+    tools/dead.py --fix NAME ..   take these of them out (then tools/unused.py --fix, rt fmt, rt check)
 
 A name counts as needed where it stands as a word of its own, so what is printed is needed nowhere; some that share a name with a variable may be missed.
-A test of a definition that pins it for a must-fail edit is needed by no proof: such laws are named in KEEP.
+A row is a place to look: a law that says what a definition means, or that a must-fail edit is refused by, is needed by no proof and stays. Those are named in KEEP.
 """
 import os
 import sys
@@ -14,7 +14,8 @@ from antt import Graph, antt_files, rt_files, Module
 
 ROOT = os.path.dirname(os.path.dirname(os.path.abspath(__file__)))
 # laws that hold a definition fast in its own crate: a must-fail edit is refused by them
-KEEP = {'separation-least', 'appointed-half', 'appointed-choice', 'appointed-within', 'rows-plan', 'value-decimal', 'only-stretch', 'one-no', 'read-then-label', 'read-then-layout'}
+KEEP = {'separation-least', 'appointed-half', 'appointed-choice', 'appointed-within', 'rows-plan', 'value-decimal', 'only-stretch', 'one-no', 'read-then-label', 'read-then-layout',
+        'child-before', 'child-tie', 'children-level', 'children-only'}
 
 
 def main():
@@ -45,7 +46,7 @@ def main():
         need(g.refs(text, g.scopes[d.key]))
     total = 0
     for key, f in sorted(g.files.items()):
-        gone = [d for d in f.decls() if d not in live and d.type != 'mod']
+        gone = [d for d in f.decls() if d not in live and d.type != 'mod' and ('--fix' not in sys.argv or d.name in sys.argv)]
         if gone:
             total += len(gone)
             print(f'{key[0]}/specs/{key[1].replace(".", "/")}.antt: ' + ', '.join(d.name for d in gone))
