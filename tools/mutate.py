@@ -13,17 +13,17 @@ import tempfile
 from pathlib import Path
 
 ROOT = Path(__file__).resolve().parent.parent
-PLAN, PLAN_LAWS = "plan/specs/Plan.antt", "plan/specs/PlanLaws.antt"
-PLACEMENT, RULES, EXTENTS = "rules/specs/Placement.antt", "rules/specs/Rules.antt", "rules/specs/Extents.antt"
+PLAN, PLAN_LAWS = "plan/specs/Plan.antt", "plan/specs/Plan.antt"
+PLACEMENT, RULES, EXTENTS = "rules/specs/Placement.antt", "rules/specs/Rules.antt", "rules/specs/laws/Extents.antt"
 VERDICT, TESTS = "rules/specs/Verdict.antt", "rules/specs/Tests.antt"
-VERDICT_LAWS, AGREEMENT = "rules/specs/VerdictLaws.antt", "rules/specs/Agreement.antt"
-CONTOUR, CONTOUR_LAWS = "layout/specs/Contour.antt", "layout/specs/ContourLaws.antt"
-SHEET, SHEET_LAWS, SPAN_LAWS = "layout/specs/Sheet.antt", "layout/specs/SheetLaws.antt", "layout/specs/SpanLaws.antt"
+VERDICT_LAWS, AGREEMENT = "rules/specs/laws/Verdict.antt", "rules/specs/laws/Agreement.antt"
+CONTOUR, CONTOUR_LAWS = "contours/specs/Contour.antt", "contours/specs/laws/Contour.antt"
+SHEET, SHEET_LAWS, SPAN_LAWS = "contours/specs/Sheet.antt", "contours/specs/laws/Sheet.antt", "contours/specs/laws/Spans.antt"
 
 PARTS = "max (max s3-ends s3-starts) (max s4 s5)"
 
 # a file, what stands there (text, or a pattern), what is put in its place; None: the file is removed
-DROP_JOIN = [("layout/specs/Lib.antt", "pub mod Join\n", ""), ("layout/specs/Join.antt", None, None)]
+DROP_JOIN = [("contours/specs/Lib.antt", "pub mod Join\n", ""), ("folding/specs/laws/Join.antt", None, None)]
 
 
 def appoint(choice, rest):

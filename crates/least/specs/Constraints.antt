@@ -94,6 +94,13 @@ module _ (t : Table) (sound : Sound t) where
 abbrev pub VP : Table → ℕ → ℕ
 VP t a = row t a + D t a
 
+-- "d(Area(p), Area(q)) ≥ 1" (Bd6), of whole numbers: the boxes of a and b are apart in x or in y
+pub data Apart (t : Table) (p : Placement) (a b : ℕ) : Type 0 where
+  left-of : right t p a <ℤ p .x b → Apart t p a b
+  right-of : right t p b <ℤ p .x a → Apart t p a b
+  over : base t p a <ℤ p .y b → Apart t p a b
+  under : base t p b <ℤ p .y a → Apart t p a b
+
 -- ---- a placement that keeps S1 to S5
 module _ (t : Table) (sound : Sound t) (p : Placement) (al : ℕ) (k : Keeps t p al) where
   -- Bd2. "If a cell p has k sons q₁ .. q_k, then x(p) = x(q of number (k+1)/2, rounded up)": S2 itself, so of a choice the first (document 02, E6)
@@ -161,14 +168,8 @@ module _ (t : Table) (sound : Sound t) (p : Placement) (al : ℕ) (k : Keeps t p
       go (Stand.before w) = first w
       go (Stand.after w) = absurd (wrong w)
 
-  -- Bd6. "If p and q are different cells, then d(Area(p), Area(q)) ≥ 1." Of whole numbers: the boxes are apart in x or in y
-  pub data Apart (a b : ℕ) : Type 0 where
-    left-of : right t p a <ℤ p .x b → Apart a b
-    right-of : right t p b <ℤ p .x a → Apart a b
-    over : base t p a <ℤ p .y b → Apart a b
-    under : base t p b <ℤ p .y a → Apart a b
-
-  pub bd6 : (a b : ℕ) → Is t a → Is t b → ¬ (a ≡ b) → Apart a b
+  -- Bd6. "If p and q are different cells, then d(Area(p), Area(q)) ≥ 1."
+  pub bd6 : (a b : ℕ) → Is t a → Is t b → ¬ (a ≡ b) → Apart t p a b
   bd6 a b ia ib n = go (stand t sound a b ia ib)
     where
       deep : (c : ℕ) → Is t c → p .y c ≡ pos (row t c)
@@ -177,16 +178,16 @@ module _ (t : Table) (sound : Sound t) (p : Placement) (al : ℕ) (k : Keeps t p
       base-is : (c : ℕ) → Is t c → base t p c ≡ pos (row t c + D t c)
       base-is = vertical-position
 
-      rows : (base t p a <ℤ p .y b) ⊎ (p .y b ≤ℤ base t p a) → (base t p b <ℤ p .y a) ⊎ (p .y a ≤ℤ base t p b) → T (earlier t a b) ⊎ T (earlier t b a) → Apart a b
+      rows : (base t p a <ℤ p .y b) ⊎ (p .y b ≤ℤ base t p a) → (base t p b <ℤ p .y a) ⊎ (p .y a ≤ℤ base t p b) → T (earlier t a b) ⊎ T (earlier t b a) → Apart t p a b
       rows (inl l) _ _ = Apart.over l
       rows (inr l) (inl m) _ = Apart.under m
       rows (inr l) (inr m) (inl e) = Apart.left-of (boxes a b ia ib e m l)
       rows (inr l) (inr m) (inr e) = Apart.right-of (boxes b a ib ia e l m)
 
-      beside-one : T (earlier t a b) ⊎ T (earlier t b a) → Apart a b
+      beside-one : T (earlier t a b) ⊎ T (earlier t b a) → Apart t p a b
       beside-one e = rows (lt-or-le (base t p a) (p .y b)) (lt-or-le (base t p b) (p .y a)) e
 
-      go : Stand t a b → Apart a b
+      go : Stand t a b → Apart t p a b
       go (Stand.above w) = elim (below-row t sound w) [ inl z ↦ absurd (n (sym z)) | inr z ↦ Apart.over (omega (whole, deep b ib, base-is a ia)) ]
       go (Stand.beneath w) = elim (below-row t sound w) [ inl z ↦ absurd (n z) | inr z ↦ Apart.under (omega (whole, deep a ia, base-is b ib)) ]
       go (Stand.before e) = beside-one (inl e)
