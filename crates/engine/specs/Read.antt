@@ -11,6 +11,8 @@ use Rattle.plan.specs.declared.Refusal.{Refusal}
 use Rattle.planfile.specs.Format.{trailer-of, records-of, file-given}
 use Rattle.engine.specs.declared.ReadAnswer.{ReadAnswer}
 use Rattle.engine.specs.declared.ReadAnswer.the-variants.{Plan, Refused}
+use Rattle.planfile.specs.Reading.{reading-of}
+use Rattle.engine.specs.declared.Parsed.{Parsed}
 
 -- the refusal, for a table to fill of so many records
 abbrev pub read-refusal : List ℕ → (room : ℕ) → Refusal
@@ -29,3 +31,7 @@ table-after (Refused k c) f t = t
 pub record Reads (f : List ℕ) (t t′ : List Record) (r : ReadAnswer) : Type 0 where
   pub answers : r ≡ answer f (read-refusal f (length t))
   pub table : t′ ≡ table-after r f t
+
+-- a file that was read, as the code has it
+unfoldable pub read-of : List ℕ → (room : ℕ) → Parsed
+read-of f room = record { reading = reading-of f room; answer = answer f (read-refusal f room) }

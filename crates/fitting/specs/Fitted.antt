@@ -2,7 +2,7 @@
 use mathlib.Core.Path.{_≡_}
 use mathlib.Core.Bool.{cond}
 use mathlib.Core.List.{List, _++_}
-use Prim.Native.Nat.{ℕ}
+use Prim.Native.Nat.{ℕ, _≤_}
 use lib.ListN.{length, drop, replicate}
 use lib.Dec.{eqb}
 use Rattle.plan.specs.Limits.{scratch-size}
@@ -31,3 +31,9 @@ scratch-after (Refused k c) s = s
 pub record Frames (t : Table) (squares : ℕ) (s s′ : List ℕ) (r : Fitted) : Type 0 where
   pub answers : r ≡ answer t squares (refusal frame (frame-given t squares (length s)))
   pub scratch : s′ ≡ scratch-after r s
+
+-- an allowance of at most a is answered
+pub record AtMost (r : Fitted) (a : ℕ) : Type 0 where
+  pub b : ℕ
+  pub answers : r ≡ Allowance b
+  pub bound : b ≤ a

@@ -10,8 +10,7 @@ ghost use Rattle.plan.specs.Columns.{table-of};
 ghost use Rattle.plan.specs.Fit.{Fit};
 ghost use Rattle.links.specs.Links.{link, Links};
 ghost use Rattle.links.specs.Chain.{«line-of», seek, «goes-on»};
-ghost use Rattle.links.specs.Built.{Built};
-ghost use Rattle.links.specs.Build.{chained, «number-one», counted, placed, Building, Seeking, Numbering, Counting, Appointing, Linking};
+ghost use Rattle.links.specs.Build.{Built, chained, «number-one», counted, placed, Building, Seeking, Numbering, Counting, Appointing, Linking};
 
 // Four links a cell.
 pub const LINKS: usize = 4 * MOST_CELLS;

@@ -1,7 +1,7 @@
 -- Document 01, "Calls and their questions", with document 02's questions: THE sequence, what each asks, and which of them each call puts.
 -- A call's refusal is the first "no". Every definition computes. Assumes nothing.
 use mathlib.Core.List.{List, [], _∷_, _++_}
-use mathlib.Core.Bool.{Bool, true, false, _&&_, not, cond}
+use mathlib.Core.Bool.{Bool, true, false, _&&_, cond}
 use Prim.Native.Nat.{ℕ, zero, suc, _+_, _*_}
 use lib.ListN.{length, getD}
 use lib.Dec.{eqb, leb, ltb}

@@ -2,11 +2,11 @@
 use plan::Record;
 use plan::forms::Form;
 ghost use mathlib.Core.Path.{_≡_};
-ghost use Prim.Native.Nat.{ℕ, _+_, _*_, _≤_, _<_};
+ghost use Prim.Native.Nat.{_+_, _*_, _≤_, _<_};
 ghost use lib.ListN.{length, getD};
 ghost use Rattle.plan.specs.Limits.{«old-size», «wide-size»};
 ghost use Rattle.plan.specs.Forms.{«record-size»};
-ghost use Rattle.planfile.specs.Format.{pair, «trailer-of», «record-at»};
+ghost use Rattle.planfile.specs.Format.{pair, «record-at»};
 
 pub struct Cursor {
     pub at: usize,

@@ -17,11 +17,10 @@ ghost use Rattle.plan.specs.Plan.{Sound, row, bottom};
 ghost use Rattle.plan.specs.Columns.{table, «table-of»};
 ghost use Rattle.plan.specs.Trees.{Column};
 ghost use Rattle.rules.specs.Placement.{Placement, width};
-ghost use Rattle.layout.specs.Sheet.{sheet};
+ghost use Rattle.contours.specs.Sheet.{sheet};
 ghost use Rattle.positions.specs.Written.{written};
 ghost use Rattle.marks.specs.Marks.{Marked};
-ghost use Rattle.positions.specs.Raised.{Raised, High, Topped};
-ghost use Rattle.positions.specs.RaisedLaws.{Raising};
+ghost use Rattle.positions.specs.Raised.{Raised, High, Topped, Raising};
 
 fn wide(x: u16) -> usize
     ensures { λ r. ⌜ r ≡ x ⌝ }

@@ -10,8 +10,8 @@ use Rattle.plan.specs.Columns as columns
 use Rattle.plan.specs.Questions as asked
 use Rattle.plan.specs.Questions.{refusal}
 use Rattle.rules.specs.Placement as placement
-use Rattle.layout.specs.Contour as contour
-use Rattle.layout.specs.Sheet as ours
+use Rattle.contours.specs.Contour as contour
+use Rattle.contours.specs.Sheet as ours
 use Rattle.planfile.specs.Format as format
 use Rattle.planfile.specs.Reading as reading
 use Rattle.listing.specs.Printed as printed

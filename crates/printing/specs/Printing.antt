@@ -14,7 +14,7 @@ use Rattle.plan.specs.Columns.{table-of}
 use Rattle.plan.specs.Questions.{list, list-given, refusal}
 use Rattle.plan.specs.declared.Refusal.{Refusal}
 use Rattle.rules.specs.Placement.{Placement, placed, Agree, width, rows}
-use Rattle.layout.specs.Sheet.{sheet}
+use Rattle.contours.specs.Sheet.{sheet}
 use Rattle.planfile.specs.declared.Reading.{Reading}
 use Rattle.planfile.specs.Reading.{reading-of, label-part}
 use Rattle.listing.specs.Printed.{Bytes, sheet-line, cell-line, refused-line}

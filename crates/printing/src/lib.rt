@@ -98,7 +98,7 @@ fn write_sheet(plan: Reading, file: &[u8], out: &mut [u8]) -> usize
     let allowance = plan.allowance as u32;
     let mut scratch = [0u32; SCRATCH_SIZE];
     let mut positions = [0i32; 2 * MOST_CELLS];
-    let drawn = drawing::draw_over_zeros(columns, allowance, &mut scratch, &mut positions);
+    let drawn = layout::draw_over_zeros(columns, allowance, &mut scratch, &mut positions);
     let first = first_line(plan, drawn.width, drawn.rows);
     let next = put_line(first, out, 0);
     put_cells(plan, file, &positions, out, next)

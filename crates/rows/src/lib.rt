@@ -3,8 +3,8 @@
 ghost use mathlib.Core.Path.{_≡_};
 ghost use Prim.Native.Nat.{_+_, _-_, _*_, _≤_, _<_, max};
 ghost use Rattle.plan.specs.Limits.{farthest};
-ghost use lib.ListN.{length, getD};
 ghost use Rattle.rows.specs.Rows.{row-size, Low, box-to, max-to, clash-to, shifted-of, put-one, upto-rows, beyond-rows};
+ghost use lib.ListN.{length, getD};
 
 // Numbers in a row of the scratch: a left and a right extent for each of 32 levels.
 pub const ROW: usize = 64;

@@ -9,12 +9,8 @@ ghost use Rattle.plan.specs.Limits.{«most-cells»};
 ghost use Rattle.plan.specs.Columns.{«table-of»};
 ghost use Rattle.plan.specs.Fit.{Fit};
 ghost use Rattle.links.specs.Links.{link, Links};
-ghost use Rattle.spans.specs.Columns.{at};
-ghost use Rattle.spans.specs.Counted.{Counted};
-ghost use Rattle.spans.specs.Deepest.{Deepest};
-ghost use Rattle.spans.specs.Sizes.{Sized};
-ghost use Rattle.spans.specs.Laid.{cols, kids, «or-none», «spread-at», Sharing};
-ghost use Rattle.spans.specs.Spans.{Spans};
+ghost use Rattle.spans.specs.Spans.{at, Counted, Deepest, Sized, Spans};
+ghost use Rattle.spans.specs.Shared.{cols, kids, «or-none», «spread-at», Sharing};
 
 // The span of each cell, from first to before end; where the span of the sibling right before begins, and where that of the one right after ends.
 pub struct Standing {

@@ -1,17 +1,19 @@
 -- A signed 32-bit number as the machine reads it back from its bits, moved up, and a difference. Assumes nothing.
-use mathlib.Core.Path.{_≡_, refl, sym, _∙_, ap}
-use mathlib.Core.Bool.{Bool, true, false}
-use Prim.Native.Nat.{ℕ, suc, _+_, _-_, _≤_, _<_, _^_}
+use mathlib.Core.Path.{_≡_, sym, _∙_, ap}
+use mathlib.Core.Bool.{true, false}
+use Prim.Native.Nat.{ℕ, _≤_, _<_, _^_}
 use native.Mathlib.Omega.{arith}
 use lib.IntN.{ℤ, pos, negsuc, negℤ, _+ℤ_, _-ℤ_}
-use lib.Signed.{_≤ℤ_, _<ℤ_, ltZ}
+use lib.Signed.{_<ℤ_, ltZ}
 use mir.Syntax.{w32}
 use mir.Val.{toZ, ofZ, SFits}
 use mir.ValLaws.{toZ-ofZ, toZ-pos}
-use Rattle.whole.specs.Whole.{whole, narrow, not-lt, plus, minus, sum, diff, neg-plus, neg-minus, le-read}
+use Rattle.whole.specs.Whole.{plus, minus}
+use Rattle.whole.specs.laws.Whole.{whole, narrow, not-lt, sum, diff, neg-plus, neg-minus, le-read}
 use Rattle.whole.specs.Bias.{bias}
-use Rattle.whole.specs.Says.{Says, is-true, is-false, holds, fails, says-ltZ}
-use Rattle.whole.specs.Range.{within, Within, says-within}
+use Rattle.whole.specs.laws.Says.{is-true, is-false, holds, fails, says-ltZ}
+use Rattle.whole.specs.Range.{within, Within}
+use Rattle.whole.specs.laws.Range.{says-within}
 
 pub fits32 : (z : ℤ) → plus z < 2147483648 → minus z ≤ 2147483648 → SFits w32 z
 fits32 (pos n) h k = record { sfits = omega arith }

@@ -1,6 +1,6 @@
 use borrow.Author.Needs.{needs}
-use Rattle.joining.specs.Joining.{mem, apart, apart-found}
-use Prim.Native.Nat.{_-_}
+use Rattle.joining.specs.Joining.{mem, apart}
+use Rattle.joining.specs.laws.Joining.{apart-found}
 use Rattle.joining.proofs.separation.Statement.{statement}
 use Rattle.joining.proofs.separation.Tie as tie
 

@@ -1,7 +1,7 @@
 use borrow.Author.Needs.{needs}
-use Rattle.joining.specs.Joining.{mem, at-first, at-later}
+use Rattle.joining.specs.Joining.{mem}
+use Rattle.joining.specs.laws.Joining.{at-first, at-later}
 use native.Mathlib.Omega.{arith}
-use Prim.Native.Nat.{_-_}
 use mathlib.Core.Path.{_∙_, sym}
 use Rattle.joining.proofs.settle.Statement.{statement}
 use Rattle.joining.proofs.settle.Tie as tie

@@ -1,7 +1,6 @@
 use borrow.Author.Needs.{needs}
-use Prim.Native.Nat.{_-_}
 use Rattle.joining.specs.Joining.{mem}
-use Rattle.walk.specs.Turns.{settle-ready, finish-found}
+use Rattle.walk.specs.laws.Turns.{settle-ready, finish-found}
 use Rattle.walk.proofs.finish_child.Statement.{statement}
 use Rattle.walk.proofs.finish_child.Tie as tie
 

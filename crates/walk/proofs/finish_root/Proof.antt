@@ -1,7 +1,6 @@
 use borrow.Author.Needs.{needs}
-use Prim.Native.Nat.{_-_}
 use Rattle.joining.specs.Joining.{mem}
-use Rattle.walk.specs.Turns.{root-found}
+use Rattle.walk.specs.laws.Turns.{root-found}
 use Rattle.walk.proofs.finish_root.Statement.{statement}
 use Rattle.walk.proofs.finish_root.Tie as tie
 

@@ -5,7 +5,7 @@ use native.Mathlib.Omega.{arith}
 use lib.ListN.{getD}
 use Rattle.joining.specs.Joining.{mem}
 use Rattle.walk.specs.Machine.{Chart, chart, Closing, Ending}
-use Rattle.walk.specs.Turns.{turn-close, turn-end, shut-two, shut-one, turn-some}
+use Rattle.walk.specs.laws.Turns.{turn-close, turn-end, shut-two, shut-one, turn-some}
 use Rattle.walk.proofs.shut.Statement.{statement}
 use Rattle.walk.proofs.shut.Tie as tie
 

@@ -1,9 +1,12 @@
-use Rattle.walk.specs.Falls.{Falls, fallen, Fell, fall, visiting-fall}
+use Rattle.walk.specs.Falls.{Falls, fallen}
+use Rattle.walk.specs.laws.Falls.{Fell, fall, visiting-fall}
 use Rattle.walk.specs.Opened.{Visiting}
-use Rattle.walk.specs.VisitLaws.{visiting-start, visited}
-use Rattle.walk.specs.Walked.{Keeps, keeps-start, keeps-turning, keeps-turn, keeps-less, keeps-end}
-use Rattle.walk.specs.Turns.{stack-of, state-of, stack-of-length}
-use Rattle.walk.specs.Machine.{Chart, chart, State, most-turns, turns}
+use Rattle.walk.specs.laws.Visits.{visiting-start, visited}
+use Rattle.walk.specs.laws.Walked.{Keeps, keeps-start, keeps-turning, keeps-turn, keeps-less, keeps-end}
+use Rattle.walk.specs.Turns.{state-of}
+use Rattle.walk.specs.laws.Turns.{stack-of-length}
+use Rattle.walk.specs.Machine.{Chart, chart, State}
+use Rattle.walk.specs.laws.Machine.{most-turns, turns}
 use Rattle.joining.specs.Joining.{mem}
 use lib.ListN.{length}
 use mathlib.Core.Path.{_≡_, refl, _∙_}
