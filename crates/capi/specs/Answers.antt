@@ -68,7 +68,7 @@ pub record Laying (t : Table) (al : ℕ) (s s′ : List ℕ) (ps ps′ : List �
   pub answers : r ≡ laid-answer laid
 
 -- a call of List, as `Lists` has it, with the struct for its answer
-pub record Listing (f out out′ : List ℕ) (r : ListAnswer) : Type 0 where
+pub record ListFilling (f out out′ : List ℕ) (r : ListAnswer) : Type 0 where
   pub listed : Listed
   pub lists : Lists f out out′ listed
   pub answers : r ≡ list-answer listed

@@ -10,7 +10,7 @@ use lib.ListN.{length, getD, set, length-set}
 use lib.IntN.{ℤ, pos}
 use Rattle.whole.specs.laws.Whole.{whole, neg-plus, neg-minus}
 use Rattle.whole.specs.Bias.{bias}
-use Rattle.whole.specs.Range.{Within}
+use Rattle.whole.specs.Range.{InRange}
 use Rattle.plan.specs.Limits.{farthest, most-cells, most-width, most-depth}
 use Rattle.plan.specs.Plan.{Is, parent, kind, appointed, W, D, Child}
 use Rattle.plan.specs.laws.Plan.{children-few}
@@ -44,15 +44,15 @@ pub made-all : {xs : List ℕ} {c : ℕ} {f : ℕ → ℕ} (n : ℕ) → Column 
 made-all {c = c} n h l k = let e : c ≡ n = omega arith in rw e at h
 
 -- ---- coordinates, moved up
-pub within-at : (ps : List ℤ) (n c o : ℕ) → Near ps n → c < n → o ≤ 1 → Within farthest (getD ps (2 * c + o) (pos 0))
+pub within-at : (ps : List ℤ) (n c o : ℕ) → Near ps n → c < n → o ≤ 1 → InRange farthest (getD ps (2 * c + o) (pos 0))
 within-at ps n c zero h l k = rw add-zero (h .x c l)
 within-at ps n c (suc zero) h l k = h .y c l
 within-at ps n c (suc (suc o)) h l k = absurd (omega arith)
 
-pub lifted : (z : ℤ) → Within farthest z → Lifts z (bias farthest z)
+pub lifted : (z : ℤ) → InRange farthest z → Lifts z (bias farthest z)
 lifted z w = omega (whole, w .low, neg-plus (pos farthest), neg-minus (pos farthest))
 
-pub low-lift : (z : ℤ) → Within farthest z → bias farthest z ≤ farthest + farthest
+pub low-lift : (z : ℤ) → InRange farthest z → bias farthest z ≤ farthest + farthest
 low-lift z w = omega (whole, w .high)
 
 -- ---- boxes

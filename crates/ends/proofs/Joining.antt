@@ -12,7 +12,7 @@ use mir.ValLaws.{toZ-ofZ}
 use Rattle.whole.proofs.Machine.{fits32}
 use Rattle.whole.specs.laws.Whole.{whole, narrow, sum, diff, neg-plus, neg-minus}
 use Rattle.whole.specs.Bias.{bias}
-use Rattle.whole.specs.Range.{Within}
+use Rattle.whole.specs.Range.{InRange}
 use Rattle.plan.specs.Limits.{farthest, most-cells, most-width}
 use Rattle.plan.specs.Plan.{parent}
 use Rattle.plan.specs.Fit.{Fit}
@@ -30,7 +30,7 @@ use Rattle.ends.specs.declared.Ended.{Ended}
 use Rattle.ends.specs.declared.Ended.the-variants.{Joined, Refused}
 
 -- moved up, moved on, and moved back
-module _ (z : ℤ) (w : Within farthest z) (by : ℕ) where
+module _ (z : ℤ) (w : InRange farthest z) (by : ℕ) where
   pub moved-low : bias farthest z ≤ farthest + farthest
   moved-low = omega (whole, w .high)
 

@@ -14,7 +14,7 @@ ghost use Prim.Native.Nat.{_<_, _≤_};
 ghost use lib.Dec.{ltb};
 ghost use lib.ListN.{length, getD};
 ghost use lib.IntN.{pos, _+ℤ_};
-ghost use Rattle.whole.specs.Range.{Within};
+ghost use Rattle.whole.specs.Range.{InRange};
 ghost use Rattle.plan.specs.Limits.{farthest, «most-width»};
 ghost use Rattle.plan.specs.Columns.{«table-of»};
 ghost use Rattle.plan.specs.Questions.{refusal, ends, «ends-given»};
@@ -74,7 +74,7 @@ fn refuse(t: Columns, positions: &[i32], cell: usize) -> Refusal
 
 // The number at a place of the positions, moved right or down.
 fn moved(positions: &[i32], i: usize, by: u32) -> i32
-    requires { ⌜ (i < length (now positions)) × Within farthest (getD (now positions) i (pos 0)) × (by ≤ most-width) ⌝ }
+    requires { ⌜ (i < length (now positions)) × InRange farthest (getD (now positions) i (pos 0)) × (by ≤ most-width) ⌝ }
     ensures { λ r. ⌜ r ≡ getD (now (positions .entry)) i (pos 0) +ℤ pos by ⌝ }
 {
     difference(raise_at(positions, i, FARTHEST) + by, FARTHEST)

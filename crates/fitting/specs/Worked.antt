@@ -7,11 +7,11 @@ use Rattle.plan.specs.Plan.{Table}
 use Rattle.least.specs.Worked.{E, F}
 use Rattle.fitting.specs.declared.Fitted.{Fitted}
 use Rattle.fitting.specs.declared.Fitted.the-variants.{Allowance, None, Refused}
-use Rattle.fitting.specs.Fitted.{answer}
+use Rattle.fitting.specs.Fitted.{fitted-of}
 
 -- what the call answers, with a scratch that is long enough
 unfoldable pub gives : Table → (squares : ℕ) → Fitted
-gives t f = answer t f (refusal frame (frame-given t f scratch-size))
+gives t f = fitted-of t f (refusal frame (frame-given t f scratch-size))
 
 -- ◆E is 13 wide at 0, 12 at 1, 10 at 3, 9 from 4 on; ◆F is 30 wide at 0 and 25 from 3 on
 pub record Rows : Type 0 where

@@ -12,8 +12,8 @@ pub record Memory : Type 0 where
   pub rows : List ℕ
   pub marks : List ℕ
 
-abbrev pub mem : List ℕ → List ℕ → Memory
-mem xs ms = record { rows = xs; marks = ms }
+abbrev pub memory-of : List ℕ → List ℕ → Memory
+memory-of xs ms = record { rows = xs; marks = ms }
 
 -- mark k of the cell c
 abbrev pub mark : List ℕ → ℕ → ℕ → ℕ
@@ -40,27 +40,27 @@ unfoldable pub completed : Memory → ℕ → ℕ → ℕ → ℕ → Memory
 completed m at c d w =
     let xs = box-to (m .rows) at w (d + 1) in
     let hs = height (m .marks) c d in
-    mem xs (four (m .marks) c (mark (m .marks) c 3 - mark (m .marks) c 2) (max-to xs at hs) (max-to xs (at + 1) hs) 0)
+    memory-of xs (four (m .marks) c (mark (m .marks) c 3 - mark (m .marks) c 2) (max-to xs at hs) (max-to xs (at + 1) hs) 0)
 
 -- the four parts of the separation: S3, S3, S4, S5
-unfoldable pub apart : Memory → ℕ → ℕ → ℕ → ℕ → ℕ → ℕ
-apart m at f c hs al =
+unfoldable pub settled-apart : Memory → ℕ → ℕ → ℕ → ℕ → ℕ → ℕ
+settled-apart m at f c hs al =
     max (max (mark (m .marks) f 1 + 1) (mark (m .marks) c 1 + 1))
     (max (clash-to (m .rows) at (mark (m .marks) f 2) (min (mark (m .marks) f 0) hs)) ((mark (m .marks) f 1 + mark (m .marks) c 1 + 1) - al))
 
 -- the first child: its rows become those of its parent
 abbrev pub settled-first : Memory → ℕ → ℕ → ℕ → ℕ → Memory
-settled-first m at f c hs = mem (upto-rows (m .rows) at 0 0 hs) (four (m .marks) f hs (mark (m .marks) c 2) 0 0)
+settled-first m at f c hs = memory-of (upto-rows (m .rows) at 0 0 hs) (four (m .marks) f hs (mark (m .marks) c 2) 0 0)
 
 -- a later child, g from the one before it, up to the appointed one or beyond it
 abbrev pub settled-by : Memory → ℕ → ℕ → ℕ → ℕ → Bool → ℕ → Memory
 settled-by m at f c hs beyond g =
-    mem (cond beyond (beyond-rows (m .rows) at (mark (m .marks) f 2 + g) hs) (upto-rows (m .rows) at (mark (m .marks) f 0) g (max (mark (m .marks) f 0) hs)))
+    memory-of (cond beyond (beyond-rows (m .rows) at (mark (m .marks) f 2 + g) hs) (upto-rows (m .rows) at (mark (m .marks) f 0) g (max (mark (m .marks) f 0) hs)))
     (four (noted (m .marks) c (mark (m .marks) f 3 + g)) f (max (mark (m .marks) f 0) hs) (mark (m .marks) c 2) (cond beyond (mark (m .marks) f 2 + g) 0) (mark (m .marks) f 3 + g))
 
 abbrev pub settled-at : Memory → ℕ → ℕ → ℕ → ℕ → ℕ → ℕ → ℕ → Memory
 settled-at m at f c hs zero apt al = settled-first m at f c hs
-settled-at m at f c hs (suc p) apt al = settled-by m at f c hs (ltb apt (suc p)) (apart m at f c hs al)
+settled-at m at f c hs (suc p) apt al = settled-by m at f c hs (ltb apt (suc p)) (settled-apart m at f c hs al)
 
 -- the child at the given place, where apt is the appointed one
 unfoldable pub settled : Memory → ℕ → ℕ → ℕ → ℕ → ℕ → ℕ → ℕ → Memory

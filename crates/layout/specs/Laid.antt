@@ -25,8 +25,8 @@ use Rattle.layout.specs.declared.Measures.{Measures}
 
 -- document 01's values of the two answers: width and rows of our sheet; number and cell of the refusal.
 -- (Width and rows are whole numbers that are not negative; `plus` is such a number as a natural one.)
-unfoldable pub answer : Table → (allowance : ℕ) → Refusal → Laid
-answer t al r = cond (eqb (r .number) 0) (Sheet (plus (width t (sheet t al))) (plus (rows t (sheet t al)))) (Refused (r .number) (r .cell))
+unfoldable pub laid-of : Table → (allowance : ℕ) → Refusal → Laid
+laid-of t al r = cond (eqb (r .number) 0) (Sheet (plus (width t (sheet t al))) (plus (rows t (sheet t al)))) (Refused (r .number) (r .cell))
 
 -- the lent positions after it. Of a sheet: x then y of each cell, nothing beyond. Of a refusal: as they were
 unfoldable pub positions-after : Laid → Table → (allowance : ℕ) → List ℤ → List ℤ
@@ -40,7 +40,7 @@ scratch-after (Refused k c) s = s
 
 -- a call of Layout: the answer, and the scratch and the positions before and after it
 pub record Lays (t : Table) (al : ℕ) (s s′ : List ℕ) (ps ps′ : List ℤ) (r : Laid) : Type 0 where
-  pub answers : r ≡ answer t al (refusal layout (layout-given t al (length s) (length ps)))
+  pub answers : r ≡ laid-of t al (refusal layout (layout-given t al (length s) (length ps)))
   pub positions : ps′ ≡ positions-after r t al ps
   pub scratch : s′ ≡ scratch-after r s
 

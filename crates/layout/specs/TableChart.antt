@@ -8,11 +8,11 @@ use Rattle.links.specs.Build.{links-of}
 use Rattle.walk.specs.Machine.{Chart, chart}
 
 -- a column of k numbers
-unfoldable pub column : (ℕ → ℕ) → ℕ → List ℕ
-column f zero = []
-column f (suc k) = column f k ++ (f k ∷ [])
+unfoldable pub numbers : (ℕ → ℕ) → ℕ → List ℕ
+numbers f zero = []
+numbers f (suc k) = numbers f k ++ (f k ∷ [])
 
 -- the columns of a table that the walk reads: its links, widths, depths and rows
 abbrev pub chart-of : Table → ℕ → Chart
 chart-of t al =
-    chart (links-of (column (parent t) most-cells) (column (kind t) most-cells) (column (rank t) most-cells) (length t) (replicate (4 * most-cells) 0)) (column (W t) most-cells) (column (D t) most-cells) (column (row t) most-cells) al
+    chart (links-of (numbers (parent t) most-cells) (numbers (kind t) most-cells) (numbers (rank t) most-cells) (length t) (replicate (4 * most-cells) 0)) (numbers (W t) most-cells) (numbers (D t) most-cells) (numbers (row t) most-cells) al

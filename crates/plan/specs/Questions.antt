@@ -6,7 +6,7 @@ use Prim.Native.Nat.{ℕ, zero, suc, _+_, _*_}
 use lib.ListN.{length, getD}
 use lib.Dec.{eqb, leb, ltb}
 use lib.IntN.{ℤ, pos}
-use Rattle.whole.specs.Range.{within}
+use Rattle.whole.specs.Range.{in-range}
 use Rattle.plan.specs.Limits.{between, most-cells, most-width, most-depth, most-level, last-row, most-allowance, farthest, scratch-size, listing-size, least-file, most-file, trailer-size, first-letter, last-letter, most-label, no-parent}
 use Rattle.plan.specs.Forms.{marked, form-of, record-size, widest}
 use Rattle.plan.specs.Lists.{from, mem}
@@ -177,7 +177,7 @@ sized m w d = between 1 m w && between 1 most-depth d
 
 -- question 15, for one number
 unfoldable pub near : ℤ → Bool
-near z = within farthest z
+near z = in-range farthest z
 
 -- question 16: is cell c one of n, and not the root where the root may not be named
 unfoldable pub in-table : (root : Bool) → (n : ℕ) → Subject → Bool

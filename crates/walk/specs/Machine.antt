@@ -5,7 +5,7 @@ use Prim.Native.Nat.{ℕ, zero, suc, _+_, _*_, _≤_, _<_}
 use lib.ListN.{length, getD, take, drop}
 use Rattle.plan.specs.Limits.{most-cells, last-row}
 use Rattle.rows.specs.Rows.{row-size, box-to}
-use Rattle.joining.specs.Joining.{Memory, mem, height, joined-rows, completed, Completing, Settling, finished}
+use Rattle.joining.specs.Joining.{Memory, memory-of, height, joined-rows, completed, Completing, Settling, finished}
 use Rattle.links.specs.Links.{link}
 
 -- the columns that the walk reads: links, widths, depths, top rows; and the allowance
@@ -52,18 +52,18 @@ stretch-rows b f c ms = joined-rows ms f c (deep b c)
 
 -- the child c of f is completed and joins it, in the rows xs of the stretch below the box of f: they begin with the top row of c
 abbrev pub joined-in : Chart → ℕ → ℕ → ℕ → List ℕ → List ℕ → Memory
-joined-in b level f c xs ms = finished (mem xs ms) (2 * level) f c (deep b c) (wide b c) (link (b .links) c 2) (apt b f) (b .allowance)
+joined-in b level f c xs ms = finished (memory-of xs ms) (2 * level) f c (deep b c) (wide b c) (link (b .links) c 2) (apt b f) (b .allowance)
 
 -- the child c of f, at the level below, is closed: only the stretch below the box of f is written ("only that stretch is written while its sons are joined")
 unfoldable pub closed : Chart → ℕ → ℕ → ℕ → Memory → Memory
 closed b level f c m =
     let n = stretch-rows b f c (m .marks) in
     let j = joined-in b level f c (stretch (m .rows) (top b c) n) (m .marks) in
-    mem (with-stretch (m .rows) (top b c) n (j .rows)) (j .marks)
+    memory-of (with-stretch (m .rows) (top b c) n (j .rows)) (j .marks)
 
 -- the root is closed, and its rows are cleared
 unfoldable pub root-closed : Memory → ℕ → ℕ → Memory
-root-closed m d w = mem (box-to (completed m 0 0 d w .rows) 0 0 (height (m .marks) 0 d)) (completed m 0 0 d w .marks)
+root-closed m d w = memory-of (box-to (completed m 0 0 d w .rows) 0 0 (height (m .marks) 0 d)) (completed m 0 0 d w .marks)
 
 -- a next child is opened; or the latest open cell is closed, with the root last
 abbrev pub step-at : Chart → ℕ → List ℕ → Memory → State
@@ -95,7 +95,7 @@ pub record Closing (b : Chart) (level f c : ℕ) (xs ms : List ℕ) : Type 0 whe
   pub theirs : 4 * f + 4 ≤ length ms
   pub small : height ms c (deep b c) ≤ last-row + 1
   pub fits : row-size * top b c + row-size * stretch-rows b f c ms ≤ length xs
-  pub finishing : Finishing (mem (stretch xs (top b c) (stretch-rows b f c ms)) ms) (2 * level) f c (deep b c) (wide b c)
+  pub finishing : Finishing (memory-of (stretch xs (top b c) (stretch-rows b f c ms)) ms) (2 * level) f c (deep b c) (wide b c)
 
 pub record Ending (b : Chart) (m : Memory) : Type 0 where
   pub widths : 0 < length (b .widths)

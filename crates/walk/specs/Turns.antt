@@ -2,7 +2,7 @@
 use mathlib.Core.List.{List, [], _∷_}
 use Prim.Native.Nat.{ℕ, zero, suc}
 use lib.ListN.{getD}
-use Rattle.joining.specs.Joining.{mem}
+use Rattle.joining.specs.Joining.{memory-of}
 use Rattle.walk.specs.Machine.{State}
 
 -- ---- the chain: an array of 32 cells and a count. The stack has its last cell on top
@@ -11,4 +11,4 @@ stack-of cs zero = []
 stack-of cs (suc k) = getD cs k 0 ∷ stack-of cs k
 
 abbrev pub state-of : List ℕ → ℕ → ℕ → List ℕ → List ℕ → State
-state-of cs k next xs ms = record { stack = stack-of cs k; next = next; memory = mem xs ms }
+state-of cs k next xs ms = record { stack = stack-of cs k; next = next; memory = memory-of xs ms }

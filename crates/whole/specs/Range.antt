@@ -4,9 +4,9 @@ use Prim.Native.Nat.{ℕ}
 use lib.IntN.{ℤ, pos, negℤ}
 use lib.Signed.{_≤ℤ_, leZ}
 
-unfoldable pub within : ℕ → ℤ → Bool
-within far z = leZ (negℤ (pos far)) z && leZ z (pos far)
+unfoldable pub in-range : ℕ → ℤ → Bool
+in-range far z = leZ (negℤ (pos far)) z && leZ z (pos far)
 
-pub record Within (far : ℕ) (z : ℤ) : Type 0 where
+pub record InRange (far : ℕ) (z : ℤ) : Type 0 where
   pub low : negℤ (pos far) ≤ℤ z
   pub high : z ≤ℤ pos far

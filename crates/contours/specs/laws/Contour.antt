@@ -7,7 +7,7 @@ use native.Mathlib.Omega.{arith, max-cases}
 use native.Mathlib.Nat.{sub-zero, suc-sub-suc}
 use lib.ListN.{replicate}
 use Rattle.plan.specs.Lists.{At}
-use Rattle.contours.specs.Contour.{Contour, greatest, cover, clash, separation, step, offset, lefts}
+use Rattle.contours.specs.Contour.{Contour, greatest, cover, clash, separation, stride, offset, lefts}
 
 -- a row of box rows with more below
 pub at-boxes : (n a : ℕ) (ys : List ℕ) (j v : ℕ) → At (replicate n a ++ ys) j v → ((j < n) × (v ≡ a)) ⊎ ((n ≤ j) × At ys (j - n) v)
@@ -109,11 +109,11 @@ module _ (al : ℕ) where
   unfolding offset
   offset-from [] m X = omega arith
   offset-from (o ∷ os) zero X = omega arith
-  offset-from (o ∷ os) (suc m) X = omega (arith, offset-from os m (X + step al o os))
+  offset-from (o ∷ os) (suc m) X = omega (arith, offset-from os m (X + stride al o os))
 
   -- siblings after column P do not extend to the left of it
-  pub lefts-next : (o : Contour) (os : List Contour) (P X j v : ℕ) → P ≤ X → At (lefts al P (X + step al o os) os) j v → v ≡ 0
-  unfolding lefts step separation
+  pub lefts-next : (o : Contour) (os : List Contour) (P X j v : ℕ) → P ≤ X → At (lefts al P (X + stride al o os) os) j v → v ≡ 0
+  unfolding lefts stride separation
   lefts-next o [] P X j v g h = absurd h
   lefts-next o (p ∷ ps) P X j v g h =
       elim (cover-cases _ (p .left) _ j v h) [

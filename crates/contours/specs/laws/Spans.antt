@@ -4,7 +4,7 @@ use mathlib.Core.List.{List, [], _∷_}
 use mathlib.Core.Logic.{inl, inr}
 use native.Mathlib.Omega.{arith}
 use Rattle.plan.specs.Lists.{At}
-use Rattle.contours.specs.Contour.{Contour, greatest, separation, step, offset, lefts, rights, contour}
+use Rattle.contours.specs.Contour.{Contour, greatest, separation, stride, offset, lefts, rights, contour}
 use Rattle.contours.specs.laws.Contour.{at-boxes, cover-cases, greatest-at, greatest-le, separation-apart, separation-least}
 
 unfoldable pub spans : List Contour → ℕ
@@ -33,13 +33,13 @@ module _ (al : ℕ) where
   rightmost [] = 0
   rightmost (o ∷ os) = greatest (o .right) + spans os
 
-  step-left : (o : Contour) (os : List Contour) → leftmost os ≤ step al o os
-  unfolding step
+  step-left : (o : Contour) (os : List Contour) → leftmost os ≤ stride al o os
+  unfolding stride
   step-left o [] = omega arith
   step-left o (p ∷ ps) = omega (arith, separation-apart al o p .starts)
 
-  step-right : (o : Contour) (os : List Contour) → step al o os + rightmost os ≤ greatest (o .right) + spans os
-  unfolding step spans
+  step-right : (o : Contour) (os : List Contour) → stride al o os + rightmost os ≤ greatest (o .right) + spans os
+  unfolding stride spans
   step-right o [] = omega arith
   step-right o (p ∷ ps) = omega (arith, separation-most o p)
 
@@ -47,7 +47,7 @@ module _ (al : ℕ) where
   unfolding offset
   offset-most [] m X = omega arith
   offset-most (o ∷ os) zero X = omega arith
-  offset-most (o ∷ os) (suc m) X = omega (arith, step-right o os, offset-most os m (X + step al o os))
+  offset-most (o ∷ os) (suc m) X = omega (arith, step-right o os, offset-most os m (X + stride al o os))
 
   lefts-most : (os : List Contour) (P X j v : ℕ) → At (lefts al P X os) j v → v ≤ (P + leftmost os) - X
   unfolding lefts
@@ -55,7 +55,7 @@ module _ (al : ℕ) where
   lefts-most (o ∷ os) P X j v h =
       elim (cover-cases _ (o .left) _ j v h) [
         | inl q ↦ omega (arith, q .2, greatest-le (o .left) j (q .0) (q .1))
-        | inr q ↦ omega (arith, step-left o os, lefts-most os P (X + step al o os) j v q)
+        | inr q ↦ omega (arith, step-left o os, lefts-most os P (X + stride al o os) j v q)
       ]
 
   rights-most : (os : List Contour) (P X j v : ℕ) → At (rights al P X os) j v → v ≤ (X + rightmost os) - P
@@ -64,7 +64,7 @@ module _ (al : ℕ) where
   rights-most (o ∷ os) P X j v h =
       elim (cover-cases _ (o .right) _ j v h) [
         | inl q ↦ omega (arith, q .2, greatest-le (o .right) j (q .0) (q .1))
-        | inr q ↦ omega (arith, step-right o os, rights-most os P (X + step al o os) j v q)
+        | inr q ↦ omega (arith, step-right o os, rights-most os P (X + stride al o os) j v q)
       ]
 
   both-ways : (os : List Contour) → leftmost os + rightmost os ≤ spans os

@@ -6,7 +6,7 @@ use native.Mathlib.Omega.{arith}
 use native.Mathlib.Decide.{ℕ-discrete}
 use borrow.Author.Tests.{eq-eqb, ne-eqb}
 use Rattle.ends.specs.Ended.{half}
-use Rattle.ends.specs.Nearest.{apart, Nearest, row, computed, widths}
+use Rattle.ends.specs.Nearest.{gap, Nearest, width-row, width-computed, widths}
 
 -- the same in numbers: twice h is w, one less or one more, and where w is odd h is even
 pub record Close (w h : ℕ) : Type 0 where
@@ -45,17 +45,17 @@ close-nearest w h p =
       | no n ↦ let o : w % 2 ≡ 1 = omega arith in record { nearer = λ k. odd k o; tie = λ k n t. p .odd o }
     ]
   where
-    odd : (k : ℕ) → w % 2 ≡ 1 → apart (h + h) w ≤ apart (k + k) w
+    odd : (k : ℕ) → w % 2 ≡ 1 → gap (h + h) w ≤ gap (k + k) w
     odd k o =
-        let l : apart (h + h) w ≤ 1 = omega (arith, p .low, p .high) in
-        let m : 1 ≤ apart (k + k) w = omega arith in
+        let l : gap (h + h) w ≤ 1 = omega (arith, p .low, p .high) in
+        let m : 1 ≤ gap (k + k) w = omega arith in
         omega arith
 
 nearest-close : (w h : ℕ) → Nearest w h → Close w h
-nearest-close w h p = let l : apart (h + h) w ≤ 1 = omega (arith, p .nearer (w / 2)) in record { low = omega arith; high = omega arith; odd = λ o. odd l o }
+nearest-close w h p = let l : gap (h + h) w ≤ 1 = omega (arith, p .nearer (w / 2)) in record { low = omega arith; high = omega arith; odd = λ o. odd l o }
   where
     -- w / 2 and the next number are equally near: h is one of them, and the other is its tie
-    odd : apart (h + h) w ≤ 1 → w % 2 ≡ 1 → h % 2 ≡ 0
+    odd : gap (h + h) w ≤ 1 → w % 2 ≡ 1 → h % 2 ≡ 0
     odd l o =
         elim (ℕ-discrete (w / 2) h) [
           | yes e ↦ p .tie (w / 2 + 1) (λ q. omega arith) (omega arith)
@@ -69,6 +69,6 @@ half-nearest w = close-nearest w (half w) (half-close w)
 pub nearest-half : (w h : ℕ) → Nearest w h → h ≡ half w
 nearest-half w h p = close-half w h (nearest-close w h p)
 
-pub worked : map computed widths ≡ widths
-unfolding row computed widths half
+pub worked : map width-computed widths ≡ widths
+unfolding width-row width-computed widths half
 worked = refl

@@ -16,7 +16,7 @@ use Rattle.contours.specs.Sheet.{sheet}
 use Rattle.least.specs.Alike.{Alike, Twins}
 use Rattle.least.specs.Theorems.{alike}
 use Rattle.positions.specs.laws.Written.{written-agree}
-use Rattle.layout.specs.Laid.{answer, positions-after, scratch-after, Lays}
+use Rattle.layout.specs.Laid.{laid-of, positions-after, scratch-after, Lays}
 use Rattle.layout.specs.laws.Laid.{sheet-asks, sheet-wide, sheet-deep}
 use Rattle.layout.specs.declared.Laid.{Laid}
 use Rattle.layout.specs.declared.Laid.the-variants.{Sheet, Refused}
@@ -27,7 +27,7 @@ module _ (t : Table) (al : ℕ) (s s′ : List ℕ) (ps ps′ : List ℤ) (r : L
   why = refusal layout (layout-given t al (length s) (length ps))
 
   pub gives : why ≡ none → Gives t al s s′ ps ps′ r
-  unfolding answer positions-after scratch-after
+  unfolding laid-of positions-after scratch-after
   gives z =
       let w = plus (width t (sheet t al)) in
       let h = plus (rows t (sheet t al)) in
@@ -44,7 +44,7 @@ module _ (t : Table) (al : ℕ) (s s′ : List ℕ) (ps ps′ : List ℤ) (r : L
       }
 
   pub unchanged : ¬ (why .number ≡ 0) → (r ≡ Refused (why .number) (why .cell)) × (ps′ ≡ ps) × (s′ ≡ s)
-  unfolding answer positions-after scratch-after
+  unfolding laid-of positions-after scratch-after
   unchanged z =
       let e : r ≡ Refused (why .number) (why .cell) = l .answers ∙ rw (ne-eqb (why .number) 0 z) in
       (e, l .positions ∙ rw e, l .scratch ∙ rw e)

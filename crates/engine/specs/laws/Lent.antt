@@ -16,7 +16,7 @@ use Rattle.plan.specs.Limits.{most-cells, scratch-size}
 use Rattle.plan.specs.Questions.{asked, or-else, refusal, layout, frame, layout-given, frame-given}
 use Rattle.plan.specs.laws.Questions.{both-none}
 use Rattle.plan.specs.declared.Refusal.{Refusal}
-use Rattle.layout.specs.Laid.{answer, positions-after, Lays}
+use Rattle.layout.specs.Laid.{laid-of, positions-after, Lays}
 use Rattle.layout.specs.declared.Laid.{Laid}
 use Rattle.layout.specs.declared.Laid.the-variants.{Refused}
 use Rattle.fitting.specs.Fitted as fitted
@@ -40,8 +40,8 @@ module _ (s : List ℕ) where
   refuses z = let h : crowded .number ≡ 0 = both-none (asked 1 (leb scratch-size (length s)) 0) crowded z .1 in absurd (omega arith)
 
 module _ (al : ℕ) (s s′ : List ℕ) (ps ps′ : List ℤ) (d : Laid) where
-  answer-crowded : (u : Table) → most-cells < length u → answer u al (refusal layout (layout-given u al (length s) (length ps))) ≡ Refused (no s .number) (no s .cell)
-  unfolding answer
+  answer-crowded : (u : Table) → most-cells < length u → laid-of u al (refusal layout (layout-given u al (length s) (length ps))) ≡ Refused (no s .number) (no s .cell)
+  unfolding laid-of
   answer-crowded u h = rw (layout-crowded u h al (length s) (length ps), ne-eqb (no s .number) 0 (refuses s))
 
   lays-crowded : (u v : Table) → most-cells < length u → most-cells < length v → Lays u al s s′ ps ps′ d → Lays v al s s′ ps ps′ d
@@ -51,8 +51,8 @@ module _ (al : ℕ) (s s′ : List ℕ) (ps ps′ : List ℤ) (d : Laid) where
       record { answers = e ∙ sym (answer-crowded v q); positions = rw e (rw e at (g .positions)); scratch = g .scratch }
 
 module _ (f : ℕ) (s s′ : List ℕ) (d : Fitted) where
-  fitted-crowded : (u : Table) → most-cells < length u → fitted.answer u f (refusal frame (frame-given u f (length s))) ≡ fits.Refused (no s .number) (no s .cell)
-  unfolding fitted.answer
+  fitted-crowded : (u : Table) → most-cells < length u → fitted.fitted-of u f (refusal frame (frame-given u f (length s))) ≡ fits.Refused (no s .number) (no s .cell)
+  unfolding fitted.fitted-of
   fitted-crowded u h = rw (frame-crowded u h f (length s), ne-eqb (no s .number) 0 (refuses s))
 
   frames-crowded : (u v : Table) → most-cells < length u → most-cells < length v → Frames u f s s′ d → Frames v f s s′ d

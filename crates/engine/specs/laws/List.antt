@@ -5,7 +5,7 @@ use lib.ListN.{length}
 use Rattle.plan.specs.Questions.{list, none, refusal, list-given}
 use Rattle.plan.specs.declared.Refusal.{Refusal}
 use Rattle.listing.specs.Printed.{Bytes}
-use Rattle.printing.specs.Printing.{text-of, answer, out-after, size, Lists}
+use Rattle.printing.specs.Printing.{text-of, listed-of, out-after, size, Lists}
 use Rattle.printing.specs.declared.Listed.{Listed}
 use Rattle.printing.specs.declared.Listed.the-variants.{Text, Refused}
 use Rattle.engine.specs.Outcomes.{Listing}
@@ -15,11 +15,11 @@ module _ (f out out′ : Bytes) (r : Listed) (l : Lists f out out′ r) where
   why = refusal list (list-given (length out))
 
   pub gives : why ≡ none → Listing f out out′ r
-  unfolding answer out-after size
+  unfolding listed-of out-after size
   gives z =
       let e : r ≡ Text (length (text-of f)) = l .answers ∙ rw z in
       record { answers = e; bytes = l .bytes ∙ rw e; suffices = rw e at (l .suffices) }
 
   pub unchanged : ¬ (why .number ≡ 0) → (r ≡ Refused (why .number) (why .cell)) × (out′ ≡ out)
-  unfolding answer out-after
+  unfolding listed-of out-after
   unchanged z = let e : r ≡ Refused (why .number) (why .cell) = l .answers ∙ rw (ne-eqb (why .number) 0 z) in (e, l .bytes ∙ rw e)

@@ -22,7 +22,7 @@ use Rattle.records.specs.Together.{record-in, filled}
 use Rattle.records.specs.laws.Together.{filled-none, filled-all}
 use Rattle.engine.specs.declared.ReadAnswer.the-variants.{Plan, Refused}
 use Rattle.engine.specs.declared.Parsed.{Parsed}
-use Rattle.engine.specs.Read.{read-refusal, answer, table-after, Reads, read-of}
+use Rattle.engine.specs.Read.{read-refusal, read-answered, table-after, Reads, read-of}
 
 module _ (f : List ℕ) (room : ℕ) where
   abbrev stop : Refusal
@@ -54,8 +54,8 @@ module _ (f : List ℕ) (room : ℕ) where
     unfolding records-of
     plan-records t e = filled-all plan (entry f) (trailer-of f .count) t (omega (arith, plan-fits)) plan-record
 
-    plan-answer : answer f stop ≡ Plan (trailer-of f .count) (trailer-of f .allowance)
-    unfolding answer
+    plan-answer : read-answered f stop ≡ Plan (trailer-of f .count) (trailer-of f .allowance)
+    unfolding read-answered
     plan-answer = rw (eq-eqb (stop .number) 0 z)
 
   -- ---- a question refuses it
@@ -64,8 +64,8 @@ module _ (f : List ℕ) (room : ℕ) where
     unfolding reading-of
     reading-blank = rw (ne-eqb (stop .number) 0 z)
 
-    refused-answer : answer f stop ≡ Refused (stop .number) (stop .cell)
-    unfolding answer
+    refused-answer : read-answered f stop ≡ Refused (stop .number) (stop .cell)
+    unfolding read-answered
     refused-answer = rw (ne-eqb (stop .number) 0 z)
 
   -- ---- for the code
@@ -82,7 +82,7 @@ module _ (f : List ℕ) (room : ℕ) where
     unfolding read-of columns-of
     parse-refused h = go (ℕ-discrete (stop .number) 0)
       where
-        go : Dec (stop .number ≡ 0) → _≡_ {A = Parsed} (record { reading = p; answer = Refused (p .refusal .number) (p .refusal .cell) }) (record { reading = reading-of f room; answer = answer f stop })
+        go : Dec (stop .number ≡ 0) → _≡_ {A = Parsed} (record { reading = p; answer = Refused (p .refusal .number) (p .refusal .cell) }) (record { reading = reading-of f room; answer = read-answered f stop })
         go (yes z) = absurd (h (ap (λ (x : Reading). x .refusal .number) (e ∙ reading-plan z)))
         go (no z) = rw (e, reading-blank z, refused-answer z)
 
@@ -90,7 +90,7 @@ module _ (f : List ℕ) (room : ℕ) where
     unfolding read-of columns-of
     parse-plan h = go (ℕ-discrete (stop .number) 0)
       where
-        go : Dec (stop .number ≡ 0) → _≡_ {A = Parsed} (record { reading = p; answer = Plan (p .columns .count) (p .allowance) }) (record { reading = reading-of f room; answer = answer f stop })
+        go : Dec (stop .number ≡ 0) → _≡_ {A = Parsed} (record { reading = p; answer = Plan (p .columns .count) (p .allowance) }) (record { reading = reading-of f room; answer = read-answered f stop })
         go (yes z) = rw (e, reading-plan z, plan-answer z)
         go (no z) = absurd (z (ap (λ (x : Reading). x .refusal .number) (sym (e ∙ reading-blank z)) ∙ h))
 
@@ -107,6 +107,6 @@ module _ (f : List ℕ) (t : List Record) (p : Parsed) (e : p ≡ read-of f (len
   unfolding read-of columns-of table-after
   parsed-reads t′ h = rw (h, e) (record { answers = refl; table = go (ℕ-discrete (read-refusal f (length t) .number) 0) })
     where
-      go : Dec (read-refusal f (length t) .number ≡ 0) → filled (reading-of f (length t)) (reading-of f (length t) .columns .count) t ≡ table-after (answer f (read-refusal f (length t))) f t
+      go : Dec (read-refusal f (length t) .number ≡ 0) → filled (reading-of f (length t)) (reading-of f (length t) .columns .count) t ≡ table-after (read-answered f (read-refusal f (length t))) f t
       go (yes z) = rw (reading-plan f (length t) z, plan-answer f (length t) z) (plan-records f (length t) z t refl)
       go (no z) = rw (reading-blank f (length t) z, refused-answer f (length t) z) (sym (filled-none _ t))

@@ -23,7 +23,7 @@ use Rattle.planfile.specs.laws.Examined.{zero-of}
 use Rattle.planfile.specs.laws.ReadThen.{file-label, file-layout, part-of-record}
 use Rattle.engine.specs.declared.ReadAnswer.{ReadAnswer}
 use Rattle.engine.specs.declared.ReadAnswer.the-variants.{Plan, Refused}
-use Rattle.engine.specs.Read.{read-refusal, answer, table-after, Reads}
+use Rattle.engine.specs.Read.{read-refusal, read-answered, table-after, Reads}
 use Rattle.engine.specs.Label.{label-of}
 
 -- ---- the answer
@@ -32,16 +32,16 @@ module _ (f : List ℕ) (t t′ : List Record) (r : ReadAnswer) (l : Reads f t t
   why = read-refusal f (length t)
 
   pub gives : why ≡ none → (r ≡ Plan (trailer-of f .count) (trailer-of f .allowance)) × (t′ ≡ records-of f ++ drop (trailer-of f .count) t)
-  unfolding answer table-after
+  unfolding read-answered table-after
   gives z = let e : r ≡ Plan (trailer-of f .count) (trailer-of f .allowance) = l .answers ∙ rw z in (e, l .table ∙ rw e)
 
   pub unchanged : ¬ (why .number ≡ 0) → (r ≡ Refused (why .number) (why .cell)) × (t′ ≡ t)
-  unfolding answer table-after
+  unfolding read-answered table-after
   unchanged z = let e : r ≡ Refused (why .number) (why .cell) = l .answers ∙ rw (ne-eqb (why .number) 0 z) in (e, l .table ∙ rw e)
 
 -- ---- what an answer with a plan says
-accepted : (f : List ℕ) (n al : ℕ) (r : Refusal) → Plan n al ≡ answer f r → (r .number ≡ 0) × (n ≡ trailer-of f .count) × (al ≡ trailer-of f .allowance)
-unfolding answer
+accepted : (f : List ℕ) (n al : ℕ) (r : Refusal) → Plan n al ≡ read-answered f r → (r .number ≡ 0) × (n ≡ trailer-of f .count) × (al ≡ trailer-of f .allowance)
+unfolding read-answered
 accepted f n al r e = go (ℕ-discrete (r .number) 0)
   where
     same : (m k : ℕ) → Plan n al ≡ Plan m k → (n ≡ m) × (al ≡ k)

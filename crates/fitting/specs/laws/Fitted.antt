@@ -30,12 +30,12 @@ use Rattle.plan.specs.declared.Columns.{Columns}
 use Rattle.layout.specs.Laid.{Placeable}
 use Rattle.fitting.specs.declared.Fitted.{Fitted}
 use Rattle.fitting.specs.declared.Fitted.the-variants.{Allowance, None, Refused}
-use Rattle.fitting.specs.Fitted.{told, answer, scratch-after, Frames}
+use Rattle.fitting.specs.Fitted.{told, fitted-of, frame-scratch-after, Frames}
 
 -- ---- the entry: the refusal r of the questions, then the search
 module _ (t : Table) (f : ℕ) (s : List ℕ) {r : Refusal} (e : r ≡ refusal frame (frame-given t f (length s))) where
   pub refused : ¬ (r .number ≡ 0) → Frames t f s s (Refused (r .number) (r .cell))
-  unfolding answer scratch-after
+  unfolding fitted-of frame-scratch-after
   refused z = record { answers = rw (← e, ne-eqb (r .number) 0 z); scratch = refl }
 
   pub asks : r .number ≡ 0 → Fit t × (scratch-size ≤ length s)
@@ -45,12 +45,12 @@ module _ (t : Table) (f : ℕ) (s : List ℕ) {r : Refusal} (e : r ≡ refusal f
       (counted-fit t (both-none (counted-refusal t) _ rest .0), leb→le scratch-size (length s) (asked-yes 0 _ 0 one))
 
   pub done : r .number ≡ 0 → (s′ : List ℕ) (a : Fitted) → a ≡ told (least-allowance t f) → s′ ≡ replicate scratch-size 0 → Frames t f s (s′ ++ drop scratch-size s) a
-  unfolding answer
+  unfolding fitted-of
   done z s′ a q y = record { answers = q ∙ rw (← e, eq-eqb (r .number) 0 z); scratch = rw (q, y) (after (least-allowance t f)) }
     where
-      after : (x : Found) → replicate scratch-size 0 ++ drop scratch-size s ≡ scratch-after (told x) s
-      after nowhere = unfold scratch-after told in refl
-      after (found b) = unfold scratch-after told in refl
+      after : (x : Found) → replicate scratch-size 0 ++ drop scratch-size s ≡ frame-scratch-after (told x) s
+      after nowhere = unfold frame-scratch-after told in refl
+      after (found b) = unfold frame-scratch-after told in refl
 
 -- ---- one sheet: its width w against the frame
 pub measured : (t : Table) (f al w : ℕ) → pos w ≡ width t (sheet t al) → leb w f ≡ fits t f al

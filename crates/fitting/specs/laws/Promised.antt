@@ -20,7 +20,7 @@ use Rattle.least.specs.Frame.{Found, nowhere, found, least-allowance, Least}
 use Rattle.least.specs.laws.Frame.{found-least, nowhere-wide, fits-bounds}
 use Rattle.fitting.specs.declared.Fitted.{Fitted}
 use Rattle.fitting.specs.declared.Fitted.the-variants.{Allowance, None, Refused}
-use Rattle.fitting.specs.Fitted.{told, answer, scratch-after, Frames, AtMost}
+use Rattle.fitting.specs.Fitted.{told, fitted-of, frame-scratch-after, Frames, AtMost}
 use Rattle.fitting.specs.laws.Fitted.{asks, told-found}
 
 -- ---- what is told is what is found
@@ -38,8 +38,8 @@ none-told : (x : Found) → x ≡ nowhere → told x ≡ None
 unfolding told
 none-told x e = rw e refl
 
-told-clears : (x : Found) (s : List ℕ) → scratch-after (told x) s ≡ replicate scratch-size 0 ++ drop scratch-size s
-unfolding told scratch-after
+told-clears : (x : Found) (s : List ℕ) → frame-scratch-after (told x) s ≡ replicate scratch-size 0 ++ drop scratch-size s
+unfolding told frame-scratch-after
 told-clears nowhere s = refl
 told-clears (found a) s = refl
 
@@ -49,7 +49,7 @@ module _ (t : Table) (f : ℕ) (s s′ : List ℕ) (r : Fitted) (g : Frames t f 
 
   -- a refusal is answered by its number and cell, and leaves the scratch as it was
   pub unchanged : ¬ (why .number ≡ 0) → (r ≡ Refused (why .number) (why .cell)) × (s′ ≡ s)
-  unfolding answer scratch-after
+  unfolding fitted-of frame-scratch-after
   unchanged z =
       let e : r ≡ Refused (why .number) (why .cell) = g .answers ∙ rw (ne-eqb (why .number) 0 z) in
       (e, g .scratch ∙ rw e)
@@ -57,7 +57,7 @@ module _ (t : Table) (f : ℕ) (s s′ : List ℕ) (r : Fitted) (g : Frames t f 
   -- ---- where no question refuses
   module _ (z : why .number ≡ 0) where
     is : r ≡ told (least-allowance t f)
-    unfolding answer
+    unfolding fitted-of
     is = g .answers ∙ rw (eq-eqb (why .number) 0 z)
 
     fit : Fit t

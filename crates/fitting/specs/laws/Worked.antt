@@ -21,7 +21,7 @@ use Rattle.least.specs.Frame.{fits, least-allowance}
 use Rattle.least.specs.laws.Frame.{fits-wider, Halved, halved-done}
 use Rattle.least.specs.Worked.{ranked, chosen, planned, E, F}
 use Rattle.fitting.specs.declared.Fitted.the-variants.{Allowance, None}
-use Rattle.fitting.specs.Fitted.{told, answer}
+use Rattle.fitting.specs.Fitted.{told, fitted-of}
 use Rattle.fitting.specs.laws.Fitted.{asks, told-found, told-none, passes}
 use Rattle.fitting.specs.Worked.{gives, Rows}
 
@@ -30,7 +30,7 @@ module _ (t : Table) (f : ℕ) (z : refusal frame (frame-given t f scratch-size)
   fit = asks t f (replicate scratch-size 0) {r = refusal frame (frame-given t f scratch-size)} (rw (length-replicate {A = ℕ} scratch-size 0) refl) z .0
 
   told-it : gives t f ≡ told (least-allowance t f)
-  unfolding gives answer
+  unfolding gives fitted-of
   told-it = rw (eq-eqb (refusal frame (frame-given t f scratch-size) .number) 0 z) refl
 
   -- 0 fits
@@ -52,7 +52,7 @@ module _ (t : Table) (f : ℕ) (z : refusal frame (frame-given t f scratch-size)
   gives-none e = told-it ∙ sym (told-none t f fit e)
 
 pub worked : Rows
-unfolding fits E F ranked chosen planned refusal frame-given asked.take-steps asked.take-step asked.sequence asked.ask-all asked.ask asked.at-each asked.holds asked.puts asked.number asked.roomy asked.all-roomy asked.enough asked.in-file asked.lower asked.sized asked.framed asked.asked asked.or-else kinds.about kinds.known kinds.allows lists.index lists.from lists.keep lists.insert lists.sort lists.some lists.mem lists.ahead-in lists.heads lists.next-in lists.total plan.blank plan.parent plan.kind plan.W plan.D plan.rank plan.cells plan.filed plan.children plan.child plan.appointed plan.climb plan.path plan.within plan.subtree plan.row plan.level plan.ahead plan.next plan.earlier placement.best placement.right placement.base placement.bottom placement.width contour.greatest contour.cover contour.clash contour.separation contour.step contour.offset contour.lefts contour.rights contour.contour ours.middle ours.around ours.trace ours.contours ours.shift ours.along ours.column ours.sheet gives answer asked.widest-in
+unfolding fits E F ranked chosen planned refusal frame-given asked.take-steps asked.take-step asked.sequence asked.ask-all asked.ask asked.at-each asked.holds asked.puts asked.number asked.roomy asked.all-roomy asked.enough asked.in-file asked.lower asked.sized asked.framed asked.asked asked.or-else kinds.about kinds.known kinds.allows lists.index lists.from lists.keep lists.insert lists.sort lists.some lists.mem lists.ahead-in lists.heads lists.next-in lists.total plan.blank plan.parent plan.kind plan.W plan.D plan.rank plan.cells plan.filed plan.children plan.child plan.appointed plan.climb plan.path plan.within plan.subtree plan.row plan.level plan.ahead plan.next plan.earlier placement.best placement.right placement.base placement.bottom placement.width contour.greatest contour.cover contour.clash contour.separation contour.stride contour.offset contour.lefts contour.rights contour.contour ours.middle ours.around ours.trace ours.contours ours.shift ours.along ours.column ours.sheet gives fitted-of asked.widest-in
 worked =
     record {
       e-0 = refl;

@@ -12,7 +12,7 @@ use Rattle.plan.specs.Lists.{At}
 use Rattle.plan.specs.laws.Lists.{at-less}
 use Rattle.plan.specs.Plan.{Table, Sound, W, D, children, place}
 use Rattle.plan.specs.laws.Plan.{place-below}
-use Rattle.contours.specs.Contour.{Contour, separation, step, offset, lefts, rights, contour}
+use Rattle.contours.specs.Contour.{Contour, separation, stride, offset, lefts, rights, contour}
 use Rattle.contours.specs.Sheet.{middle, around, contours, whole-contour}
 use Rattle.contours.specs.laws.Sheet.{contours-are}
 use Rattle.folding.specs.laws.Join.{Merge, upto, beyond, separationTo, joined, joined-is, Near, near-separation, near-beyond, near-upto, first-near}
@@ -98,7 +98,7 @@ module _ (al : ℕ) where
 
   middle-from : (m : ℕ) (os : List Contour) (a : Tally) (o : Contour) → Latest m a o → a .done ≤ suc m → suc m ≤ a .done + length os
       → add-all al m a os .far - add-all al m a os .merge .past ≡ offset al (a .far) (o ∷ os) (suc m - a .done)
-  unfolding add-all offset step
+  unfolding add-all offset stride
   middle-from m [] a o h l k =
       let x : suc m - a .done ≡ 0 = omega arith in
       let z = h .flat l in
@@ -144,8 +144,8 @@ module _ (al : ℕ) where
 
   -- where each stands
   far-from : (m : ℕ) (os : List Contour) (i : ℕ) (a : Tally) (o : Contour) → Latest m a o → i < length os
-      → add-all al m a (take (suc i) os) .far ≡ offset al (a .far + step al o os) os i
-  unfolding add-all offset step
+      → add-all al m a (take (suc i) os) .far ≡ offset al (a .far + stride al o os) os i
+  unfolding add-all offset stride
   far-from m [] i a o h l = absurd (omega arith)
   far-from m (p ∷ ps) zero a o h l = add-far m a p o h
   far-from m (p ∷ ps) (suc i) a o h l = far-from m ps i (add al m a p) p (add-latest m a p o h) (omega arith) ∙ rw (add-far m a p o h)

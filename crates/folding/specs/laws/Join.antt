@@ -6,7 +6,7 @@ use mathlib.Core.Logic.{_⊎_, inl, inr}
 use native.Mathlib.Omega.{arith}
 use native.Mathlib.Nat.{zero-add}
 use lib.ListN.{length}
-use Rattle.contours.specs.Contour.{Contour, greatest, cover, clash, separation, step, offset, lefts, rights}
+use Rattle.contours.specs.Contour.{Contour, greatest, cover, clash, separation, stride, offset, lefts, rights}
 use Rattle.plan.specs.Lists.{At}
 use Rattle.contours.specs.laws.Contour.{at-cover, at-map, map-at, greatest-at, greatest-le, clash-at, clash-le, offset-from}
 
@@ -165,27 +165,27 @@ module _ (al : ℕ) where
 
   -- past the appointed child, which stands at P
   after : (os : List Contour) (s : Merge) (o : Contour) (P X : ℕ) → X ≡ P + s .past → Near s o
-      → (joined al zero s os .left ≡ cover (s .left) (lefts al P (X + step al o os) os)) × (joined al zero s os .right ≡ cover (s .right) (rights al P (X + step al o os) os))
-  unfolding joined lefts rights step beyond
+      → (joined al zero s os .left ≡ cover (s .left) (lefts al P (X + stride al o os) os)) × (joined al zero s os .right ≡ cover (s .right) (rights al P (X + stride al o os) os))
+  unfolding joined lefts rights stride beyond
   after [] s o P X e n = (sym (cover-nil (s .left)), sym (cover-nil (s .right)))
   after (p ∷ ps) s o P X e n =
       let g = separation al o p in
       let (l, r) = after ps (beyond s p g) p P (X + g) (omega arith) (near-beyond s o p n) in (
         ap (λ g. joined al zero (beyond s p g) ps .left) (near-separation s o p n) ∙ l ∙ cover-assoc (s .left) _ _
-            ∙ ap (λ a. cover (s .left) (cover a (lefts al P (X + g + step al p ps) ps))) (map-same (λ v. v - (s .past + g)) (λ v. (P + v) - (X + g)) (λ v. omega arith) (p .left)),
+            ∙ ap (λ a. cover (s .left) (cover a (lefts al P (X + g + stride al p ps) ps))) (map-same (λ v. v - (s .past + g)) (λ v. (P + v) - (X + g)) (λ v. omega arith) (p .left)),
         ap (λ g. joined al zero (beyond s p g) ps .right) (near-separation s o p n) ∙ r ∙ cover-assoc (s .right) _ _
-            ∙ ap (λ a. cover (s .right) (cover a (rights al P (X + g + step al p ps) ps))) (map-same (λ v. (s .past + g) + v) (λ v. (X + g + v) - P) (λ v. omega arith) (p .right)),
+            ∙ ap (λ a. cover (s .right) (cover a (rights al P (X + g + stride al p ps) ps))) (map-same (λ v. (s .past + g) + v) (λ v. (X + g + v) - P) (λ v. omega arith) (p .right)),
       )
 
   -- up to the appointed child, m further on
   before : (os : List Contour) (m : ℕ) (s : Merge) (o : Contour) (X : ℕ) → m ≤ length os → s .past ≡ 0 → Near s o
-      → (joined al m s os .left ≡ cover (map (λ v. (offset al X (o ∷ os) m + v) - X) (s .left)) (lefts al (offset al X (o ∷ os) m) (X + step al o os) os))
-      × (joined al m s os .right ≡ cover (map (λ v. (X + v) - offset al X (o ∷ os) m) (s .right)) (rights al (offset al X (o ∷ os) m) (X + step al o os) os))
-  unfolding joined lefts rights step offset upto
+      → (joined al m s os .left ≡ cover (map (λ v. (offset al X (o ∷ os) m + v) - X) (s .left)) (lefts al (offset al X (o ∷ os) m) (X + stride al o os) os))
+      × (joined al m s os .right ≡ cover (map (λ v. (X + v) - offset al X (o ∷ os) m) (s .right)) (rights al (offset al X (o ∷ os) m) (X + stride al o os) os))
+  unfolding joined lefts rights stride offset upto
   before os zero s o X l z n =
       let (a, b) = after os s o X X (omega arith) n in (
-        a ∙ ap (λ v. cover v (lefts al X (X + step al o os) os)) (sym (map-same (λ v. (X + v) - X) (λ v. v) (λ v. omega arith) (s .left) ∙ map-id (s .left))),
-        b ∙ ap (λ v. cover v (rights al X (X + step al o os) os)) (sym (map-same (λ v. (X + v) - X) (λ v. v) (λ v. omega arith) (s .right) ∙ map-id (s .right))),
+        a ∙ ap (λ v. cover v (lefts al X (X + stride al o os) os)) (sym (map-same (λ v. (X + v) - X) (λ v. v) (λ v. omega arith) (s .left) ∙ map-id (s .left))),
+        b ∙ ap (λ v. cover v (rights al X (X + stride al o os) os)) (sym (map-same (λ v. (X + v) - X) (λ v. v) (λ v. omega arith) (s .right) ∙ map-id (s .right))),
       )
   before [] (suc m) s o X l z n = absurd (omega arith)
   before (p ∷ ps) (suc m) s o X l z n =
@@ -194,12 +194,12 @@ module _ (al : ℕ) where
       let i : X + g ≤ P = offset-from al (p ∷ ps) m (X + g) in
       let (a, b) = before ps m (upto s p g) p (X + g) (omega arith) refl (near-upto s o p z n) in (
         ap (λ g. joined al m (upto s p g) ps .left) (near-separation s o p n) ∙ a
-            ∙ ap (λ v. cover v (lefts al P (X + g + step al p ps) ps))
+            ∙ ap (λ v. cover v (lefts al P (X + g + stride al p ps) ps))
             (map-cover (λ v. (P + v) - (X + g)) (λ v w. omega arith) (map (λ v. v + g) (s .left)) (p .left)
             ∙ ap (λ v. cover v (map (λ v. (P + v) - (X + g)) (p .left))) (map-map (λ v. (P + v) - (X + g)) (λ v. v + g) (s .left) ∙ map-same _ (λ v. (P + v) - X) (λ v. omega arith) (s .left)))
             ∙ cover-assoc _ _ _,
         ap (λ g. joined al m (upto s p g) ps .right) (near-separation s o p n) ∙ b
-            ∙ ap (λ v. cover v (rights al P (X + g + step al p ps) ps))
+            ∙ ap (λ v. cover v (rights al P (X + g + stride al p ps) ps))
             (map-cover (λ v. (X + g + v) - P) (λ v w. omega arith) (map (λ v. v - g) (s .right)) (p .right)
             ∙ ap (λ v. cover v (map (λ v. (X + g + v) - P) (p .right))) (map-map (λ v. (X + g + v) - P) (λ v. v - g) (s .right) ∙ map-same _ (λ v. (X + v) - P) (λ v. omega arith) (s .right)))
             ∙ cover-assoc _ _ _,

@@ -15,7 +15,7 @@ use Rattle.rows.specs.laws.Rows.{box-to-length, box-left, box-right, box-above,
 use Rattle.folding.specs.laws.Fold.{Tally, boxed}
 use Rattle.folding.specs.laws.Lists.{get-box, length-box}
 use Rattle.folding.specs.laws.Held.{Held}
-use Rattle.joining.specs.Joining.{Memory, mem, mark, height, completed, Completing}
+use Rattle.joining.specs.Joining.{Memory, memory-of, mark, height, completed, Completing}
 use Rattle.joining.specs.laws.Joining.{length-four}
 use Rattle.joining.specs.laws.Numbers.{max-is, box-low}
 use Rattle.joining.specs.laws.Marks.{mark-zero, mark-one, mark-two, mark-three, mark-other}
@@ -50,7 +50,7 @@ module _ (xs ms : List ℕ) (k c d w m : ℕ) (b : Tally) (n : ℕ) (h : Under x
   pub height-is : height ms c d ≡ d + 1 + length (b .merge .left)
   height-is = rw (h .tall)
 
-  pub completing : Completing (mem xs ms) k c d
+  pub completing : Completing (memory-of xs ms) k c d
   completing = record { column = h .column; own = h .own; rows = rw (h .tall) (h .fit); behind = rw (h .past, h .far) (h .held .behind) }
 
   -- the contour's rows, on either side
@@ -82,7 +82,7 @@ module _ (xs ms : List ℕ) (k c d w m : ℕ) (b : Tally) (n : ℕ) (h : Under x
       rw (get-box (d + 1) w (b .merge .right) j)
       (box-row j (k + 1) w (b .merge .right) (omega (arith, h .column)) (box-right xs k w (d + 1) (h .column) (omega (arith, h .fit))) (h .right) (ltb j (d + 1)) refl)
 
-  pub complete : Complete xs ms k c w b (boxed d w b) (completed (mem xs ms) k c d w)
+  pub complete : Complete xs ms k c w b (boxed d w b) (completed (memory-of xs ms) k c d w)
   unfolding completed
   complete =
       record {

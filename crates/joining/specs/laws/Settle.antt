@@ -16,7 +16,7 @@ use Rattle.rows.specs.laws.Rows.{put-to-length, put-to-above, put-to-else, put-
 use Rattle.folding.specs.laws.Fold.{Tally, first, later, side, add-at, add, boxed}
 use Rattle.folding.specs.laws.Lists.{get-past}
 use Rattle.folding.specs.laws.Held.{Held, Fits, Between, between, upto-left, upto-past, beyond-past, upto-tall, beyond-tall, held-upto-right, held-beyond-left, held-beyond-right, held-add, box-fits}
-use Rattle.joining.specs.Joining.{Memory, mem, mark, noted, height, completed, apart, settled-first, settled-by, settled-at, settled, Settling, finished}
+use Rattle.joining.specs.Joining.{Memory, memory-of, mark, noted, height, completed, settled-apart, settled-first, settled-by, settled-at, settled, Settling, finished}
 use Rattle.joining.specs.laws.Joining.{length-four}
 use Rattle.joining.specs.laws.Numbers.{clash-is}
 use Rattle.joining.specs.laws.Marks.{mark-zero, mark-one, mark-two, mark-three, mark-other, noted-three, noted-else}
@@ -85,7 +85,7 @@ put-joined xs X at L R n a c f len beside up down =
 
 module _ (al : ℕ) (xs ms : List ℕ) (at f c d w m k : ℕ) (a b : Tally) (s n : ℕ) (h : Given xs ms at f c d w m k a b s n) where
   abbrev C : Memory
-  C = completed (mem xs ms) (at + 2) c d w
+  C = completed (memory-of xs ms) (at + 2) c d w
 
   abbrev p : Contour
   p = boxed d w b
@@ -170,8 +170,8 @@ module _ (al : ℕ) (xs ms : List ℕ) (at f c d w m k : ℕ) (a b : Tally) (s n
       }
 
   -- the distance
-  g-is : apart C at f c hs al ≡ separationTo al (a .merge) p
-  unfolding apart separationTo separation near
+  g-is : settled-apart C at f c hs al ≡ separationTo al (a .merge) p
+  unfolding settled-apart separationTo separation near
   g-is =
       let q : min (mark (C .marks) f 0) hs ≡ min (length (a .merge .right)) (length (p .left)) = omega (arith, n-tall, p-left, h .held .even) in
       let g : clash-to (C .rows) at (mark (C .marks) f 2) (min (mark (C .marks) f 0) hs) ≡ clash (near (a .merge)) (p .left) =
@@ -274,7 +274,7 @@ module _ (al : ℕ) (xs ms : List ℕ) (at f c d w m k : ℕ) (a b : Tally) (s n
       rw g-is (record { rows = joined-later g i z (rw e); marks = marked-later g z })
 
   -- the whole step
-  pub settle-adds : Settled (finished (mem xs ms) at f c d w (a .done) m al) (add al m a p)
+  pub settle-adds : Settled (finished (memory-of xs ms) at f c d w (a .done) m al) (add al m a p)
   unfolding add settled
   settle-adds = by-place (a .done) refl
 

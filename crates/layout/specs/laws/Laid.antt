@@ -34,7 +34,7 @@ use Rattle.positions.specs.Written.{written}
 use Rattle.positions.specs.Raised.{Raised, High, Topped}
 use Rattle.layout.specs.declared.Measures.{Measures}
 use Rattle.layout.specs.declared.Laid.the-variants.{Sheet, Refused}
-use Rattle.layout.specs.Laid.{answer, positions-after, scratch-after, Lays, Drawn}
+use Rattle.layout.specs.Laid.{laid-of, positions-after, scratch-after, Lays, Drawn}
 
 -- ---- the columns of a table that no question refuses
 module _ (t : Columns) (fit : Fit (table-of t)) where
@@ -105,7 +105,7 @@ nothing t al s p h =
 -- ---- the entry: the refusal r of the questions, then the drawing
 module _ (t : Table) (al : ℕ) (s : List ℕ) (ps : List ℤ) (r : Refusal) (e : r ≡ refusal layout (layout-given t al (length s) (length ps))) where
   pub refused : ¬ (r .number ≡ 0) → Lays t al s s ps ps (Refused (r .number) (r .cell))
-  unfolding answer positions-after scratch-after
+  unfolding laid-of positions-after scratch-after
   refused h = record { answers = rw (← e, ne-eqb (r .number) 0 h); positions = refl; scratch = refl }
 
   module _ (h : r .number ≡ 0) where
@@ -113,7 +113,7 @@ module _ (t : Table) (al : ℕ) (s : List ℕ) (ps : List ℤ) (r : Refusal) (e 
     asks = layout-asks t al (length s) (length ps) .0 (nothing t al (length s) (length ps) (ap (λ (x : Refusal). x .number) (sym e) ∙ h))
 
     pub laid : (s′ : List ℕ) (ps′ : List ℤ) (a : Measures) → Drawn t al s′ ps ps′ a → Lays t al s (s′ ++ drop scratch-size s) ps ps′ (Sheet (a .width) (a .rows))
-    unfolding answer positions-after scratch-after
+    unfolding laid-of positions-after scratch-after
     laid s′ ps′ a d = record {
       answers = ap (λ (m : Measures). Sheet (m .width) (m .rows)) (d .answers) ∙ rw (← e, eq-eqb (r .number) 0 h);
       positions = d .positions;
@@ -121,9 +121,9 @@ module _ (t : Table) (al : ℕ) (s : List ℕ) (ps : List ℤ) (r : Refusal) (e 
     }
 
 -- ---- an answer that is a sheet: nothing was refused, and its numbers are our sheet's
-accepted : (t : Table) (al w h : ℕ) (r : Refusal) → Sheet w h ≡ answer t al r
+accepted : (t : Table) (al w h : ℕ) (r : Refusal) → Sheet w h ≡ laid-of t al r
     → (r .number ≡ 0) × (Sheet w h ≡ Sheet (plus (width t (sheet t al))) (plus (placement.rows t (sheet t al))))
-unfolding answer
+unfolding laid-of
 accepted t al w h r e = go (ℕ-discrete (r .number) 0)
   where
     go : Dec (r .number ≡ 0) → (r .number ≡ 0) × (Sheet w h ≡ Sheet (plus (width t (sheet t al))) (plus (placement.rows t (sheet t al))))

@@ -22,30 +22,30 @@ use Rattle.walk.specs.Walked.{Suits}
 use Rattle.walk.specs.Preorder.{preorder}
 use Rattle.walk.specs.Opened.{begin, run, opened, OpenCells, EachOnce, InOrder}
 use Rattle.walk.specs.Visits as visits
-use Rattle.layout.specs.TableChart.{column, chart-of}
+use Rattle.layout.specs.TableChart.{numbers, chart-of}
 
-column-length : (f : ℕ → ℕ) (k : ℕ) → length (column f k) ≡ k
-unfolding column
+column-length : (f : ℕ → ℕ) (k : ℕ) → length (numbers f k) ≡ k
+unfolding numbers
 column-length f zero = refl
-column-length f (suc k) = length-append (column f k) (f k ∷ []) ∙ (let e = column-length f k in omega arith)
+column-length f (suc k) = length-append (numbers f k) (f k ∷ []) ∙ (let e = column-length f k in omega arith)
 
-column-at : (f : ℕ → ℕ) (k c : ℕ) → c < k → getD (column f k) c 0 ≡ f c
-unfolding column
+column-at : (f : ℕ → ℕ) (k c : ℕ) → c < k → getD (numbers f k) c 0 ≡ f c
+unfolding numbers
 column-at f zero c l = absurd (omega arith)
 column-at f (suc k) c l = go (ℕ-discrete c k) (column-at f k c)
   where
-    go : Dec (c ≡ k) → (c < k → getD (column f k) c 0 ≡ f c) → getD (column f k ++ (f k ∷ [])) c 0 ≡ f c
+    go : Dec (c ≡ k) → (c < k → getD (numbers f k) c 0 ≡ f c) → getD (numbers f k ++ (f k ∷ [])) c 0 ≡ f c
     go (yes e) ih =
-        let q : c ≡ length (column f k) + 0 = omega (arith, column-length f k) in
-        ap (λ (i : ℕ). getD (column f k ++ (f k ∷ [])) i 0) q ∙ getD-append-add (column f k) (f k ∷ []) 0 0 ∙ ap f (sym e)
-    go (no e) ih = List·getD-append (column f k) (f k ∷ []) 0 c (omega (arith, column-length f k)) ∙ ih (omega arith)
+        let q : c ≡ length (numbers f k) + 0 = omega (arith, column-length f k) in
+        ap (λ (i : ℕ). getD (numbers f k ++ (f k ∷ [])) i 0) q ∙ getD-append-add (numbers f k) (f k ∷ []) 0 0 ∙ ap f (sym e)
+    go (no e) ih = List·getD-append (numbers f k) (f k ∷ []) 0 c (omega (arith, column-length f k)) ∙ ih (omega arith)
 
 -- they suit it
 module _ (t : Table) (fit : Fit t) where
-  at : (f : ℕ → ℕ) (c : ℕ) → Is t c → getD (column f most-cells) c 0 ≡ f c
+  at : (f : ℕ → ℕ) (c : ℕ) → Is t c → getD (numbers f most-cells) c 0 ≡ f c
   at f c i = column-at f most-cells c (omega (arith, fit .not-too-many))
 
-  linking : Linking (column (parent t) most-cells) (column (kind t) most-cells) (column (rank t) most-cells) (length t) (replicate (4 * most-cells) 0)
+  linking : Linking (numbers (parent t) most-cells) (numbers (kind t) most-cells) (numbers (rank t) most-cells) (length t) (replicate (4 * most-cells) 0)
   linking =
       record {
         building = record {
@@ -64,7 +64,7 @@ module _ (t : Table) (fit : Fit t) where
   chart-suits al =
       record {
         fit = fit;
-        links = links-are (column (parent t) most-cells) (column (kind t) most-cells) (column (rank t) most-cells) (length t) (replicate (4 * most-cells) 0) linking refl t (record { size = refl; parent-of = λ c i. sym (at (parent t) c i); kind-of = λ c i. sym (at (kind t) c i); rank-of = λ c i. sym (at (rank t) c i) });
+        links = links-are (numbers (parent t) most-cells) (numbers (kind t) most-cells) (numbers (rank t) most-cells) (length t) (replicate (4 * most-cells) 0) linking refl t (record { size = refl; parent-of = λ c i. sym (at (parent t) c i); kind-of = λ c i. sym (at (kind t) c i); rank-of = λ c i. sym (at (rank t) c i) });
         widths = rw (column-length (W t) most-cells) (omega arith);
         depths = rw (column-length (D t) most-cells) (omega arith);
         tops = rw (column-length (row t) most-cells) (omega arith);

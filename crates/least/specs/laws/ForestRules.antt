@@ -3,7 +3,7 @@
 use Prim.Native.Nat.{ℕ, zero, suc, _+_, _-_, _≤_, _<_, max}
 use mathlib.Core.Path.{_≡_}
 use Rattle.plan.specs.Plan.{Table, W, D, place}
-use Rattle.contours.specs.Contour.{step}
+use Rattle.contours.specs.Contour.{stride}
 use Rattle.contours.specs.Sheet.{middle, around}
 use Rattle.contours.specs.laws.Forest.{Forest, none, tree, count, traces}
 
@@ -62,7 +62,7 @@ module _ (t : Table) (al : ℕ) (x : ℕ → ℕ) where
   abbrev pub Spread : ℕ → ℕ → ℕ → Forest → Type 0
   Spread b P X none = Unit {0}
   Spread b P X (tree c ss r) =
-      record { here : x c + P ≡ b + X; next : Spread b P (X + step al (around t al c (traces t al ss)) (traces t al r)) r }
+      record { here : x c + P ≡ b + X; next : Spread b P (X + stride al (around t al c (traces t al ss)) (traces t al r)) r }
 
   -- the placement is our sheet: the children of each parent stand at their offsets
   abbrev pub Ours : Forest → Type 0

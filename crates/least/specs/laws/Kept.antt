@@ -6,7 +6,7 @@ use native.Mathlib.Omega.{arith}
 use Rattle.plan.specs.Lists.{At}
 use Rattle.plan.specs.Plan.{Table, W, D, place}
 use Rattle.plan.specs.laws.Plan.{place-below}
-use Rattle.contours.specs.Contour.{greatest, separation, step, offset, lefts, rights, contour}
+use Rattle.contours.specs.Contour.{greatest, separation, stride, offset, lefts, rights, contour}
 use Rattle.contours.specs.Sheet.{middle, around}
 use Rattle.contours.specs.laws.Contour.{boxes-at, past-boxes, cover-either, greatest-le, clash-at}
 use Rattle.contours.specs.laws.Forest.{Forest, none, tree, count, traces}
@@ -101,7 +101,7 @@ module _ (t : Table) (al : ℕ) (x : ℕ → ℕ) where
   -- neighbours are the separation apart
   pub separated : (c d : ℕ) (ss ts r : Forest) (b P X : ℕ) → Spread t al x b P X (tree c ss (tree d ts r))
       → x d ≡ x c + separation al (around t al c (traces t al ss)) (around t al d (traces t al ts))
-  unfolding step traces
+  unfolding stride traces
   separated c d ss ts r b P X s = omega (arith, s .here, s .next .here)
 
   s3-kept : (c : ℕ) (ss r : Forest) (b P X : ℕ) → Spread t al x b P X (tree c ss r) → Bound (tree c ss r) → S3 t al x c ss r

@@ -7,7 +7,7 @@ use native.Mathlib.Omega.{arith}
 use Rattle.plan.specs.Lists.{At}
 use Rattle.plan.specs.Plan.{Table, W, D, place}
 use Rattle.plan.specs.laws.Plan.{place-below}
-use Rattle.contours.specs.Contour.{greatest, separation, step, offset, lefts, rights, contour}
+use Rattle.contours.specs.Contour.{greatest, separation, stride, offset, lefts, rights, contour}
 use Rattle.contours.specs.Sheet.{middle, around}
 use Rattle.contours.specs.laws.Contour.{at-boxes, cover-cases, greatest-at, greatest-le, clash-le, offset-from, lefts-next}
 use Rattle.contours.specs.laws.Forest.{Forest, none, tree, count, traces}
@@ -86,7 +86,7 @@ module _ (t : Table) (al : ℕ) (x : ℕ → ℕ) where
   -- sibling number m is at least its offset away from the first
   dist : (c : ℕ) (ss r : Forest) (m X : ℕ) → m < count (tree c ss r) → Keeps t al x (tree c ss r) → Shown (tree c ss r)
       → x c + offset al X (traces t al (tree c ss r)) m ≤ x (nth (tree c ss r) m) + X
-  unfolding offset traces nth count step
+  unfolding offset traces nth count stride
   dist c ss r zero X l h s = omega arith
   dist c ss none (suc m) X l h s = absurd (omega arith)
   dist c ss (tree d ts r) (suc m) X l h s =
@@ -148,7 +148,7 @@ module _ (t : Table) (al : ℕ) (x : ℕ → ℕ) where
   -- the siblings from place P on, where the first of them stands no nearer to column b than it should
   rights-next : (c : ℕ) (ss r : Forest) (b P X j v : ℕ) → b + X ≤ x c + P → P ≤ X → Keeps t al x (tree c ss r) → Shown (tree c ss r)
       → At (rights al P X (traces t al (tree c ss r))) j v → ToRight t x (tree c ss r) j v b
-  unfolding rights traces step
+  unfolding rights traces stride
   rights-next c ss none b P X j v g i h s a =
       elim (cover-cases _ (around t al c (traces t al ss) .right) _ j v a) [
         | inl p ↦
@@ -171,7 +171,7 @@ module _ (t : Table) (al : ℕ) (x : ℕ → ℕ) where
   rights-far : (c : ℕ) (ss r : Forest) (m X j v : ℕ) → m < count (tree c ss r) → Keeps t al x (tree c ss r) → Shown (tree c ss r)
       → At (rights al (offset al X (traces t al (tree c ss r)) m) X (traces t al (tree c ss r))) j v
       → (v ≡ 0) ⊎ ToRight t x (tree c ss r) j v (x (nth (tree c ss r) m))
-  unfolding traces offset nth rights step separation count
+  unfolding traces offset nth rights stride separation count
   rights-far c ss r zero X j v l h s a = inr (rights-next c ss r (x c) X X j v (omega arith) (omega arith) h s a)
   rights-far c ss none (suc m) X j v l h s a = absurd (omega arith)
   rights-far c ss (tree d ts r) (suc m) X j v l h s a =

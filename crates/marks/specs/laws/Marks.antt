@@ -9,7 +9,7 @@ use Rattle.plan.specs.laws.Paths.{child-less}
 use Rattle.plan.specs.Columns.{table-of}
 use Rattle.plan.specs.laws.Tables.{length-is, width-is, depth-is}
 use Rattle.plan.specs.declared.Columns.{Columns}
-use Rattle.joining.specs.Joining.{mem}
+use Rattle.joining.specs.Joining.{memory-of}
 use Rattle.links.specs.Links.{Links}
 use Rattle.walk.specs.Machine.{chart}
 use Rattle.walk.specs.Walked.{Suits, Walking, Walked}
@@ -39,7 +39,7 @@ module _ (t : Columns) (tops : List ℕ) (al : ℕ) (xs ms : List ℕ) (h : Mark
     pub walking : 4 * most-cells ≤ length ms → Walking (chart ls (t .width) (t .depth) tops al) xs ms
     walking l = record { table = table-of t; suits = suits; rows = h .scratch; clear = h .clear; marks = l; blank = h .blank }
 
-    pub toured : {ys ns : List ℕ} → Visited (chart ls (t .width) (t .depth) tops al) (mem xs ms) (mem ys ns) → Toured (table-of t) (mem xs ms) (mem ys ns)
+    pub toured : {ys ns : List ℕ} → Visited (chart ls (t .width) (t .depth) tops al) (memory-of xs ms) (memory-of ys ns) → Toured (table-of t) (memory-of xs ms) (memory-of ys ns)
     toured v = record { columns = chart ls (t .width) (t .depth) tops al; suits = suits; visited = v }
 
     pub marked : (ys ns : List ℕ) → Walked (chart ls (t .width) (t .depth) tops al) xs ys ns → (ys ≡ xs) × Marked (table-of t) al ns

@@ -5,7 +5,7 @@ use Prim.Native.Nat.{ℕ, _+_, _*_, _≤_, _<_}
 use lib.ListN.{length, getD}
 use lib.IntN.{ℤ, pos}
 use Rattle.whole.specs.laws.Says.{both}
-use Rattle.whole.specs.Range.{Within}
+use Rattle.whole.specs.Range.{InRange}
 use Rattle.whole.specs.laws.Range.{says-within}
 use Rattle.plan.specs.Limits.{farthest}
 use Rattle.plan.specs.Questions.{near}
@@ -17,5 +17,5 @@ pub near-accepted : (ps : List ℤ) (n : ℕ) → 2 * n ≤ length ps → near-r
 unfolding near-refusal near
 near-accepted ps n room e = record { room = room; x = λ c i. at c i .0; y = λ c i. at c i .1 }
   where
-    at : (c : ℕ) → c < n → Within farthest (getD ps (2 * c) (pos 0)) × Within farthest (getD ps (2 * c + 1) (pos 0))
+    at : (c : ℕ) → c < n → InRange farthest (getD ps (2 * c) (pos 0)) × InRange farthest (getD ps (2 * c + 1) (pos 0))
     at c i = both (says-within farthest (getD ps (2 * c) (pos 0))) (says-within farthest (getD ps (2 * c + 1) (pos 0))) .read (asked-yes 14 _ c (each-none (near-at ps) n e c i))

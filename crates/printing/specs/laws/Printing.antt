@@ -27,7 +27,7 @@ use Rattle.planfile.specs.FileSteps.{inside, record-refusal, entry-refusal, hea
 use Rattle.planfile.specs.laws.File.{label-refusal-is}
 use Rattle.planfile.specs.laws.Examined.{zero-of}
 use Rattle.listing.specs.Printed.{Bytes, sheet-line, cell-line}
-use Rattle.printing.specs.Printing.{label-of, cells, ours, first-of, cell-of, Placed, Measured}
+use Rattle.printing.specs.Printing.{label-bytes, read-table, ours, first-line, cell-of, Placed, Measured}
 
 -- a label
 record-short : (form : Form) (begin c p k w d l s : ℕ) → record-refusal form begin c p k w d l s .number ≡ 0 → l ≤ most-label
@@ -46,32 +46,32 @@ entry-short f c z =
     let i : c < trailer-of f .count = ltb→lt c _ (asked-yes 15 _ 0 named) in
     record-short (form f) (trailer-of f .begin) c _ _ _ _ (entry f c .«label_length») (entry f c .«label_start») (each-none (entry-refusal f) (trailer-of f .count) records c i)
 
-pub label-short : (f : Bytes) (c : ℕ) → length (label-of f c) ≤ most-label
+pub label-short : (f : Bytes) (c : ℕ) → length (label-bytes f c) ≤ most-label
 unfolding label-part
 label-short f c = go (ℕ-discrete (label-refusal f c .number) 0)
   where
-    go : Dec (label-refusal f c .number ≡ 0) → length (label-of f c) ≤ most-label
+    go : Dec (label-refusal f c .number ≡ 0) → length (label-bytes f c) ≤ most-label
     go (yes z) = rw (eq-eqb (label-refusal f c .number) 0 z, length-take) (omega (arith, entry-short f c z))
     go (no z) = rw (ne-eqb (label-refusal f c .number) 0 z) (omega arith)
 
 -- ---- the lines, from what the code has
-pub first-is : (p : Reading) (w h : ℕ) → Measured p w h → sheet-line (p .columns .count) (p .allowance) w h ≡ first-of p
-unfolding first-of
+pub first-is : (p : Reading) (w h : ℕ) → Measured p w h → sheet-line (p .columns .count) (p .allowance) w h ≡ first-line p
+unfolding first-line
 first-is p w h m = rw (m .wide, m .deep)
 
 pub cell-is : (p : Reading) (f : Bytes) (ps : List ℤ) (c : ℕ) → c < p .columns .count → Placed p ps
-    → cell-line c (getD ps (2 * c) (pos 0)) (getD ps (2 * c + 1) (pos 0)) (getD (p .columns .width) c 0) (getD (p .columns .depth) c 0) (label-of f c) ≡ cell-of p f c
+    → cell-line c (getD ps (2 * c) (pos 0)) (getD ps (2 * c + 1) (pos 0)) (getD (p .columns .width) c 0) (getD (p .columns .depth) c 0) (label-bytes f c) ≡ cell-of p f c
 unfolding cell-of placed
 cell-is p f ps c h d =
     let t = p .columns in
-    let i : c < length (cells p) = omega (arith, table-length (t .parent) (t .kind) (t .width) (t .depth) (t .rank) (t .count)) in
+    let i : c < length (read-table p) = omega (arith, table-length (t .parent) (t .kind) (t .width) (t .depth) (t .rank) (t .count)) in
     let (x, y) = d .agree c i in
     rw (x, y, width-at (t .parent) (t .kind) (t .width) (t .depth) (t .rank) (t .count) c h, depth-at (t .parent) (t .kind) (t .width) (t .depth) (t .rank) (t .count) c h)
 
 -- ---- our sheet, from what is drawn
-module _ (p : Reading) (few : p .columns .count ≤ most-cells) {s′ : List ℕ} {ps ps′ : List ℤ} {r : Measures} (d : Drawn (cells p) (p .allowance) s′ ps ps′ r) where
+module _ (p : Reading) (few : p .columns .count ≤ most-cells) {s′ : List ℕ} {ps ps′ : List ℤ} {r : Measures} (d : Drawn (read-table p) (p .allowance) s′ ps ps′ r) where
   pub drawn-placed : 2 * most-cells ≤ length ps′ → Placed p ps′
-  drawn-placed room = record { few = few; room = omega arith; agree = rw (d .positions) (written-agree (ours p) (cells p) ps) }
+  drawn-placed room = record { few = few; room = omega arith; agree = rw (d .positions) (written-agree (ours p) (read-table p) ps) }
 
   pub drawn-measured : Measured p (r .width) (r .rows)
   drawn-measured = record { small = few; wide = ap (λ (m : Measures). m .width) (d .answers); deep = ap (λ (m : Measures). m .rows) (d .answers) }

@@ -10,7 +10,7 @@ use lib.IntN.{ℤ, pos, negsuc}
 use lib.ListN.{length, getD, take, drop, length-append, length-take}
 use lib.Seq.{take-append-seam, sets-eq}
 use Rattle.whole.specs.laws.Whole.{whole}
-use Rattle.whole.specs.Range.{Within}
+use Rattle.whole.specs.Range.{InRange}
 use Rattle.whole.specs.laws.Says.{is-true, is-false, says-le}
 use Rattle.plan.specs.Limits.{most-cells, last-row, farthest, scratch-size, listing-size}
 use Rattle.plan.specs.Lists.{from}
@@ -41,7 +41,7 @@ use Rattle.listing.specs.laws.Line.{spaced-empty, spaced-label, cell-line-is}
 use Rattle.listing.specs.Put.{Put}
 use Rattle.listing.specs.declared.Line.{Line}
 use Rattle.listing.specs.laws.Put.{then, put-none}
-use Rattle.printing.specs.Printing.{answer, out-after, size, Lists, label-of, cells, ours, first-of, cell-of, joined, listing-of, text-of, cells-text, cell-size, text, Taken}
+use Rattle.printing.specs.Printing.{listed-of, out-after, size, Lists, label-bytes, read-table, ours, first-line, cell-of, lines-joined, listing-of, text-of, cells-text, cell-size, text, Taken}
 use Rattle.printing.specs.laws.Printing.{label-short}
 use Rattle.printing.specs.declared.Listed.the-variants.{Text, Refused}
 
@@ -53,7 +53,7 @@ spaced-length l = go (ℕ-discrete (length l) 0)
     go (yes z) = rw (spaced-empty l z) (omega arith)
     go (no z) = rw (spaced-label l z) (omega arith)
 
-signed-far : (x : ℤ) → Within farthest x → length (signed x) ≤ 7
+signed-far : (x : ℤ) → InRange farthest x → length (signed x) ≤ 7
 unfolding signed
 signed-far (pos n) h = let l : n ≤ farthest = omega (whole, h .high) in omega (arith, at-most 5 n (omega arith))
 signed-far (negsuc n) h = let l : suc n ≤ farthest = omega (whole, h .low) in omega (arith, at-most 5 (suc n) (omega arith))
@@ -94,22 +94,22 @@ module _ (p : Reading) (f : Bytes) (h : Taken p f) where
   pub taken-few : p .columns .count ≤ most-cells
   taken-few = omega (arith, count-is, headed .full .few)
 
-  cells-are : cells p ≡ cells-of (records-of f)
-  cells-are = ap (λ (x : Reading). cells x) (told .1) ∙ same-table f headed
+  cells-are : read-table p ≡ cells-of (records-of f)
+  cells-are = ap (λ (x : Reading). read-table x) (told .1) ∙ same-table f headed
 
   allowance-is : p .allowance ≡ trailer-of f .allowance
   unfolding columns-of
   allowance-is = ap (λ (x : Reading). x .allowance) (told .1)
 
   -- Layout does not refuse it
-  pub taken-layout : (s n : ℕ) → scratch-size ≤ s → 2 * p .columns .count ≤ n → refusal layout (layout-given (cells p) (p .allowance) s n) ≡ none
+  pub taken-layout : (s n : ℕ) → scratch-size ≤ s → 2 * p .columns .count ≤ n → refusal layout (layout-given (read-table p) (p .allowance) s n) ≡ none
   taken-layout s n a b = rw (cells-are, allowance-is) (file-layout f passes s n a (omega (arith, count-is)))
 
-  fit : Fit (cells p)
-  fit = layout-asks (cells p) (p .allowance) scratch-size (2 * p .columns .count) .0 (taken-layout _ _ (omega arith) (omega arith)) .table .fit
+  fit : Fit (read-table p)
+  fit = layout-asks (read-table p) (p .allowance) scratch-size (2 * p .columns .count) .0 (taken-layout _ _ (omega arith) (omega arith)) .table .fit
 
   -- so it can be drawn
-  pub taken-drawable : (s n : ℕ) → s ≡ scratch-size → 2 * most-cells ≤ n → Drawable (cells p) s n
+  pub taken-drawable : (s n : ℕ) → s ≡ scratch-size → 2 * most-cells ≤ n → Drawable (read-table p) s n
   taken-drawable s n e h =
       let t = p .columns in
       record { fit = fit; room = omega (arith, taken-few, table-length (t .parent) (t .kind) (t .width) (t .depth) (t .rank) (t .count)); scratch = e }
@@ -134,25 +134,25 @@ module _ (p : Reading) (f : Bytes) (h : Taken p f) where
     pub label-inside : getD (p .«label_start») c 0 + getD (p .«label_length») c 0 ≤ length f
     label-inside = rw (start-is, length-is) (label-read f c (ap (λ (r : Refusal). r .number) labelled) .inside-file)
 
-    pub label-there : (s e : ℕ) → s ≡ getD (p .«label_start») c 0 → e ≡ getD (p .«label_start») c 0 + getD (p .«label_length») c 0 → take (e - s) (drop s f) ≡ label-of f c
+    pub label-there : (s e : ℕ) → s ≡ getD (p .«label_start») c 0 → e ≡ getD (p .«label_start») c 0 + getD (p .«label_length») c 0 → take (e - s) (drop s f) ≡ label-bytes f c
     label-there s e u v =
         let a : s ≡ entry f c .«label_start» = u ∙ start-is in
         let b : e ≡ entry f c .«label_start» + entry f c .«label_length» = v ∙ rw (start-is, length-is) in
         rw (part-of-record f c labelled, a, b)
 
-    is-cell : Is (cells p) c
+    is-cell : Is (read-table p) c
     is-cell = let t = p .columns in omega (arith, table-length (t .parent) (t .kind) (t .width) (t .depth) (t .rank) (t .count))
 
     -- its line
     pub cell-short : length (cell-of p f c) ≤ cell-size
     unfolding cell-of sheet
     cell-short =
-        line-short c (ours p .x c) (ours p .y c) (W (cells p) c) (D (cells p) c) (label-of f c)
+        line-short c (ours p .x c) (ours p .y c) (W (read-table p) c) (D (read-table p) c) (label-bytes f c)
         (at-most 2 c (omega (arith, taken-few)))
-        (signed-far (ours p .x c) (sheet-inside (cells p) fit (p .allowance) c is-cell .0))
-        (signed-row (row (cells p) c) (omega (arith, fit .rows-few c is-cell)))
-        (at-most 3 (W (cells p) c) (omega (arith, fit .wide c is-cell)))
-        (at-most 1 (D (cells p) c) (omega (arith, fit .deep c is-cell)))
+        (signed-far (ours p .x c) (sheet-inside (read-table p) fit (p .allowance) c is-cell .0))
+        (signed-row (row (read-table p) c) (omega (arith, fit .rows-few c is-cell)))
+        (at-most 3 (W (read-table p) c) (omega (arith, fit .wide c is-cell)))
+        (at-most 1 (D (read-table p) c) (omega (arith, fit .deep c is-cell)))
         (label-short f c)
 
 -- ---- texts
@@ -160,13 +160,13 @@ pub line-text : (t : Bytes) → text (line-of t) ≡ t
 unfolding line-of
 line-text t = take-append-seam t _
 
-joined-last : (g : ℕ → Bytes) (k d : ℕ) → joined (map g (from k (suc d))) ≡ joined (map g (from k d)) ++ g (k + d)
-unfolding joined from
+joined-last : (g : ℕ → Bytes) (k d : ℕ) → lines-joined (map g (from k (suc d))) ≡ lines-joined (map g (from k d)) ++ g (k + d)
+unfolding lines-joined from
 joined-last g k zero = let e : k + 0 ≡ k = omega arith in rw e (append-nil (g k))
-joined-last g k (suc d) = let e : k + suc d ≡ suc k + d = omega arith in rw e (ap (λ (l : Bytes). g k ++ l) (joined-last g (suc k) d) ∙ sym (append-assoc (g k) (joined (map g (from (suc k) d))) (g (suc k + d))))
+joined-last g k (suc d) = let e : k + suc d ≡ suc k + d = omega arith in rw e (ap (λ (l : Bytes). g k ++ l) (joined-last g (suc k) d) ∙ sym (append-assoc (g k) (lines-joined (map g (from (suc k) d))) (g (suc k + d))))
 
 pub cells-none : (p : Reading) (f : Bytes) → cells-text p f 0 ≡ []
-unfolding cells-text joined from
+unfolding cells-text lines-joined from
 cells-none p f = refl
 
 pub cells-more : (p : Reading) (f : Bytes) (c : ℕ) → cells-text p f (c + 1) ≡ cells-text p f c ++ cell-of p f c
@@ -177,8 +177,8 @@ cells-more p f c =
     rw e (rw z at (joined-last (cell-of p f) 0 c))
 
 -- the listing of a plan, and of a refusal
-pub text-plan : (p : Reading) (f : Bytes) → Taken p f → first-of p ++ cells-text p f (p .columns .count) ≡ text-of f
-unfolding text-of listing-of joined cells-text
+pub text-plan : (p : Reading) (f : Bytes) → Taken p f → first-line p ++ cells-text p f (p .columns .count) ≡ text-of f
+unfolding text-of listing-of lines-joined cells-text
 text-plan p f h = let e = h .is in let z = h .passes in rw (← e, eq-eqb (p .refusal .number) 0 z)
 
 -- ---- for the code
@@ -211,22 +211,22 @@ pub put-short : {a b : List ℕ} {i k m : ℕ} (l : Line) → Put a i (text l) b
 put-short l u h = omega (arith, u .place, length-take (l .length) (l .bytes))
 
 -- the first line, and the cells'
-pub sheet-done : (p : Reading) (f : Bytes) → Taken p f → {a b d : List ℕ} {j k : ℕ} (l : Line) → l ≡ line-of (first-of p) → Put a 0 (text l) b j → Put b j (cells-text p f (p .columns .count)) d k → Put a 0 (text-of f) d k
+pub sheet-done : (p : Reading) (f : Bytes) → Taken p f → {a b d : List ℕ} {j k : ℕ} (l : Line) → l ≡ line-of (first-line p) → Put a 0 (text l) b j → Put b j (cells-text p f (p .columns .count)) d k → Put a 0 (text-of f) d k
 sheet-done p f h l e u v =
-    let t : text l ≡ first-of p = rw e (line-text (first-of p)) in
+    let t : text l ≡ first-line p = rw e (line-text (first-line p)) in
     rw (← text-plan p f h) (then (rw t at u) v)
 
 -- the line of a refusal
 pub refusal-done : (p : Reading) (f : Bytes) → p ≡ reading-of f most-cells → ¬ (p .refusal .number ≡ 0) → {a b : List ℕ} {k : ℕ} (l : Line) → l ≡ line-of (refused-line (p .refusal .number) (p .refusal .cell))
     → Put a 0 (text l) b k → Put a 0 (text-of f) b k
-unfolding text-of listing-of joined
+unfolding text-of listing-of lines-joined
 refusal-done p f h n l e u =
     let t : text l ≡ refused-line (p .refusal .number) (p .refusal .cell) = rw e (line-text (refused-line (p .refusal .number) (p .refusal .cell))) in
     rw (← h, ne-eqb (p .refusal .number) 0 n, append-nil (refused-line (p .refusal .number) (p .refusal .cell))) (rw t at u)
 
 -- ---- the call
 pub listed-short : (f out : Bytes) → length out < listing-size → Lists f out out (Refused 1 0)
-unfolding answer out-after size asked
+unfolding listed-of out-after size asked
 listed-short f out h =
     record {
       answers = rw (list-refusal (length out), is-false (says-le listing-size (length out)) (λ k. absurd (omega arith)));
@@ -235,7 +235,7 @@ listed-short f out h =
     }
 
 pub listed-text : (f out out′ : Bytes) (n : ℕ) → listing-size ≤ length out → Put out 0 (text-of f) out′ n → n ≤ listing-size → Lists f out out′ (Text n)
-unfolding answer out-after size asked
+unfolding listed-of out-after size asked
 listed-text f out out′ n h u g =
     let z : 0 + length (text-of f) ≡ length (text-of f) = omega arith in
     let e : n ≡ length (text-of f) = u .place ∙ z in

@@ -15,7 +15,7 @@ use Rattle.contours.specs.Sheet.{contours, whole-contour}
 use Rattle.contours.specs.laws.Forest.{Forest, none, tree, Grown}
 use Rattle.folding.specs.laws.Fold.{Tally, fresh, add, boxed, partial}
 use Rattle.folding.specs.laws.Folded.{contours-length, partial-none, partial-next, partial-done, partial-far, partial-box, partial-middle}
-use Rattle.joining.specs.Joining.{Memory, mem, mark}
+use Rattle.joining.specs.Joining.{Memory, memory-of, mark}
 use Rattle.links.specs.Links.{link}
 use Rattle.walk.specs.Machine.{Chart, State, wide, deep, apt, closed, step, Turning, Closing}
 use Rattle.walk.specs.laws.Machine.{step-open, step-close, Safe}
@@ -42,7 +42,7 @@ abbrev Blank : Table → List ℕ → List ℕ → Type 0
 Blank t ms cs = (x i s : ℕ) → At cs i s → Below t x s → (k : ℕ) → k < 4 → mark ms x k ≡ 0
 
 abbrev pub at : ℕ → List ℕ → ℕ → List ℕ → List ℕ → State
-at f cs h xs ms = record { stack = f ∷ cs; next = h; memory = mem xs ms }
+at f cs h xs ms = record { stack = f ∷ cs; next = h; memory = memory-of xs ms }
 
 -- what is not below c is neither c nor below a child of c
 out-child : (t : Table) (x c : ℕ) → (Below t x c → ⊥) → (x ≢ c) × Out t x (children t c)
@@ -156,7 +156,7 @@ module _ (t : Table) (b : Chart) (su : Suits t b) (Q : Memory → Type 0) where
       a-done = ap (λ (z : Tally). z .done) ea ∙ partial-done t al f o (omega (arith, ta .size))
 
       E : Memory
-      E = closed b v f c (mem ys ns)
+      E = closed b v f c (memory-of ys ns)
 
       es : Shut xs ms ns f v u (appointed f) A S c e P (λ x. Out t x (children t c)) E
       unfolding E
@@ -177,7 +177,7 @@ module _ (t : Table) (b : Chart) (su : Suits t b) (Q : Memory → Type 0) where
 
       e-is : step b (at c (f ∷ stack) 0 ys ns) ≡ at f stack (getD cs 0 0) (E .rows) (E .marks)
       unfolding E
-      e-is = step-close b c f stack (mem ys ns) ∙ (λ i. record { stack = f ∷ stack; next = next-is i; memory = closed b (ls i) f c (mem ys ns) })
+      e-is = step-close b c f stack (memory-of ys ns) ∙ (λ i. record { stack = f ∷ stack; next = next-is i; memory = closed b (ls i) f c (memory-of ys ns) })
 
       -- those to come are still blank
       blank : Blank t (E .marks) cs
@@ -242,7 +242,7 @@ module _ (t : Table) (b : Chart) (su : Suits t b) (Q : Memory → Type 0) where
     forth =
         let first-is : link (b .links) c 0 ≡ getD (children t c) 0 0 = su .links .first c (less .1) in
         let step-is : step b (at f stack c xs ms) ≡ at c (f ∷ stack) (getD (children t c) 0 0) xs ms =
-        step-open b (f ∷ stack) c (mem xs ms) (omega (arith, less)) ∙ ap (λ (x : ℕ). at c (f ∷ stack) x xs ms) first-is in (
+        step-open b (f ∷ stack) c (memory-of xs ms) (omega (arith, less)) ∙ ap (λ (x : ℕ). at c (f ∷ stack) x xs ms) first-is in (
           opening,
           subst (Safe b Q (2 * size F + suc (2 * size r + n))) (sym step-is)
               (ihs c (suc v) (u + deep b c + 1) 0 (f ∷ stack) fresh 0 xs ms (suc (2 * size r + n)) (less .1) lev (omega (arith, row-c, su .deep-of c (less .1))) (sym (partial-none t al c)) (ap suc ls) (tail-all t c)

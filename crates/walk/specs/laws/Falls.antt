@@ -6,7 +6,7 @@ use native.Mathlib.Omega.{arith}
 use native.Mathlib.Numerals.{add-one}
 use lib.ListN.{length, getD, set}
 use Rattle.plan.specs.Limits.{most-cells}
-use Rattle.joining.specs.Joining.{Memory, mem}
+use Rattle.joining.specs.Joining.{Memory, memory-of}
 use Rattle.links.specs.Links.{link}
 use Rattle.walk.specs.Machine.{Chart, State, closed, step, Turning, Closing}
 use Rattle.walk.specs.laws.Machine.{step-open, step-close, most-turns, turns}
@@ -78,20 +78,20 @@ module _ (b : Chart) (cs : List ℕ) (k leaf : ℕ) (xs ms : List ℕ) (some : 0
   top-is : stack-of cs k ≡ getD cs (k - 1) 0 ∷ stack-of cs (k - 1)
   top-is = stack-of-top cs k some
 
-  pub leaf-closing : {f : ℕ} {whole : List ℕ} → 0 < leaf → with-leaf leaf (stack-of cs k) ≡ whole → Turning b (record { stack = whole; next = 0; memory = mem xs ms }) → f ≡ getD cs (k - 1) 0 → Closing b (k - 1) f leaf xs ms
+  pub leaf-closing : {f : ℕ} {whole : List ℕ} → 0 < leaf → with-leaf leaf (stack-of cs k) ≡ whole → Turning b (record { stack = whole; next = 0; memory = memory-of xs ms }) → f ≡ getD cs (k - 1) 0 → Closing b (k - 1) f leaf xs ms
   leaf-closing {f} {whole} l e h ef = go leaf l e
     where
       go : (n : ℕ) → 0 < n → with-leaf n (stack-of cs k) ≡ whole → Closing b (k - 1) f n xs ms
       go zero l e = absurd (omega arith)
       go (suc n) l e = rw ef (rw (← e, top-is, stack-of-length cs (k - 1)) at (h .shut refl))
 
-  pub leaf-closed : {f n : ℕ} {whole xs′ ms′ : List ℕ} → 0 < leaf → with-leaf leaf (stack-of cs k) ≡ whole → f ≡ getD cs (k - 1) 0 → n ≡ link (b .links) leaf 1 → mem xs′ ms′ ≡ closed b (k - 1) f leaf (mem xs ms)
-      → state-of cs k n xs′ ms′ ≡ step b (record { stack = whole; next = 0; memory = mem xs ms })
+  pub leaf-closed : {f n : ℕ} {whole xs′ ms′ : List ℕ} → 0 < leaf → with-leaf leaf (stack-of cs k) ≡ whole → f ≡ getD cs (k - 1) 0 → n ≡ link (b .links) leaf 1 → memory-of xs′ ms′ ≡ closed b (k - 1) f leaf (memory-of xs ms)
+      → state-of cs k n xs′ ms′ ≡ step b (record { stack = whole; next = 0; memory = memory-of xs ms })
   leaf-closed {f} {n} {whole} {xs′} {ms′} l e ef en em = go leaf l e en em
     where
-      go : (c : ℕ) → 0 < c → with-leaf c (stack-of cs k) ≡ whole → n ≡ link (b .links) c 1 → mem xs′ ms′ ≡ closed b (k - 1) f c (mem xs ms) → state-of cs k n xs′ ms′ ≡ step b (record { stack = whole; next = 0; memory = mem xs ms })
+      go : (c : ℕ) → 0 < c → with-leaf c (stack-of cs k) ≡ whole → n ≡ link (b .links) c 1 → memory-of xs′ ms′ ≡ closed b (k - 1) f c (memory-of xs ms) → state-of cs k n xs′ ms′ ≡ step b (record { stack = whole; next = 0; memory = memory-of xs ms })
       go zero l e en em = absurd (omega arith)
-      go (suc c) l e en em = cc (e, top-is, stack-of-length cs (k - 1), step-close b (suc c) (getD cs (k - 1) 0) (stack-of cs (k - 1)) (mem xs ms))
+      go (suc c) l e en em = cc (e, top-is, stack-of-length cs (k - 1), step-close b (suc c) (getD cs (k - 1) 0) (stack-of cs (k - 1)) (memory-of xs ms))
 
 pub no-leaf : (n : ℕ) (cs whole : List ℕ) → n ≡ 0 → with-leaf n cs ≡ whole → cs ≡ whole
 no-leaf zero cs whole e h = h
@@ -146,7 +146,7 @@ module _ (b : Chart) (xs : List ℕ) (m : Memory) where
   fall n cs l h = fell 32 n cs l (omega arith) h
 
 pub visiting-fall : (b : Chart) (m : Memory) (xs₀ : List ℕ) {cells cells′ : List ℕ} {count count′ next next′ : ℕ} {xs xs′ ms ms′ : List ℕ} (end : List ℕ) → Visiting b m cells count next xs ms
-    → Fell b xs₀ (mem xs ms) (stack-of cells count) next end → state-of cells′ count′ next′ xs′ ms′ ≡ step b (record { stack = end; next = 0; memory = mem xs ms }) → Visiting b m cells′ count′ next′ xs′ ms′
+    → Fell b xs₀ (memory-of xs ms) (stack-of cells count) next end → state-of cells′ count′ next′ xs′ ms′ ≡ step b (record { stack = end; next = 0; memory = memory-of xs ms }) → Visiting b m cells′ count′ next′ xs′ ms′
 unfolding run
 visiting-fall b m xs₀ end v f e = visiting b m _ _ _ _ _ (suc (f .opened + v .turns)) (e ∙ ap (step b) (f .there (v .turns) (begin b m) (v .there)))
 

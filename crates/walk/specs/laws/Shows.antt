@@ -16,7 +16,7 @@ use Rattle.rows.specs.laws.Rows.{Column, column, left, right, left-off, right-o
 use Rattle.folding.specs.laws.Fold.{Tally, fresh, add, boxed}
 use Rattle.folding.specs.laws.Lists.{get-greatest, get-past, length-box}
 use Rattle.folding.specs.laws.Held.{Held, held-fresh, add-tall, box-fits}
-use Rattle.joining.specs.Joining.{Memory, mem, mark, finished}
+use Rattle.joining.specs.Joining.{Memory, memory-of, mark, finished}
 use Rattle.joining.specs.laws.Numbers.{low-rows}
 use Rattle.joining.specs.laws.Marks.{low-marks, low-four}
 use Rattle.joining.specs.laws.Complete.{Under, completing}
@@ -267,7 +267,7 @@ module _ (b : Chart) (xs ms ys ns : List ℕ) (f v u m : ℕ) (a : Tally) (s i c
   settled : Settled (b .allowance) zs ns (2 * v) f c (deep b c) (wide b c) m k a e s n given M A
   unfolding M
   settled =
-      subst (λ (q : ℕ × ℕ). Settled (b .allowance) zs ns (2 * v) f c (deep b c) (wide b c) m k a e s n given (finished (mem zs ns) (2 * v) f c (deep b c) (wide b c) (q .0) (q .1) (b .allowance)) A)
+      subst (λ (q : ℕ × ℕ). Settled (b .allowance) zs ns (2 * v) f c (deep b c) (wide b c) m k a e s n given (finished (memory-of zs ns) (2 * v) f c (deep b c) (wide b c) (q .0) (q .1) (b .allowance)) A)
       (λ j. ((place ∙ sym (fine .place)) j, sym appointed j)) (settle-adds (b .allowance) zs ns (2 * v) f c (deep b c) (wide b c) m k a e s n given)
 
   joined : Joined zs (M .rows) (2 * v) A
@@ -373,7 +373,7 @@ module _ (b : Chart) (xs ms ys ns : List ℕ) (f v u m : ℕ) (a : Tally) (s i c
       go x k l (no nf) (yes q) = rw q (low-child k l)
       go x k l (no nf) (no nc) = rw (marked .others x k l nf nc) (hc .low-marked (4 * x + k))
 
-  pub shut : Shut xs ms ns f v u m A (s + ((wide b c + 1) + n)) c e P Outside (closed b v f c (mem ys ns))
+  pub shut : Shut xs ms ns f v u m A (s + ((wide b c + 1) + n)) c e P Outside (closed b v f c (memory-of ys ns))
   unfolding closed M
   shut =
       record {

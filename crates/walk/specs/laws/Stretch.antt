@@ -10,7 +10,7 @@ use lib.Seq.{getD-drop, getD-take, getD-append-add, length-take-le}
 use lib.Dec.{ltb}
 use Rattle.rows.specs.Rows.{row-size, extent}
 use Rattle.rows.specs.laws.Rows.{box-to-length, put-to-length}
-use Rattle.joining.specs.Joining.{Memory, mem, height, completed, apart, settled, settled-by, settled-at}
+use Rattle.joining.specs.Joining.{Memory, memory-of, height, completed, settled-apart, settled, settled-by, settled-at}
 use Rattle.links.specs.Links.{link}
 use Rattle.walk.specs.Machine.{Chart, wide, deep, top, apt, stretch, with-stretch, stretch-rows, joined-in, closed, Closing}
 
@@ -65,16 +65,16 @@ by-length m at f c hs false g = put-to-length (m .rows) at _ _ _
 
 at-length : (m : Memory) (at f c hs place apt al : ℕ) → length (settled-at m at f c hs place apt al .rows) ≡ length (m .rows)
 at-length m at f c hs zero apt al = put-to-length (m .rows) at _ _ hs
-at-length m at f c hs (suc p) apt al = by-length m at f c hs (ltb apt (suc p)) (apart m at f c hs al)
+at-length m at f c hs (suc p) apt al = by-length m at f c hs (ltb apt (suc p)) (settled-apart m at f c hs al)
 
 joined-length : (b : Chart) (level f c : ℕ) (xs ms : List ℕ) → length (joined-in b level f c xs ms .rows) ≡ length xs
 unfolding settled completed
 joined-length b level f c xs ms =
-    at-length (completed (mem xs ms) (2 * level + 2) c (deep b c) (wide b c)) (2 * level) f c (height ms c (deep b c)) (link (b .links) c 2) (apt b f) (b .allowance) ∙ box-to-length xs (2 * level + 2) (wide b c) (deep b c + 1)
+    at-length (completed (memory-of xs ms) (2 * level + 2) c (deep b c) (wide b c)) (2 * level) f c (height ms c (deep b c)) (link (b .links) c 2) (apt b f) (b .allowance) ∙ box-to-length xs (2 * level + 2) (wide b c) (deep b c + 1)
 
 -- THEOREM: when c is closed, every row above the stretch below the box of its parent f, and every row below it, is as it was
 pub only-stretch : (b : Chart) (level f c : ℕ) (xs ms : List ℕ) → Closing b level f c xs ms → (q k : ℕ) → k < row-size → (q < top b c) ⊎ (top b c + stretch-rows b f c ms ≤ q)
-    → extent (closed b level f c (mem xs ms) .rows) q k ≡ extent xs q k
+    → extent (closed b level f c (memory-of xs ms) .rows) q k ≡ extent xs q k
 unfolding closed
 only-stretch b level f c xs ms h q k l o =
     let y = top b c in

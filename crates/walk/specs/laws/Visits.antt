@@ -13,7 +13,7 @@ use Rattle.plan.specs.laws.Plan.{child-read, child-show}
 use Rattle.plan.specs.laws.Paths.{Below, below-root, below-split, below-is, below-child, child-less}
 use Rattle.plan.specs.Fit.{Fit}
 use Rattle.contours.specs.laws.Forest.{Forest, none, tree, Grown, grown, forest}
-use Rattle.joining.specs.Joining.{Memory, mem}
+use Rattle.joining.specs.Joining.{Memory, memory-of}
 use Rattle.links.specs.Links.{Links, link}
 use Rattle.walk.specs.Machine.{Chart, State, step}
 use Rattle.walk.specs.Turns.{stack-of, state-of}
@@ -195,9 +195,9 @@ module _ (b : Chart) (m : Memory) where
   visiting cells count next xs ms n e =
       record { turns = n; there = e; open-now = λ t su. open-cells t (su .fit) b (su .links) m n cells count (ap (λ (st : State). st .stack) e) }
 
-pub visiting-start : (b : Chart) (cells : List ℕ) (count n : ℕ) (xs ms : List ℕ) → stack-of cells count ≡ 0 ∷ [] → n ≡ link (b .links) 0 0 → Visiting b (mem xs ms) cells count n xs ms
+pub visiting-start : (b : Chart) (cells : List ℕ) (count n : ℕ) (xs ms : List ℕ) → stack-of cells count ≡ 0 ∷ [] → n ≡ link (b .links) 0 0 → Visiting b (memory-of xs ms) cells count n xs ms
 unfolding run
-visiting-start b cells count n xs ms e en = visiting b (mem xs ms) cells count n xs ms 0 (λ i. record { stack = e i; next = en i; memory = mem xs ms })
+visiting-start b cells count n xs ms e en = visiting b (memory-of xs ms) cells count n xs ms 0 (λ i. record { stack = e i; next = en i; memory = memory-of xs ms })
 
 -- ---- OPENED ONCE
 -- the cells of a forest, each before its children
@@ -528,7 +528,7 @@ module _ (t : Table) (fit : Fit t) (b : Chart) (links : Links t (b .links)) (m :
   siblings-in-order = subst (λ (l : List ℕ). InOrder t l) (sym (opened-in-order t fit b links m n e)) (preorder-siblings t fit)
 
 -- ---- the contract of walk
-pub visited : (b : Chart) (m : Memory) {cells : List ℕ} {count next : ℕ} {xs ms : List ℕ} → Visiting b m cells count next xs ms → count ≡ 0 → Visited b m (mem xs ms)
+pub visited : (b : Chart) (m : Memory) {cells : List ℕ} {count next : ℕ} {xs ms : List ℕ} → Visiting b m cells count next xs ms → count ≡ 0 → Visited b m (memory-of xs ms)
 unfolding stack-of
 visited b m {cells} {count} {next} {xs} {ms} v z =
     record {

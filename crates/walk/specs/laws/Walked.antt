@@ -26,7 +26,7 @@ use Rattle.folding.specs.laws.Fold.{Tally, fresh, boxed, partial}
 use Rattle.folding.specs.laws.Folded.{partial-none, partial-box, partial-middle}
 use Rattle.folding.specs.laws.Lists.{get-past}
 use Rattle.folding.specs.laws.Held.{held-fresh, box-fits}
-use Rattle.joining.specs.Joining.{Memory, mem, mark, height, completed}
+use Rattle.joining.specs.Joining.{Memory, memory-of, mark, height, completed}
 use Rattle.joining.specs.laws.Marks.{low-marks, low-four}
 use Rattle.joining.specs.laws.Complete.{Under, Complete, complete, completing, height-is, left-tall, right-tall}
 use Rattle.links.specs.Links.{link}
@@ -70,7 +70,7 @@ module _ (b : Chart) (xs ms ys ns : List ℕ) (m : ℕ) (a : Tally) (n : ℕ) (O
       }
 
   abbrev C : Memory
-  C = completed (mem ys ns) 0 0 d w
+  C = completed (memory-of ys ns) 0 0 d w
 
   done : Complete ys ns 0 0 w a p C
   done = complete ys ns 0 0 d w m a n under
@@ -186,9 +186,9 @@ module _ (t : Table) (b : Chart) (su : Suits t b) (xs ms : List ℕ) (lx : scrat
     O x = Out t x (children t 0)
 
     abbrev M : List ℕ
-    M = completed (mem ys ns) 0 0 (deep b 0) (wide b 0) .marks
+    M = completed (memory-of ys ns) 0 0 (deep b 0) (wide b 0) .marks
 
-    full : Complete ys ns 0 0 (wide b 0) a (boxed (deep b 0) (wide b 0) a) (completed (mem ys ns) 0 0 (deep b 0) (wide b 0))
+    full : Complete ys ns 0 0 (wide b 0) a (boxed (deep b 0) (wide b 0) a) (completed (memory-of ys ns) 0 0 (deep b 0) (wide b 0))
     full = done b xs ms ys ns appointed a (0 + weight) O h kept clear
 
     ending : Turning b (at 0 [] 0 ys ns)
@@ -226,7 +226,7 @@ module _ (t : Table) (b : Chart) (su : Suits t b) (xs ms : List ℕ) (lx : scrat
           | inr (j, s, c, w) ↦ right-keep t al ns M x (λ y y-under. child-same j s c y (below-below y-under w)) (rights .below x j s c w)
         ]
 
-    end : End (root-closed (mem ys ns) (deep b 0) (wide b 0))
+    end : End (root-closed (memory-of ys ns) (deep b 0) (wide b 0))
     unfolding root-closed
     end =
         record {
@@ -237,7 +237,7 @@ module _ (t : Table) (b : Chart) (su : Suits t b) (xs ms : List ℕ) (lx : scrat
         }
 
     last : Safe b End 1 (at 0 [] 0 ys ns)
-    last = (ending, subst (Safe b End 0) (sym (step-end b 0 (mem ys ns))) (refl, end))
+    last = (ending, subst (Safe b End 0) (sym (step-end b 0 (memory-of ys ns))) (refl, end))
 
   -- the whole walk is safe, and ends well
   safe : Safe b End (2 * sum (λ x. 1) F + 1) (at 0 [] (link (b .links) 0 0) xs ms)

@@ -1,7 +1,7 @@
 use mathlib.Core.Path.{ap, _∙_}
 use mir.Syntax.{w32}
 use mir.ValLaws.{toZ-ofZ}
-use Rattle.whole.specs.Range.{within}
+use Rattle.whole.specs.Range.{in-range}
 use Rattle.plan.specs.Limits.{farthest}
 use Rattle.plan.specs.Questions.{near}
 use borrow.Author.Needs.{needs}
@@ -19,7 +19,7 @@ within-requires c κs = search needs
 
 returns : tie.Need-returns
 unfolding near
-returns c = c .within .ensures ∙ ap (within farthest) (toZ-ofZ w32 _ (record { sfits = c .before .within-arg .given }))
+returns c = c .within .ensures ∙ ap (in-range farthest) (toZ-ofZ w32 _ (record { sfits = c .before .within-arg .given }))
 
 pub near-spec : {M : Type 1} → statement M
 near-spec = tie.close (tie.spec mul-within shared-slice-copy-out-within within-requires returns)
