@@ -130,12 +130,14 @@ fn all_of(t: Columns, w: u16) -> Columns {
     let kind = t.kind;
     let width = [w; 256];
     let depth = t.depth;
+    let rank = t.rank;
     Columns {
         count: t.count,
         parent,
         kind,
         width,
         depth,
+        rank,
     }
 }
 

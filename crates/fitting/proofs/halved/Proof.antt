@@ -12,9 +12,6 @@ Inv-loop t tops squares scratch₀ low₀ size₀ scratch low size = Placeable t
 abbrev μ-loop : tie.MeasureT-loop
 μ-loop t tops squares scratch₀ low₀ size₀ scratch low size = turns-of 16 size
 
-add-size : tie.Need-add-size Inv-loop μ-loop
-add-size c = search needs
-
 loop-holds : tie.Need-loop-holds Inv-loop μ-loop
 loop-holds c =
     let st = c .before in
@@ -55,7 +52,6 @@ halved-spec =
     (tie.spec
     Inv-loop
     μ-loop
-    add-size
     loop-holds
     half-from-requires
     loop-less

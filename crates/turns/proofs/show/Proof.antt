@@ -9,9 +9,6 @@ use Rattle.plan.specs.declared.Refusal.{Refusal}
 use Rattle.turns.proofs.show.Statement.{statement}
 use Rattle.turns.proofs.show.Tie as tie
 
-mul-layout-refusal : tie.Need-mul-layout-refusal
-mul-layout-refusal c = search needs
-
 layout-refusal-requires : tie.Need-layout-refusal-requires
 layout-refusal-requires c κs = search needs
 
@@ -54,7 +51,6 @@ pub show-spec : {M : Type 1} → statement M
 show-spec =
     tie.close
     (tie.spec
-    mul-layout-refusal
     layout-refusal-requires
     slice-aggregate-word
     word-requires
