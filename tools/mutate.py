@@ -82,7 +82,7 @@ MUTATIONS = {
         (CONTOUR, PARTS, "max s3-ends (max s4 s5)"),
         (CONTOUR_LAWS, "  pub starts : greatest (p .left) + 1 ≤ d\n", ""),
         (CONTOUR_LAWS, "      starts = omega arith;\n", ""),
-        (CONTOUR_LAWS, re.compile(r"→ v ≡ 0\n  unfolding lefts step separation\n.*?\n\n", re.S), "→ v ≡ v\n  lefts-next o os P X j v g h = refl\n\n"),
+        (CONTOUR_LAWS, re.compile(r"→ v ≡ 0\n  unfolding lefts stride separation\n.*?\n\n", re.S), "→ v ≡ v\n  lefts-next o os P X j v g h = refl\n\n"),
         (SPAN_LAWS, re.compile(r"module _ \(al : ℕ\) where\n.*?(?=  -- a box with its children)", re.S), "module _ (al : ℕ) where\n"),
         (SPAN_LAWS, "os .right) + 1 ≤ W + 1 + spans os", "os .right) + 1 ≤ greatest (contour al W D (offset al 0 os m) os .left) + greatest (contour al W D (offset al 0 os m) os .right) + 1"),
         (SPAN_LAWS, re.compile(r"  span W D m os =.*", re.S), "  span W D m os = omega arith\n"),
@@ -130,7 +130,7 @@ def refused(title, edits):
         apply(copy, edits)
         run = subprocess.run(["rt", "check", "least"], cwd=copy, capture_output=True, text=True)
         lines = (run.stdout + run.stderr).splitlines()
-    below = {n for n in ("whole", "plan", "rules", "layout") if any(l.startswith(f"rt: {n} proved") for l in lines)}
+    below = {n for n in ("whole", "plan", "rules", "contours") if any(l.startswith(f"rt: {n} proved") for l in lines)}
     errors = [re.sub(r"^.*/crates/", "", l) for l in lines if ": error: " in l and not re.search("was not admitted|not in scope", l)]
     good = len(below) == 4 and any(e.startswith("least/") for e in errors)
     print(f"{'refused by least' if good else 'NOT AS IT MUST BE'}: {title}")
