@@ -113,7 +113,7 @@ def changed(cells, c, **fields):
 # ---- the paper's 38 bytes
 PAPER = bytes.fromhex('557041 52756e'.replace(' ', '')) + bytes.fromhex('FFFF020401020000 0000010301010200 0000010501030300 0600030000005354'.replace(' ', ''))
 assert PAPER[:6] == b'UpARun' and len(PAPER) == 38
-case(PAPER, ('plan', 3, 0, ['65535 2 4 1 2 0 Up', '0 1 3 1 1 2 A', '0 1 5 1 3 3 Run', '0 0 0 0 0 0 ']), 256, 2, '0 0 Run')
+case(PAPER, ('plan', 3, 0, ['65535 2 0 4 1 2 0 Up', '0 1 0 3 1 1 2 A', '0 1 0 5 1 3 3 Run', '0 0 0 0 0 0 0 ']), 256, 2, '0 0 Run')
 
 # ---- question 1: a table to fill of 256 records; Label does not ask it
 refused(plan(ONE), 1, room=255, label='0 0 ')
@@ -245,7 +245,7 @@ refused(plan(ONE)[:12], 1, room=3, label='2 0 ')                            # 1 
 # ---- the wide form (document 02, E7): mark 53 55, records of 10 bytes
 PAPER_WIDE = b'UpARun' + bytes.fromhex('FFFF0201040002000000 00000101030001000200 00000101050003000300 0600030000005355'.replace(' ', ''))
 assert len(PAPER_WIDE) == 6 + 30 + 8
-case(PAPER_WIDE, ('plan', 3, 0, ['65535 2 4 1 2 0 Up', '0 1 3 1 1 2 A', '0 1 5 1 3 3 Run', '0 0 0 0 0 0 ']), 256, 2, '0 0 Run')
+case(PAPER_WIDE, ('plan', 3, 0, ['65535 2 0 4 1 2 0 Up', '0 1 0 3 1 1 2 A', '0 1 0 5 1 3 3 Run', '0 0 0 0 0 0 0 ']), 256, 2, '0 0 Run')
 accepted(ONE, form=wide_plan)                                               # 18 bytes
 refused(wide_plan(ONE)[1:], 4)                                              # 17 bytes
 refused(wide_plan(ONE)[2:], 4)                                              # 16 bytes

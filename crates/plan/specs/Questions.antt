@@ -159,8 +159,8 @@ every test (v ∷ vs) = let r = every test vs in cond (test v) r false
 abbrev pub no-label : Label
 no-label = record { start = 0; size = 0 }
 
-abbrev pub label-of : File → ℕ → Label
-label-of f c = getD (f .labels) c no-label
+abbrev pub label-at : File → ℕ → Label
+label-at f c = getD (f .labels) c no-label
 
 -- question 6: is p a parent for cell c, 65,535 for cell 0, else less than the cell's own number
 unfoldable pub lower : ℕ → ℕ → Bool
@@ -206,8 +206,8 @@ module _ (call : Call) (g : Given) where
   holds kind-known c = known (kind (g .table) c)
   holds box-sized c = sized (widest-in (g .source)) (W (g .table) c) (D (g .table) c)
   holds label-inside c =
-      in-file (g .source) (λ f. leb (label-of f c .size) most-label && leb (label-of f c .start + label-of f c .size) (f .begin))
-  holds label-fits c = in-file (g .source) (λ f. bordered (kind (g .table) c) (label-of f c .size) (W (g .table) c))
+      in-file (g .source) (λ f. leb (label-at f c .size) most-label && leb (label-at f c .start + label-at f c .size) (f .begin))
+  holds label-fits c = in-file (g .source) (λ f. bordered (kind (g .table) c) (label-at f c .size) (W (g .table) c))
   holds children-allowed c = allows (kind (g .table) c) (length (children (g .table) c))
   holds level-low c = leb (level (g .table) c) most-level
   holds rows-few c = leb (row (g .table) c + D (g .table) c) last-row

@@ -13,7 +13,7 @@ ghost use Prim.Native.Nat.{ℕ, _+_, _-_, _*_, _^_, _≤_, _<_, min};
 ghost use lib.ListN.{length, getD, set};
 ghost use lib.IntN.{pos, _-ℤ_};
 ghost use Rattle.plan.specs.Limits.{farthest, «most-cells»};
-ghost use Rattle.plan.specs.Plan.{Sound, row, bottom};
+ghost use Rattle.plan.specs.Plan.{Sound, row, «dictated-bottom»};
 ghost use Rattle.plan.specs.Columns.{table, «table-of»};
 ghost use Rattle.plan.specs.Trees.{Column};
 ghost use Rattle.rules.specs.Placement.{Placement, width};
@@ -147,7 +147,7 @@ fn last_row(tops: &[u16; MOST_CELLS], depths: &[u8; MOST_CELLS], c: usize) -> u3
 // The last row of all, and one.
 pub fn sheet_rows(tops: &[u16; MOST_CELLS], depths: &[u8; MOST_CELLS], n: usize) -> u32
     requires { ⌜ (1 ≤ n) × (n ≤ most-cells) ⌝ }
-    ensures { λ r. ⌜ ((ps ks ws qs : List ℕ) → Sound (table ps ks ws (now (depths .entry)) qs n) → Column (now (tops .entry)) n (row (table ps ks ws (now (depths .entry)) qs n)) → r ≡ bottom (table ps ks ws (now (depths .entry)) qs n) 0 + 1) ⌝ }
+    ensures { λ r. ⌜ ((ps ks ws qs : List ℕ) → Sound (table ps ks ws (now (depths .entry)) qs n) → Column (now (tops .entry)) n (row (table ps ks ws (now (depths .entry)) qs n)) → r ≡ dictated-bottom (table ps ks ws (now (depths .entry)) qs n) 0 + 1) ⌝ }
 {
     let mut last = last_row(tops, depths, 0);
     let mut c: usize = 1;

@@ -95,5 +95,5 @@ module _ (t : Table) (al : ℕ) (ps : List ℤ) (h : Accepted t al ps) where
       (omega (whole, sum (placed ps .x 0) (pos 0), sum (placed ps .x 0) (pos (W t 0)))) in
       omega (whole, narrow (width t (placed ps)))
 
-  pub rows-natural : verdict t (placed ps) al ≡ kept → rows t (placed ps) ≡ pos (plan.bottom t 0 + 1)
+  pub rows-natural : verdict t (placed ps) al ≡ kept → rows t (placed ps) ≡ pos (plan.dictated-bottom t 0 + 1)
   rows-natural e = rows-plan t (placed ps) (h .fit .sound) (kept-keeps t (placed ps) al (h .fit .some-cell) e .s1) (h .fit .some-cell)

@@ -11,7 +11,7 @@ use lib.Dec.{T, leb}
 use borrow.Author.Tests.{eq-eqb, ne-eqb}
 use Rattle.whole.specs.Whole.{plus}
 use Rattle.plan.specs.Limits.{scratch-size, most-allowance, most-cells}
-use Rattle.plan.specs.Plan.{Table, Is, row, bottom}
+use Rattle.plan.specs.Plan.{Table, Is, row, dictated-bottom}
 use Rattle.plan.specs.Columns.{table-of}
 use Rattle.plan.specs.laws.Columns.{table-length, parent-at, depth-at}
 use Rattle.plan.specs.declared.Columns.{Columns}
@@ -79,7 +79,7 @@ module _ (t : Columns) (fit : Fit (table-of t)) where
     pub drawn : (al : ℕ) (xs : List ℕ) → Raised xs (t .count) (sheet (table-of t) al .x)
         → (s′ : List ℕ) → s′ ≡ replicate scratch-size 0
         → (ps ps′ : List ℤ) → ((p : Placement) → Raised xs (t .count) (p .x) → Topped tops (t .count) (p .y) → ps′ ≡ written ps p (t .count))
-        → (w h : ℕ) → pos w ≡ width (table-of t) (sheet (table-of t) al) → h ≡ bottom (table-of t) 0 + 1
+        → (w h : ℕ) → pos w ≡ width (table-of t) (sheet (table-of t) al) → h ≡ dictated-bottom (table-of t) 0 + 1
         → Drawn (table-of t) al s′ ps ps′ (record { width = w; rows = h })
     drawn al xs r s′ z ps ps′ put w h e f = record {
       answers = cc (ap plus e, f ∙ ap plus (sym (sheet-rows (table-of t) (fit .sound) al (fit .some-cell))));

@@ -144,5 +144,5 @@ module _ (t : Table) (sound : Sound t) (al : ℕ) where
   pub sheet-width : Is t 0 → width t (sheet t al) ≡ pos (greatest (whole-contour t al 0 .left) + greatest (whole-contour t al 0 .right))
   sheet-width o = omega (whole, our-width o, any-width (sheet t al) sheet-keeps o)
 
-  pub sheet-rows : Is t 0 → rows t (sheet t al) ≡ pos (plan.bottom t 0 + 1)
+  pub sheet-rows : Is t 0 → rows t (sheet t al) ≡ pos (plan.dictated-bottom t 0 + 1)
   sheet-rows = rows-plan t (sheet t al) sound (sheet-s1 t sound al)

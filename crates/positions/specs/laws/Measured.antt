@@ -11,7 +11,7 @@ use Rattle.whole.specs.laws.Whole.{whole, sum}
 use Rattle.plan.specs.Limits.{farthest}
 use Rattle.plan.specs.Lists.{peak}
 use Rattle.plan.specs.laws.Lists.{peak-all, peak-one}
-use Rattle.plan.specs.Plan.{Table, Is, Sound, W, D, row, bottom, subtree}
+use Rattle.plan.specs.Plan.{Table, Is, Sound, W, D, row, dictated-bottom, subtree}
 use Rattle.plan.specs.laws.Plan.{subtree-read, subtree-show}
 use Rattle.plan.specs.laws.Paths.{below-root, below-within}
 use Rattle.plan.specs.Columns.{table}
@@ -97,8 +97,8 @@ module _ (ps ks ws ds qs : List ℕ) (n : ℕ) (some : 1 ≤ n) where
         omega whole
 
   -- the greatest row of a box
-  pub bottom-is : Sound t → (ts : List ℕ) → Column ts n (row t) → (last : ℕ) → Greatest (λ c. getD ts c 0 + getD ds c 0) n last → last ≡ bottom t 0
-  unfolding bottom
+  pub bottom-is : Sound t → (ts : List ℕ) → Column ts n (row t) → (last : ℕ) → Greatest (λ c. getD ts c 0 + getD ds c 0) n last → last ≡ dictated-bottom t 0
+  unfolding dictated-bottom
   bottom-is sound ts col last g =
       let all = subtree t 0 in
       let low : (a : ℕ) → a < n → row t a + D t a ≡ getD ts a 0 + getD ds a 0 = λ a h. rw (depth-at ps ks ws ds qs n a h, col .each a h) refl in

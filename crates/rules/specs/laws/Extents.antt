@@ -76,8 +76,8 @@ module _ (t : Table) (p : Placement) where
     unfolding base
     base-row a i = ap (λ (z : ℤ). z +ℤ pos (D t a)) (y-row a i)
 
-    pub bottom-row : (c : ℕ) → Is t c → bottom t p c ≡ pos (plan.bottom t c)
-    unfolding bottom plan.bottom
+    pub bottom-row : (c : ℕ) → Is t c → bottom t p c ≡ pos (plan.dictated-bottom t c)
+    unfolding bottom plan.dictated-bottom
     bottom-row c i =
         let l = subtree t c in
         let m = most-all (base t p) (base t p c) l c (subtree-show t c c i (within-self t sound c)) in
@@ -90,6 +90,6 @@ module _ (t : Table) (p : Placement) where
         (λ a m. omega (whole, base-row a (subtree-read t c a m .0), most-all (base t p) (base t p c) l a m)) in
         omega whole
 
-    pub rows-plan : Is t 0 → rows t p ≡ pos (plan.bottom t 0 + 1)
+    pub rows-plan : Is t 0 → rows t p ≡ pos (plan.dictated-bottom t 0 + 1)
     unfolding rows
     rows-plan i = omega (whole, bottom-row 0 i, sum (bottom t p 0) (pos 1))
