@@ -12,9 +12,10 @@ use plan::Refusal;
 use plan::questions::allowance_refusal;
 use plan::questions::lent_refusal;
 use plan::questions::near_refusal;
-use spans::greater;
+use whole::numbers::greater;
+use whole::numbers::lesser;
 ghost use mathlib.Core.Path.{_≡_};
-ghost use Prim.Native.Nat.{_≤_, min};
+ghost use Prim.Native.Nat.{_≤_};
 ghost use Rattle.plan.specs.Limits.{«most-allowance»};
 ghost use Rattle.plan.specs.Columns.{«table-of»};
 ghost use Rattle.plan.specs.Fit.{Fit};
@@ -47,12 +48,6 @@ fn refuse(t: Columns, positions: &[i32], allowance: u32) -> Refusal
         return small;
     }
     near_refusal(positions, n)
-}
-
-fn lesser(a: u32, b: u32) -> u32
-    ensures { λ r. ⌜ r ≡ min a b ⌝ }
-{
-    if b < a { b } else { a }
 }
 
 // The greatest right edge less the least x.

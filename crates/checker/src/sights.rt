@@ -11,6 +11,8 @@ use spans::measure;
 use spans::number;
 use spans::parent_of;
 use spans::sink;
+use whole::numbers::wide8to32;
+use whole::numbers::wide16to32;
 use whole::raise_at;
 ghost use mathlib.Core.Path.{_≡_};
 ghost use mathlib.Core.List.{[], _∷_};
@@ -41,18 +43,6 @@ pub struct Heads {
     pub middle: [u32; MOST_CELLS],
 }
 
-fn wide(x: u16) -> u32
-    ensures { λ r. ⌜ r ≡ x ⌝ }
-{
-    x as u32
-}
-
-fn wide8(x: u8) -> u32
-    ensures { λ r. ⌜ r ≡ x ⌝ }
-{
-    x as u32
-}
-
 // The x (offset 0) or the y (offset 1) of each cell, moved up.
 fn raised(positions: &[i32], n: usize, offset: usize) -> [u32; MOST_CELLS]
     requires { ⌜ (n ≤ most-cells) × (offset ≤ 1) × Near (now positions) n ⌝ }
@@ -75,8 +65,8 @@ fn edges_of(t: Columns, x: [u32; MOST_CELLS], y: [u32; MOST_CELLS]) -> Edges
     let mut base = [0u32; MOST_CELLS];
     let mut c: usize = 0;
     while c < t.count {
-        right[c] = x[c] + wide(t.width[c]);
-        base[c] = y[c] + wide8(t.depth[c]);
+        right[c] = x[c] + wide16to32(t.width[c]);
+        base[c] = y[c] + wide8to32(t.depth[c]);
         c += 1;
     }
     Edges { right, base }
@@ -106,7 +96,7 @@ fn heads_of(t: Columns, many: [u32; MOST_CELLS]) -> Heads
     let mut middle = [0u32; MOST_CELLS];
     let mut c: usize = 0;
     while c < t.count {
-        parent[c] = wide(t.parent[c]);
+        parent[c] = wide16to32(t.parent[c]);
         middle[c] = appointed(t.kind[c], many[c]);
         c += 1;
     }

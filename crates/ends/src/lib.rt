@@ -7,6 +7,7 @@ use plan::questions::lent_refusal;
 use plan::questions::near_refusal;
 use spans::parent_of;
 use whole::difference;
+use whole::numbers::wide8to32;
 use whole::raise_at;
 ghost use mathlib.Core.Path.{_≡_};
 ghost use mathlib.Core.Bool.{_&&_};
@@ -38,12 +39,6 @@ fn half(width: u16) -> u32
         return down;
     }
     down + 1
-}
-
-fn wide8(x: u8) -> u32
-    ensures { λ r. ⌜ r ≡ x ⌝ }
-{
-    x as u32
 }
 
 // Question 16 for Ends: a cell of the table, not the root.
@@ -90,7 +85,7 @@ pub fn ends(t: Columns, positions: &[i32], cell: usize) -> Ended
     let p = parent_of(&t.parent, cell);
     Ended::Joined(
         moved(positions, 2 * p, half(t.width[p])),
-        moved(positions, 2 * p + 1, wide8(t.depth[p])),
+        moved(positions, 2 * p + 1, wide8to32(t.depth[p])),
         moved(positions, 2 * cell, half(t.width[cell])),
         moved(positions, 2 * cell + 1, 0),
     )

@@ -10,10 +10,11 @@
 use rows::box_rows;
 use rows::clash;
 use rows::column_max;
-use rows::greater;
 use rows::join_beyond;
 use rows::join_upto;
 use rows::less;
+use whole::numbers::greater;
+use whole::numbers::wide32;
 ghost use mathlib.Core.Path.{_≡_};
 ghost use mathlib.Core.Bool.{cond};
 ghost use Prim.Native.Nat.{_+_, _-_, _*_, _≤_, _<_, max, min};
@@ -21,12 +22,6 @@ ghost use lib.ListN.{length};
 ghost use Rattle.plan.specs.Limits.{last-row, farthest};
 ghost use Rattle.rows.specs.Rows.{upto-rows, beyond-rows};
 ghost use Rattle.joining.specs.Joining.{«memory-of», mark, four, noted, height, joined-rows, completed, «settled-apart», settled-first, settled-by, settled, Completing, Settling, Siding};
-
-fn wide32(x: u32) -> usize
-    ensures { λ r. ⌜ r ≡ x ⌝ }
-{
-    x as usize
-}
 
 fn taller(a: usize, b: usize) -> usize
     ensures { λ r. ⌜ r ≡ max a b ⌝ }

@@ -3,6 +3,8 @@
 use plan::Columns;
 use plan::kinds::appointed;
 use plan::limits::MOST_CELLS;
+use whole::numbers::wide16;
+use whole::numbers::wide16to32;
 ghost use mathlib.Core.Path.{_≡_};
 ghost use Prim.Native.Nat.{_+_, _-_, _*_, _≤_, _<_};
 ghost use lib.ListN.{length, getD};
@@ -14,18 +16,6 @@ ghost use Rattle.links.specs.Build.{Built, chained, «number-one», coun
 
 // Four links a cell.
 pub const LINKS: usize = 4 * MOST_CELLS;
-
-fn wide32(x: u16) -> u32
-    ensures { λ r. ⌜ r ≡ x ⌝ }
-{
-    x as u32
-}
-
-fn wide16(x: u16) -> usize
-    ensures { λ r. ⌜ r ≡ x ⌝ }
-{
-    x as usize
-}
 
 // Link k of the cell c: its first child, its next sibling (0: none), its place among its siblings, the place of its appointed child.
 pub fn link_of(links: &[u16], c: usize, k: usize) -> usize
@@ -54,7 +44,7 @@ fn count_of(links: &[u16], c: usize) -> u32
     requires { ⌜ 4 * c + 4 ≤ length (now links) ⌝ }
     ensures { λ r. ⌜ r ≡ link (now (links .entry)) c 3 ⌝ }
 {
-    wide32(links[4 * c + 3])
+    wide16to32(links[4 * c + 3])
 }
 
 // The cell that a link leads to (0: none).

@@ -5,11 +5,13 @@ use marks::MARKS;
 use plan::Columns;
 use plan::limits::FARTHEST;
 use plan::limits::MOST_CELLS;
-use rows::greater;
 use whole::difference;
+use whole::numbers::greater;
+use whole::numbers::lesser;
+use whole::numbers::wide16;
 ghost use mathlib.Core.Path.{_≡_};
 ghost use mathlib.Core.List.{List};
-ghost use Prim.Native.Nat.{ℕ, _+_, _-_, _*_, _^_, _≤_, _<_, min};
+ghost use Prim.Native.Nat.{ℕ, _+_, _-_, _*_, _^_, _≤_, _<_};
 ghost use lib.ListN.{length, getD, set};
 ghost use lib.IntN.{pos, _-ℤ_};
 ghost use Rattle.plan.specs.Limits.{farthest, «most-cells»};
@@ -21,12 +23,6 @@ ghost use Rattle.contours.specs.Sheet.{sheet};
 ghost use Rattle.positions.specs.Written.{written};
 ghost use Rattle.marks.specs.Marks.{Marked};
 ghost use Rattle.positions.specs.Raised.{Raised, High, Topped, Raising};
-
-fn wide(x: u16) -> usize
-    ensures { λ r. ⌜ r ≡ x ⌝ }
-{
-    x as usize
-}
 
 fn wide32(x: u16) -> u32
     ensures { λ r. ⌜ (r ≡ x) × (r < 2 ^ 16) ⌝ }
@@ -40,18 +36,12 @@ fn wide8(x: u8) -> u32
     x as u32
 }
 
-fn lesser(a: u32, b: u32) -> u32
-    ensures { λ r. ⌜ r ≡ min a b ⌝ }
-{
-    if a < b { a } else { b }
-}
-
 // The parent of a cell.
 fn parent_of(parents: &[u16; MOST_CELLS], c: usize) -> usize
     requires { ⌜ c < most-cells ⌝ }
     ensures { λ r. ⌜ r ≡ getD (now (parents .entry)) c 0 ⌝ }
 {
-    wide(parents[c])
+    wide16(parents[c])
 }
 
 // The x of each cell: its parent's, and its distance from its first sibling less that of the appointed one.

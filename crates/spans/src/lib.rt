@@ -2,8 +2,11 @@
 use links::link_of;
 use plan::Columns;
 use plan::limits::MOST_CELLS;
+use whole::numbers::greater;
+use whole::numbers::wide16;
+use whole::numbers::wide16to32;
 ghost use mathlib.Core.Path.{_≡_};
-ghost use Prim.Native.Nat.{_+_, _*_, _≤_, _<_, max};
+ghost use Prim.Native.Nat.{_+_, _*_, _≤_, _<_};
 ghost use lib.ListN.{length, getD};
 ghost use Rattle.plan.specs.Limits.{«most-cells»};
 ghost use Rattle.plan.specs.Columns.{«table-of»};
@@ -26,18 +29,12 @@ pub struct Numbers {
     pub many: [u32; MOST_CELLS],
 }
 
-fn wide(x: u16) -> usize
-    ensures { λ r. ⌜ r ≡ x ⌝ }
-{
-    x as usize
-}
-
 // The parent of a cell, which is lower.
 pub fn parent_of(parents: &[u16; MOST_CELLS], c: usize) -> usize
     requires { ⌜ (c < most-cells) × (getD (now parents) c 0 < c) ⌝ }
     ensures { λ r. ⌜ (r ≡ getD (now (parents .entry)) c 0) × (r < c) ⌝ }
 {
-    wide(parents[c])
+    wide16(parents[c])
 }
 
 // How many cells are at or below each cell. From the last cell to the first: each is taken in by its parent.
@@ -123,12 +120,6 @@ pub fn lay(t: Columns, links: &[u16], size: [u32; MOST_CELLS]) -> Standing
     }
 }
 
-pub fn greater(a: u32, b: u32) -> u32
-    ensures { λ r. ⌜ r ≡ max a b ⌝ }
-{
-    if a < b { b } else { a }
-}
-
 // The greatest of the numbers in each subtree.
 pub fn sink(t: Columns, bases: [u32; MOST_CELLS]) -> [u32; MOST_CELLS]
     requires { ⌜ Fit (table-of t) ⌝ }
@@ -144,18 +135,12 @@ pub fn sink(t: Columns, bases: [u32; MOST_CELLS]) -> [u32; MOST_CELLS]
     bottoms
 }
 
-fn wide32(x: u16) -> u32
-    ensures { λ r. ⌜ r ≡ x ⌝ }
-{
-    x as u32
-}
-
 // A cell's place among its siblings, from 0.
 fn place_of(links: &[u16], c: usize) -> u32
     requires { ⌜ 4 * c + 4 ≤ length (now links) ⌝ }
     ensures { λ r. ⌜ r ≡ link (now (links .entry)) c 2 ⌝ }
 {
-    wide32(links[4 * c + 2])
+    wide16to32(links[4 * c + 2])
 }
 
 // The siblings numbered and the children counted.

@@ -6,6 +6,9 @@ use joining::settle;
 use links::link_of;
 use rows::ROW;
 use rows::box_rows;
+use whole::numbers::wide8;
+use whole::numbers::wide16;
+use whole::numbers::wide16to32;
 ghost use mathlib.Core.Path.{_≡_};
 ghost use Prim.Native.Nat.{_+_, _<_, _≤_};
 ghost use lib.ListN.{length, getD};
@@ -17,24 +20,6 @@ ghost use Rattle.walk.specs.Opened.{Visited};
 ghost use Rattle.walk.specs.Machine.{Finishing, Rooting, root-closed, chart, step, Closing, closed, Turning};
 ghost use Rattle.walk.specs.Turns.{stack-of, state-of};
 ghost use Rattle.walk.specs.Falls.{Falls, fallen, down, first-of, with-leaf, Linked};
-
-fn wide8(x: u8) -> usize
-    ensures { λ r. ⌜ r ≡ x ⌝ }
-{
-    x as usize
-}
-
-fn wide16(x: u16) -> usize
-    ensures { λ r. ⌜ r ≡ x ⌝ }
-{
-    x as usize
-}
-
-fn wide16to32(x: u16) -> u32
-    ensures { λ r. ⌜ r ≡ x ⌝ }
-{
-    x as u32
-}
 
 fn number(s: &[u8], i: usize) -> usize
     requires { ⌜ i < length (now s) ⌝ }

@@ -1,4 +1,6 @@
 // Whole numbers become natural ones here, moved up so that none is negative, and differences of natural numbers whole ones.
+pub mod numbers;
+
 ghost use mathlib.Core.Path.{_≡_};
 ghost use Prim.Native.Nat.{_<_, _^_};
 ghost use lib.ListN.{length, getD};

@@ -2,16 +2,16 @@
 use mathlib.Core.Path.{_≡_, refl}
 use mathlib.Core.Bool.{Bool, _&&_}
 use mathlib.Core.Logic.{_⊎_, inl, inr}
-use Prim.Native.Nat.{ℕ, zero, suc, _+_, _≤_, _<_}
+use Prim.Native.Nat.{ℕ, zero, suc, _+_, _≤_}
 use native.Mathlib.Omega.{arith}
 use native.Mathlib.Decide.{decLe}
 use lib.ListN.{length}
-use lib.Dec.{T, eqb, leb, ltb, ltb→lt, lt→ltb}
+use lib.Dec.{T, eqb, leb, ltb}
 use lib.IntN.{ℤ, pos, _+ℤ_, _-ℤ_}
 use lib.Signed.{_≤ℤ_, _<ℤ_, leZ, ltZ}
 use Rattle.whole.specs.laws.Whole.{whole, sum, diff, lt-or-le}
 use Rattle.whole.specs.Says.{Says, only, eqZ}
-use Rattle.whole.specs.laws.Says.{that-is, both, either, whenever, says-le, says-eq, says-leZ, says-ltZ, says-eqZ, same-test}
+use Rattle.whole.specs.laws.Says.{that-is, both, either, whenever, says-le, says-eq, says-leZ, says-ltZ, says-eqZ, same-test, says-lt}
 use Rattle.plan.specs.Limits.{farthest}
 use Rattle.plan.specs.laws.Lists.{at-less}
 use Rattle.plan.specs.Plan.{Table, Is, Sound, parent, children, W, D, within, subtree}
@@ -34,9 +34,6 @@ only-same e f = rw (e, f)
 
 and-same : {p q p′ q′ : Bool} → p ≡ p′ → q ≡ q′ → p && q ≡ p′ && q′
 and-same e f = rw (e, f)
-
-says-lt : (a b : ℕ) → Says (ltb a b) (a < b)
-says-lt a b = record { read = ltb→lt a b; show = lt→ltb a b }
 
 module _ (z w : ℤ) (m n : ℕ) (h : Lifts z m) (k : Lifts w n) where
   eq-lift : eqb m n ≡ eqZ z w

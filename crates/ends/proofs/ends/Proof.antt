@@ -53,19 +53,19 @@ add-moved c =
     let ok = endable _ _ _ _ (c .before .before .before .before .before .before .before .before .refuse .ensures) (c .before .before .before .before .before .before .if1 .left) in
     omega (arith, ok .few, ok .is, ok .room, c .before .before .before .parent-of .ensures .1)
 
-element-copy-out-wide8 : tie.Need-element-copy-out-wide8
-element-copy-out-wide8 c =
+element-copy-out-wide8to32 : tie.Need-element-copy-out-wide8to32
+element-copy-out-wide8to32 c =
     let ok = endable _ _ _ _ (c .before .before .before .before .before .before .before .before .refuse .ensures) (c .before .before .before .before .before .before .if1 .left) in
     omega (arith, ok .few, ok .is, ok .room, c .before .before .before .parent-of .ensures .1)
 
-wide8-requires : tie.Need-wide8-requires
-wide8-requires c κs = search needs
+wide8to32-requires : tie.Need-wide8to32-requires
+wide8to32-requires c κs = search needs
 
 moved-requires-2 : tie.Need-moved-requires-2
 moved-requires-2 c κs =
     let ok = endable _ _ _ _ (c .before .before .before .before .before .before .before .before .before .before .refuse .ensures) (c .before .before .before .before .before .before .before .before .if1 .left) in
     let lf : c .before .before .before .before .before .parent-of .result < c .before .before .before .before .before .before .before .before .before .before .before .args .t1 .count = omega (arith, ok .is, c .before .before .before .before .before .parent-of .ensures .1) in
-    (omega (arith, ok .is, ok .room, c .before .before .before .before .before .parent-of .ensures .1), ok .near .y _ lf, omega (arith, c .wide8 .ensures, depth-low _ (ok .fit) _ lf))
+    (omega (arith, ok .is, ok .room, c .before .before .before .before .before .parent-of .ensures .1), ok .near .y _ lf, omega (arith, c .wide8to32 .ensures, depth-low _ (ok .fit) _ lf))
 
 mul-moved-3 : tie.Need-mul-moved-3
 mul-moved-3 c =
@@ -111,9 +111,9 @@ returns-2 c =
     let ok = endable _ _ _ _ (c .before .before .before .before .before .before .before .before .before .before .before .before .before .before .before .refuse .ensures) (c .before .before .before .before .before .before .before .before .before .before .before .before .before .if1 .left) in
     let lf : c .before .before .before .before .before .before .before .before .before .before .parent-of .result < c .before .before .before .before .before .before .before .before .before .before .before .before .before .before .before .before .args .t1 .count = omega (arith, ok .is, c .before .before .before .before .before .before .before .before .before .before .parent-of .ensures .1) in
     let hw = width-low _ (ok .fit) in
-    joined-is _ (ok .fit) _ _ _ _ _ _ (ok .is) lf (c .before .before .before .before .before .before .before .before .before .before .parent-of .ensures .0) (c .before .before .before .before .before .before .before .before .half .ensures) (c .before .before .before .before .before .wide8 .ensures) (c .before .before .half2 .ensures)
+    joined-is _ (ok .fit) _ _ _ _ _ _ (ok .is) lf (c .before .before .before .before .before .before .before .before .before .before .parent-of .ensures .0) (c .before .before .before .before .before .before .before .before .half .ensures) (c .before .before .before .before .before .wide8to32 .ensures) (c .before .before .half2 .ensures)
     (moved-back _ (ok .near .x _ lf) _ _ (omega (arith, c .before .before .before .before .before .before .before .before .half .ensures, hw _ lf)) (c .before .before .before .before .before .before .before .moved .ensures))
-    (moved-back _ (ok .near .y _ lf) _ _ (omega (arith, c .before .before .before .before .before .wide8 .ensures, depth-low _ (ok .fit) _ lf)) (c .before .before .before .before .moved2 .ensures))
+    (moved-back _ (ok .near .y _ lf) _ _ (omega (arith, c .before .before .before .before .before .wide8to32 .ensures, depth-low _ (ok .fit) _ lf)) (c .before .before .before .before .moved2 .ensures))
     (moved-back _ (ok .near .x _ (ok .is)) _ _ (omega (arith, c .before .before .half2 .ensures, hw _ (ok .is))) (c .before .moved3 .ensures))
     (moved-back _ (ok .near .y _ (ok .is)) _ _ (omega arith) (c .moved4 .ensures))
     ∙ unless-none _ _ _ (c .before .before .before .before .before .before .before .before .before .before .before .before .before .before .before .refuse .ensures) (c .before .before .before .before .before .before .before .before .before .before .before .before .before .if1 .left)
@@ -132,8 +132,8 @@ ends-spec =
     moved-requires
     mul-moved-2
     add-moved
-    element-copy-out-wide8
-    wide8-requires
+    element-copy-out-wide8to32
+    wide8to32-requires
     moved-requires-2
     mul-moved-3
     mul-half-2

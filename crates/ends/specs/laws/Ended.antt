@@ -3,11 +3,9 @@ use mathlib.Core.Path.{_≡_, sym, _∙_, ap, subst}
 use mathlib.Core.List.{List}
 use Prim.Native.Nat.{ℕ, _<_}
 use native.Mathlib.Omega.{arith}
-use lib.Dec.{ltb, ltb→lt, lt→ltb}
 use lib.ListN.{length}
 use lib.IntN.{ℤ}
-use Rattle.whole.specs.Says.{Says}
-use Rattle.whole.specs.laws.Says.{both}
+use Rattle.whole.specs.laws.Says.{both, says-lt}
 use Rattle.plan.specs.declared.Columns.{Columns}
 use Rattle.plan.specs.declared.Refusal.{Refusal}
 use Rattle.plan.specs.Fit.{Fit}
@@ -19,9 +17,6 @@ use Rattle.plan.specs.Questions.{refusal, ends, ends-given}
 use Rattle.plan.specs.laws.Questions.{asked-yes, both-none}
 use Rattle.plan.specs.laws.Calls.{ends-refusal}
 use Rattle.plan.specs.laws.Fit.{lent-fit}
-
-says-lt : (a b : ℕ) → Says (ltb a b) (a < b)
-says-lt a b = record { read = ltb→lt a b; show = lt→ltb a b }
 
 -- what holds where no question refuses
 pub accepted : (t : Columns) (ps : List ℤ) (c : ℕ) → refusal ends (ends-given (table-of t) ps c) .number ≡ 0

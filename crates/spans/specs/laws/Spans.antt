@@ -6,9 +6,9 @@ use Prim.Native.Nat.{ℕ, zero, suc, _≤_, _<_}
 use native.Mathlib.Omega.{arith}
 use native.Mathlib.Decide.{decLt}
 use lib.ListN.{length, getD}
-use lib.Dec.{T, leb, ltb, ltb→lt, lt→ltb}
+use lib.Dec.{T, leb, ltb}
 use Rattle.whole.specs.Says.{Says}
-use Rattle.whole.specs.laws.Says.{that-is, both, says-le, same-test}
+use Rattle.whole.specs.laws.Says.{that-is, both, says-le, same-test, says-lt}
 use Rattle.plan.specs.Lists.{At}
 use Rattle.plan.specs.laws.Lists.{at-less, at-getD, Some, says-some}
 use Rattle.plan.specs.Plan.{Table, Is, Sound, parent, children, path, within, next, earlier}
@@ -18,9 +18,6 @@ use Rattle.plan.specs.laws.Siblings.{Earlier, says-earlier, Neighbours, says-ne
 use Rattle.rules.specs.Tests.{after-one, before-one}
 use Rattle.spans.specs.laws.Kin.{Kin, kin}
 use Rattle.spans.specs.Spans.{Spans}
-
-says-lt : (a b : ℕ) → Says (ltb a b) (a < b)
-says-lt a b = record { read = ltb→lt a b; show = lt→ltb a b }
 
 module _ (t : Table) (sound : Sound t) {first end from to : ℕ → ℕ} (sp : Spans t first end from to) where
   apart : (c i j p q : ℕ) → i < j → At (children t c) i p → At (children t c) j q → end p ≤ first q

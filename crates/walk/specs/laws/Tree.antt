@@ -6,9 +6,10 @@ use native.Mathlib.Nat.{zero-add, add-zero}
 use native.Mathlib.Omega.{arith}
 use lib.ListN.{length, getD}
 use Rattle.plan.specs.Lists.{At, total}
-use Rattle.plan.specs.Plan.{Table, Is, Sound, parent, children, path, level, subtree}
+use Rattle.plan.specs.Plan.{Table, Is, Sound, parent, children, level, subtree}
 use Rattle.plan.specs.laws.Plan.{child-read, child-place}
-use Rattle.plan.specs.laws.Paths.{Below, below-within, child-less, path-zero, path-suc}
+use Rattle.plan.specs.laws.Paths.{Below, below-within, child-less}
+use Rattle.plan.specs.laws.Trees.{level-suc}
 use Rattle.plan.specs.laws.Sums.{disjoint, total-parts}
 use Rattle.contours.specs.laws.Forest.{Forest, none, tree, Grown}
 use Rattle.folding.specs.laws.Lists.{at-get, get-past}
@@ -60,16 +61,11 @@ module _ (t : Table) (sound : Sound t) where
       omega arith
 
   pub level-child : (c i s : ℕ) → At (children t c) i s → level t s ≡ suc (level t c)
-  unfolding level
   level-child c i s h = go s (child-read t c i s h .low) (child-read t c i s h .of)
     where
-      path-level : (a : ℕ) → length (path t a) ≡ suc (level t a)
-      path-level zero = ap length (path-zero t sound)
-      path-level (suc m) = ap length (path-suc t sound m)
-
       go : (s : ℕ) → 1 ≤ s → parent t s ≡ c → level t s ≡ suc (level t c)
       go zero l e = absurd (omega arith)
-      go (suc m) l e = ap (λ (a : ℕ). length (path t a)) e ∙ path-level c
+      go (suc m) l e = level-suc t sound m ∙ ap (λ (a : ℕ). suc (level t a)) e
 
   pub sum-within : (f : ℕ → ℕ) {cs : List ℕ} {F : Forest} → Grown t cs F → ((i s : ℕ) → At cs i s → Is t s) → sum f F ≤ total (λ s. total f (subtree t s)) cs
   unfolding sum total

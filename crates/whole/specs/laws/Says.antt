@@ -2,8 +2,8 @@
 use mathlib.Core.Path.{_≡_, refl, sym}
 use mathlib.Core.Bool.{Bool, true, false, _&&_, _||_}
 use mathlib.Core.Logic.{_⊎_, inl, inr}
-use Prim.Native.Nat.{ℕ, _≤_}
-use lib.Dec.{T, eqb, leb, eqb→eq, eqb-refl, leb→le, le→leb}
+use Prim.Native.Nat.{ℕ, _≤_, _<_}
+use lib.Dec.{T, eqb, leb, ltb, eqb→eq, eqb-refl, leb→le, le→leb, ltb→lt, lt→ltb}
 use lib.IntN.{ℤ}
 use lib.Signed.{_≤ℤ_, _<ℤ_, leZ, ltZ, leZ-yes, ltZ-yes}
 use Rattle.whole.specs.laws.Whole.{whole}
@@ -33,6 +33,9 @@ whenever {b = false} {c} s r = record { read = λ h p. absurd (s .show p); show 
 
 pub says-le : (a b : ℕ) → Says (leb a b) (a ≤ b)
 says-le a b = record { read = leb→le a b; show = le→leb a b }
+
+pub says-lt : (a b : ℕ) → Says (ltb a b) (a < b)
+says-lt a b = record { read = ltb→lt a b; show = lt→ltb a b }
 
 pub says-eq : (a b : ℕ) → Says (eqb a b) (a ≡ b)
 says-eq a b = record { read = eqb→eq a b; show = λ e. rw e (eqb-refl b) }

@@ -20,17 +20,17 @@ mul-right c = search needs
 array-read-right : tie.Need-array-read-right Inv-loop μ-loop
 array-read-right c = search needs
 
-mul-wide : tie.Need-mul-wide Inv-loop μ-loop
-mul-wide c = search needs
+mul-wide16to32 : tie.Need-mul-wide16to32 Inv-loop μ-loop
+mul-wide16to32 c = search needs
 
-element-copy-out-wide : tie.Need-element-copy-out-wide Inv-loop μ-loop
-element-copy-out-wide c = search needs
+element-copy-out-wide16to32 : tie.Need-element-copy-out-wide16to32 Inv-loop μ-loop
+element-copy-out-wide16to32 c = search needs
 
-wide-requires : tie.Need-wide-requires Inv-loop μ-loop
-wide-requires c κs = search needs
+wide16to32-requires : tie.Need-wide16to32-requires Inv-loop μ-loop
+wide16to32-requires c κs = search needs
 
 add-right : tie.Need-add-right Inv-loop μ-loop
-add-right c = let h = c .before .before .before .loop .inv in omega (arith, c .before .before .before .before .pre .1 .short _ (c .before .before .loop-test .taken), wide-low (c .before .before .before .before .args .t1) (c .before .before .before .before .pre .0) (c .before .before .before .before .args .t2) (c .before .before .before .before .args .t3) (c .before .before .loop-test .taken) (c .wide .ensures))
+add-right c = let h = c .before .before .before .loop .inv in omega (arith, c .before .before .before .before .pre .1 .short _ (c .before .before .loop-test .taken), wide-low (c .before .before .before .before .args .t1) (c .before .before .before .before .pre .0) (c .before .before .before .before .args .t2) (c .before .before .before .before .args .t3) (c .before .before .loop-test .taken) (c .wide16to32 .ensures))
 
 mul-right-2 : tie.Need-mul-right-2 Inv-loop μ-loop
 mul-right-2 c = search needs
@@ -44,14 +44,14 @@ mul-base c = search needs
 array-read-base : tie.Need-array-read-base Inv-loop μ-loop
 array-read-base c = search needs
 
-element-copy-out-wide8 : tie.Need-element-copy-out-wide8 Inv-loop μ-loop
-element-copy-out-wide8 c = search needs
+element-copy-out-wide8to32 : tie.Need-element-copy-out-wide8to32 Inv-loop μ-loop
+element-copy-out-wide8to32 c = search needs
 
-wide8-requires : tie.Need-wide8-requires Inv-loop μ-loop
-wide8-requires c κs = search needs
+wide8to32-requires : tie.Need-wide8to32-requires Inv-loop μ-loop
+wide8to32-requires c κs = search needs
 
 add-base : tie.Need-add-base Inv-loop μ-loop
-add-base c = let h = c .before .before .before .before .before .loop .inv in omega (arith, c .before .before .before .before .before .before .pre .2 .short _ (c .before .before .before .before .loop-test .taken), deep-low (c .before .before .before .before .before .before .args .t1) (c .before .before .before .before .before .before .pre .0) (c .before .before .before .before .before .before .args .t2) (c .before .before .before .before .before .before .args .t3) (c .before .before .before .before .loop-test .taken) (c .wide8 .ensures))
+add-base c = let h = c .before .before .before .before .before .loop .inv in omega (arith, c .before .before .before .before .before .before .pre .2 .short _ (c .before .before .before .before .loop-test .taken), deep-low (c .before .before .before .before .before .before .args .t1) (c .before .before .before .before .before .before .pre .0) (c .before .before .before .before .before .before .args .t2) (c .before .before .before .before .before .before .args .t3) (c .before .before .before .before .loop-test .taken) (c .wide8to32 .ensures))
 
 mul-base-2 : tie.Need-mul-base-2 Inv-loop μ-loop
 mul-base-2 c = search needs
@@ -66,7 +66,7 @@ loop-less : tie.Need-loop-less Inv-loop μ-loop
 loop-less c = search needs
 
 loop-again : tie.Need-loop-again Inv-loop μ-loop
-loop-again c = edging-turns (c .before .before .before .before .before .before .args .t1) (c .before .before .before .before .before .before .pre .0) _ _ (c .before .before .before .before .before .loop .inv) (c .before .before .before .before .loop-test .taken) (c .before .before .wide .ensures) (c .wide8 .ensures)
+loop-again c = edging-turns (c .before .before .before .before .before .before .args .t1) (c .before .before .before .before .before .before .pre .0) _ _ (c .before .before .before .before .before .loop .inv) (c .before .before .before .before .loop-test .taken) (c .before .before .wide16to32 .ensures) (c .wide8to32 .ensures)
 
 returns : tie.Need-returns Inv-loop μ-loop
 returns c = let h = c .before .loop .inv in (made-all _ (h .rights) (h .high) (c .loop-test .left), made-all _ (h .bases) (h .high) (c .loop-test .left))
@@ -80,16 +80,16 @@ edges-of-spec =
     loop-holds
     mul-right
     array-read-right
-    mul-wide
-    element-copy-out-wide
-    wide-requires
+    mul-wide16to32
+    element-copy-out-wide16to32
+    wide16to32-requires
     add-right
     mul-right-2
     array-write-right
     mul-base
     array-read-base
-    element-copy-out-wide8
-    wide8-requires
+    element-copy-out-wide8to32
+    wide8to32-requires
     add-base
     mul-base-2
     array-write-base

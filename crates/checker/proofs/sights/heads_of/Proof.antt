@@ -14,14 +14,14 @@ abbrev μ-loop : tie.MeasureT-loop
 loop-holds : tie.Need-loop-holds Inv-loop μ-loop
 loop-holds c = heading-starts (c .args .t1) (c .pre .0) _
 
-mul-wide : tie.Need-mul-wide Inv-loop μ-loop
-mul-wide c = search needs
+mul-wide16to32 : tie.Need-mul-wide16to32 Inv-loop μ-loop
+mul-wide16to32 c = search needs
 
-element-copy-out-wide : tie.Need-element-copy-out-wide Inv-loop μ-loop
-element-copy-out-wide c = search needs
+element-copy-out-wide16to32 : tie.Need-element-copy-out-wide16to32 Inv-loop μ-loop
+element-copy-out-wide16to32 c = search needs
 
-wide-requires : tie.Need-wide-requires Inv-loop μ-loop
-wide-requires c κs = search needs
+wide16to32-requires : tie.Need-wide16to32-requires Inv-loop μ-loop
+wide16to32-requires c κs = search needs
 
 mul-parent : tie.Need-mul-parent Inv-loop μ-loop
 mul-parent c = search needs
@@ -54,7 +54,7 @@ loop-less : tie.Need-loop-less Inv-loop μ-loop
 loop-less c = search needs
 
 loop-again : tie.Need-loop-again Inv-loop μ-loop
-loop-again c = heading-turns (c .before .before .before .before .before .before .args .t1) (c .before .before .before .before .before .before .pre .0) _ (c .before .before .before .before .before .loop .inv) (c .before .before .before .before .loop-test .taken) (c .before .before .wide .ensures) (c .appointed .ensures)
+loop-again c = heading-turns (c .before .before .before .before .before .before .args .t1) (c .before .before .before .before .before .before .pre .0) _ (c .before .before .before .before .before .loop .inv) (c .before .before .before .before .loop-test .taken) (c .before .before .wide16to32 .ensures) (c .appointed .ensures)
 
 returns : tie.Need-returns Inv-loop μ-loop
 returns c = let h = c .before .loop .inv in (made-all _ (h .heads) (h .high) (c .loop-test .left), made-all _ (h .middles) (h .high) (c .loop-test .left))
@@ -66,9 +66,9 @@ heads-of-spec =
     Inv-loop
     μ-loop
     loop-holds
-    mul-wide
-    element-copy-out-wide
-    wide-requires
+    mul-wide16to32
+    element-copy-out-wide16to32
+    wide16to32-requires
     mul-parent
     array-write-parent
     element-copy-out-appointed

@@ -22,11 +22,11 @@ byte-requires-4 c κs = search needs
 pair-requires-2 : tie.Need-pair-requires-2
 pair-requires-2 c κs = search needs
 
-wide-requires : tie.Need-wide-requires
-wide-requires c κs = search needs
+wide8to16-requires : tie.Need-wide8to16-requires
+wide8to16-requires c κs = search needs
 
 returns : tie.Need-returns
-returns c = (read-old _ _ _ _ _ _ _ _ _ _ _ _ _ (c .before .before .before .before .before .before .before .before .before .before .before .before .pair .ensures .0) (c .before .before .before .before .before .before .before .before .before .before .before .before .pair .ensures .1) (c .before .before .before .before .before .before .before .before .before .before .byte .ensures .0) (c .before .before .before .before .before .before .before .before .before .before .byte .ensures .1) (c .wide .ensures ∙ c .before .before .before .before .before .before .before .before .byte2 .ensures .0) (c .before .before .before .before .before .before .before .before .byte2 .ensures .1) (c .before .before .before .before .before .before .byte3 .ensures .0) (c .before .before .before .before .before .before .byte3 .ensures .1) (c .before .before .before .before .byte4 .ensures .0) (c .before .before .before .before .byte4 .ensures .1) (c .before .before .pair2 .ensures .0), search needs)
+returns c = (read-old _ _ _ _ _ _ _ _ _ _ _ _ _ (c .before .before .before .before .before .before .before .before .before .before .before .before .pair .ensures .0) (c .before .before .before .before .before .before .before .before .before .before .before .before .pair .ensures .1) (c .before .before .before .before .before .before .before .before .before .before .byte .ensures .0) (c .before .before .before .before .before .before .before .before .before .before .byte .ensures .1) (c .wide8to16 .ensures ∙ c .before .before .before .before .before .before .before .before .byte2 .ensures .0) (c .before .before .before .before .before .before .before .before .byte2 .ensures .1) (c .before .before .before .before .before .before .byte3 .ensures .0) (c .before .before .before .before .before .before .byte3 .ensures .1) (c .before .before .before .before .byte4 .ensures .0) (c .before .before .before .before .byte4 .ensures .1) (c .before .before .pair2 .ensures .0), search needs)
 
 pub old-entry-spec : {M : Type 1} → statement M
 old-entry-spec =
@@ -38,5 +38,5 @@ old-entry-spec =
     byte-requires-3
     byte-requires-4
     pair-requires-2
-    wide-requires
+    wide8to16-requires
     returns)
