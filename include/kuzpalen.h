@@ -36,7 +36,7 @@ typedef struct {
     uint16_t width;        /* 1 to KUZPALEN_WIDEST */
     uint8_t depth;         /* 1 to 15 */
     uint8_t label_length;  /* the label: so many bytes of the file, */
-    uint16_t label_start;  /* from this one on. Only Read and Label look at the two label fields */
+    uint16_t label_start;  /* from this one on. Read writes the two label fields; no call that takes a table looks at them */
 } kuzpalen_record;
 
 typedef struct {
@@ -76,9 +76,9 @@ typedef struct {
 typedef struct {
     uint8_t number;
     uint16_t cell;
-    int32_t from_x;        /* under the parent's box */
+    int32_t from_x;        /* on the last row of the parent's box */
     int32_t from_y;
-    int32_t to_x;          /* on the cell's box */
+    int32_t to_x;          /* on the first row of the cell's box */
     int32_t to_y;
 } kuzpalen_ends_answer;
 

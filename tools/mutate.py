@@ -13,18 +13,16 @@ import tempfile
 from pathlib import Path
 
 ROOT = Path(__file__).resolve().parent.parent
-PLAN, PLAN_LAWS = "plan/specs/Plan.antt", "plan/specs/PlanLaws.antt"
-PLACEMENT, RULES, EXTENTS = "rules/specs/Placement.antt", "rules/specs/Rules.antt", "rules/specs/Extents.antt"
+PLAN, PLAN_LAWS = "plan/specs/Plan.antt", "plan/specs/laws/Plan.antt"
+PLACEMENT, RULES, EXTENTS = "rules/specs/Placement.antt", "rules/specs/Rules.antt", "rules/specs/laws/Extents.antt"
 VERDICT, TESTS = "rules/specs/Verdict.antt", "rules/specs/Tests.antt"
-VERDICT_LAWS, AGREEMENT = "rules/specs/VerdictLaws.antt", "rules/specs/Agreement.antt"
-CONTOUR, CONTOUR_LAWS = "layout/specs/Contour.antt", "layout/specs/ContourLaws.antt"
-SHEET, SHEET_LAWS, SPAN_LAWS = "layout/specs/Sheet.antt", "layout/specs/SheetLaws.antt", "layout/specs/SpanLaws.antt"
+VERDICT_LAWS, AGREEMENT = "rules/specs/laws/Verdict.antt", "rules/specs/laws/Agreement.antt"
+CONTOUR, CONTOUR_LAWS = "contours/specs/Contour.antt", "contours/specs/laws/Contour.antt"
+SHEET, SHEET_LAWS, SPAN_LAWS = "contours/specs/Sheet.antt", "contours/specs/laws/Sheet.antt", "contours/specs/laws/Spans.antt"
 
 PARTS = "max (max s3-ends s3-starts) (max s4 s5)"
 
 # a file, what stands there (text, or a pattern), what is put in its place; None: the file is removed
-DROP_JOIN = [("layout/specs/Lib.antt", "pub mod Join\n", ""), ("layout/specs/Join.antt", None, None)]
-
 
 def appoint(choice, rest):
     """Another appointed child: kind `choice` hangs from its first, all others from number `rest`. The code of it goes, since `least` does not stand on it."""
@@ -79,23 +77,23 @@ MUTATIONS = {
         (CONTOUR_LAWS, "  pub ends : greatest (o .right) + 1 ≤ d\n", ""),
         (CONTOUR_LAWS, "      ends = omega arith;\n", ""),
         (SPAN_LAWS, "        ends = omega arith;\n", ""),
-    ] + DROP_JOIN,
+    ],
     "the separation without S3's second half": [
         (CONTOUR, PARTS, "max s3-ends (max s4 s5)"),
         (CONTOUR_LAWS, "  pub starts : greatest (p .left) + 1 ≤ d\n", ""),
         (CONTOUR_LAWS, "      starts = omega arith;\n", ""),
-        (CONTOUR_LAWS, re.compile(r"→ v ≡ 0\n  unfolding lefts step separation\n.*?\n\n", re.S), "→ v ≡ v\n  lefts-next o os P X j v g h = refl\n\n"),
+        (CONTOUR_LAWS, re.compile(r"→ v ≡ 0\n  unfolding lefts stride separation\n.*?\n\n", re.S), "→ v ≡ v\n  lefts-next o os P X j v g h = refl\n\n"),
         (SPAN_LAWS, re.compile(r"module _ \(al : ℕ\) where\n.*?(?=  -- a box with its children)", re.S), "module _ (al : ℕ) where\n"),
         (SPAN_LAWS, "os .right) + 1 ≤ W + 1 + spans os", "os .right) + 1 ≤ greatest (contour al W D (offset al 0 os m) os .left) + greatest (contour al W D (offset al 0 os m) os .right) + 1"),
         (SPAN_LAWS, re.compile(r"  span W D m os =.*", re.S), "  span W D m os = omega arith\n"),
-    ] + DROP_JOIN,
+    ],
     "the separation without S4": [
         (CONTOUR, PARTS, "max (max s3-ends s3-starts) s5"),
         (CONTOUR_LAWS, "      rows = λ j r l a b. omega (arith, clash-at (o .right) (p .left) j r l a b);\n", ""),
         (CONTOUR_LAWS, "  pub rows : (j r l : ℕ) → At (o .right) j r → At (p .left) j l → r + l + 1 ≤ d\n", ""),
         (CONTOUR_LAWS, "omega (arith, clash-le (o .right) (p .left) d (h .rows))", "omega arith"),
         (SPAN_LAWS, "        rows = λ j r l a b. omega (arith, greatest-le (o .right) j r a, greatest-le (p .left) j l b);\n", ""),
-    ] + DROP_JOIN,
+    ],
     "the separation without S5": [
         (CONTOUR, PARTS, "max (max s3-ends s3-starts) (max s4 0)"),
         (CONTOUR_LAWS, "  pub overlap : greatest (o .right) + greatest (p .left) + 1 ≤ d + al\n", ""),
@@ -132,7 +130,7 @@ def refused(title, edits):
         apply(copy, edits)
         run = subprocess.run(["rt", "check", "least"], cwd=copy, capture_output=True, text=True)
         lines = (run.stdout + run.stderr).splitlines()
-    below = {n for n in ("whole", "plan", "rules", "layout") if any(l.startswith(f"rt: {n} proved") for l in lines)}
+    below = {n for n in ("whole", "plan", "rules", "contours") if any(l.startswith(f"rt: {n} proved") for l in lines)}
     errors = [re.sub(r"^.*/crates/", "", l) for l in lines if ": error: " in l and not re.search("was not admitted|not in scope", l)]
     good = len(below) == 4 and any(e.startswith("least/") for e in errors)
     print(f"{'refused by least' if good else 'NOT AS IT MUST BE'}: {title}")

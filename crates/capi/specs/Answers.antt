@@ -5,13 +5,13 @@ use Prim.Native.Nat.{ℕ}
 use lib.IntN.{ℤ, pos}
 use Rattle.plan.specs.Plan.{Table}
 use Rattle.plan.specs.declared.Record.{Record}
-use Rattle.drawing.specs.Laid.{Lays}
-use Rattle.drawing.specs.declared.Laid.{Laid}
-use Rattle.drawing.specs.declared.Laid.the-variants.{Sheet, Refused as Unlaid}
-use Rattle.verdict.specs.declared.Checked.{Checked}
-use Rattle.verdict.specs.declared.Checked.the-variants.{Kept, Broken, Refused as Unchecked}
-use Rattle.connectors.specs.declared.Ended.{Ended}
-use Rattle.connectors.specs.declared.Ended.the-variants.{Joined, Refused as Unended}
+use Rattle.layout.specs.Laid.{Lays}
+use Rattle.layout.specs.declared.Laid.{Laid}
+use Rattle.layout.specs.declared.Laid.the-variants.{Sheet, Refused as Unlaid}
+use Rattle.checker.specs.declared.Checked.{Checked}
+use Rattle.checker.specs.declared.Checked.the-variants.{Kept, Broken, Refused as Unchecked}
+use Rattle.ends.specs.declared.Ended.{Ended}
+use Rattle.ends.specs.declared.Ended.the-variants.{Joined, Refused as Unended}
 use Rattle.printing.specs.Printing.{Lists}
 use Rattle.printing.specs.declared.Listed.{Listed}
 use Rattle.printing.specs.declared.Listed.the-variants.{Text, Refused as Unlisted}
@@ -68,7 +68,7 @@ pub record Laying (t : Table) (al : ℕ) (s s′ : List ℕ) (ps ps′ : List �
   pub answers : r ≡ laid-answer laid
 
 -- a call of List, as `Lists` has it, with the struct for its answer
-pub record Listing (f out out′ : List ℕ) (r : ListAnswer) : Type 0 where
+pub record ListFilling (f out out′ : List ℕ) (r : ListAnswer) : Type 0 where
   pub listed : Listed
   pub lists : Lists f out out′ listed
   pub answers : r ≡ list-answer listed

@@ -1,16 +1,16 @@
 // The calls for programs in C and Rust: include/kuzpalen.h documents each. A lent buffer is a pointer and a length; an answer is a struct of numbers.
-use connectors::Ended;
-use drawing::Laid;
+use checker::Checked;
+use ends::Ended;
 use fitting::Fitted;
+use layout::Laid;
 use plan::Record;
 use printing::Listed;
-use verdict::Checked;
 ghost use mathlib.Core.Path.{_≡_};
 ghost use Rattle.plan.specs.Records.{«cells-of»};
 ghost use Rattle.planfile.specs.Reading.{«label-refusal», «label-part»};
-ghost use Rattle.verdict.specs.Checked.{«checked-of»};
-ghost use Rattle.connectors.specs.Ended.{«ended-of»};
-ghost use Rattle.capi.specs.Answers.{«read-answer», «laid-answer», «check-answer», «ends-answer», «list-answer», «frame-answer», Filling, Laying, Listing, Framing};
+ghost use Rattle.checker.specs.Checked.{«checked-of»};
+ghost use Rattle.ends.specs.Ended.{«ended-of»};
+ghost use Rattle.capi.specs.Answers.{«read-answer», «laid-answer», «check-answer», «ends-answer», «list-answer», «frame-answer», Filling, Laying, ListFilling, Framing};
 
 // Number and cell of the refusal, or 0 and 0; the number of cells and the allowance.
 #[repr(C)]
@@ -289,7 +289,7 @@ pub extern "C" fn kuzpalen_ends(table: &[Record], positions: &[i32], cell: usize
 
 #[no_mangle]
 pub extern "C" fn kuzpalen_list(file: &[u8], out: &mut [u8]) -> ListAnswer
-    ensures { λ r. ⌜ Listing (now (file .entry)) (now (out .entry)) (now (out .exit)) r ⌝ }
+    ensures { λ r. ⌜ ListFilling (now (file .entry)) (now (out .entry)) (now (out .exit)) r ⌝ }
 {
     let answer = engine::list(file, out);
     told_list(answer)

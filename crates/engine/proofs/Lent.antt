@@ -40,9 +40,9 @@ use denote.Triple.Walked.{says}
 use Rattle.plan.specs.Plan.{Table}
 use Rattle.plan.specs.Columns.{table-of}
 use Rattle.plan.specs.Records.{cells-of}
+use Rattle.records.specs.Apart.{lent-columns}
 use Rattle.plan.specs.declared.Record.{Record}
 use Rattle.plan.specs.declared.Columns.{Columns}
-use Rattle.records.specs.Apart.{lent-columns}
 use Rattle.plan.proofs.Record as Rec
 use Rattle.plan.proofs.Columns as B
 use Rattle.plan.proofs.Columns.Laws as B′

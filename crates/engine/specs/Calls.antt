@@ -16,32 +16,32 @@ use Rattle.plan.specs.declared.Record.{Record}
 use Rattle.rules.specs.Placement.{Placement, placed, width}
 use Rattle.rules.specs.Rules.{Keeps}
 use Rattle.rules.specs.Verdict.{Breaks}
-use Rattle.layout.specs.Sheet.{sheet}
+use Rattle.contours.specs.Sheet.{sheet}
 use Rattle.least.specs.Refusals.{YesSteps}
-use Rattle.least.specs.FirstNo as first
+use Rattle.least.specs.laws.FirstNo as first
 use Rattle.least.specs.FirstNo.{FirstNo}
 use Rattle.least.specs.Alike.{Alike, Twins}
-use Rattle.least.specs.Theorems.{NoLess}
+use Rattle.least.specs.NoLess.{NoLess}
 use Rattle.least.specs.Frame.{Least}
 use Rattle.least.specs.Worked.{sheets}
 use Rattle.planfile.specs.Format.{trailer-of, records-of}
 use Rattle.planfile.specs.Reading.{label-refusal}
-use Rattle.drawing.specs.Laid.{Lays}
-use Rattle.drawing.specs.Promised as promised
-use Rattle.drawing.specs.declared.Laid.{Laid}
-use Rattle.drawing.specs.declared.Laid.the-variants.{Sheet}
-use Rattle.drawing.specs.declared.Laid.the-variants as laid
-use Rattle.fitting.specs.Fitted.{Frames}
-use Rattle.fitting.specs.Promised as fitting
-use Rattle.fitting.specs.Promised.{AtMost}
+use Rattle.layout.specs.Laid.{Lays}
+use Rattle.layout.specs.laws.Promised as promised
+use Rattle.layout.specs.declared.Laid.{Laid}
+use Rattle.layout.specs.declared.Laid.the-variants.{Sheet}
+use Rattle.layout.specs.declared.Laid.the-variants as laid
+use Rattle.fitting.specs.Fitted.{Frames, AtMost}
+use Rattle.fitting.specs.laws.Promised as fitting
 use Rattle.fitting.specs.declared.Fitted.{Fitted}
 use Rattle.fitting.specs.declared.Fitted.the-variants as fitted
 use Rattle.fitting.specs.Worked as frames
-use Rattle.verdict.specs.Checked.{checked-of}
-use Rattle.verdict.specs.declared.Checked.the-variants.{Kept, Broken}
-use Rattle.verdict.specs.declared.Checked.the-variants as checked
-use Rattle.connectors.specs.Ended.{ended-of}
-use Rattle.connectors.specs.declared.Ended.the-variants as ended
+use Rattle.fitting.specs.laws.Worked as frames-laws
+use Rattle.checker.specs.Checked.{checked-of}
+use Rattle.checker.specs.declared.Checked.the-variants.{Kept, Broken}
+use Rattle.checker.specs.declared.Checked.the-variants as checked
+use Rattle.ends.specs.Ended.{ended-of}
+use Rattle.ends.specs.declared.Ended.the-variants as ended
 use Rattle.printing.specs.Printing.{Lists}
 use Rattle.printing.specs.declared.Listed.{Listed}
 use Rattle.printing.specs.declared.Listed.the-variants as listed
@@ -50,12 +50,12 @@ use Rattle.engine.specs.declared.ReadAnswer.the-variants.{Plan, Refused}
 use Rattle.engine.specs.Read.{read-refusal, Reads}
 use Rattle.engine.specs.Label.{label-of}
 use Rattle.engine.specs.Outcomes.{Gives, Judged, Listing}
-use Rattle.engine.specs.CheckLaws as checking
-use Rattle.engine.specs.LayoutLaws as laying
-use Rattle.engine.specs.ListLaws as listing
-use Rattle.engine.specs.ReadThen as then
-use Rattle.engine.specs.Demand as demand
-use Rattle.engine.specs.WorkedCalls as worked-calls
+use Rattle.engine.specs.laws.Check as checking
+use Rattle.engine.specs.laws.Layout as laying
+use Rattle.engine.specs.laws.List as listing
+use Rattle.engine.specs.laws.ReadThen as then
+use Rattle.engine.specs.laws.Demand as demand
+use Rattle.engine.specs.laws.WorkedCalls as worked-calls
 use Rattle.engine.specs.WorkedCalls.{called, due}
 
 -- ==== DEMAND 1: A CALL REFUSES BY THE FIRST "NO"
@@ -180,4 +180,4 @@ frame-least = fitting.allowance-least
 
 -- ◆E and ◆F in frames, the questions included.
 pub frame-worked : frames.Rows
-frame-worked = frames.worked
+frame-worked = frames-laws.worked

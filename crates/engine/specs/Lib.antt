@@ -1,12 +1,6 @@
 pub mod Read
-pub mod ReadLaws
 pub mod Label
-pub mod LentLaws
-pub mod Demand
 pub mod Outcomes
-pub mod CheckLaws
-pub mod LayoutLaws
-pub mod ListLaws
-pub mod ReadThen
 pub mod Calls
 pub mod WorkedCalls
+pub mod laws

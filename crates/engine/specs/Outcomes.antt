@@ -8,10 +8,10 @@ use Rattle.plan.specs.Limits.{scratch-size, listing-size}
 use Rattle.plan.specs.Plan.{Table}
 use Rattle.rules.specs.Placement.{Placement, width, rows}
 use Rattle.rules.specs.Rules.{Keeps}
-use Rattle.layout.specs.Sheet.{sheet}
+use Rattle.contours.specs.Sheet.{sheet}
 use Rattle.positions.specs.Written.{written}
-use Rattle.drawing.specs.declared.Laid.{Laid}
-use Rattle.drawing.specs.declared.Laid.the-variants.{Sheet}
+use Rattle.layout.specs.declared.Laid.{Laid}
+use Rattle.layout.specs.declared.Laid.the-variants.{Sheet}
 use Rattle.listing.specs.Printed.{Bytes}
 use Rattle.printing.specs.Printing.{text-of}
 use Rattle.printing.specs.declared.Listed.{Listed}

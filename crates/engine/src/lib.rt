@@ -1,24 +1,23 @@
 // THE CALLS, over lent records: no call asks anything of its caller.
-use connectors::Ended;
-use drawing::Laid;
+use checker::Checked;
+use ends::Ended;
 use fitting::Fitted;
+use layout::Laid;
 use plan::Record;
 use plan::Refusal;
 use planfile::Reading;
 use printing::Listed;
 use records::columns_of;
 use records::fill;
-use verdict::Checked;
 ghost use mathlib.Core.Path.{_≡_};
 ghost use Rattle.plan.specs.Records.{«cells-of»};
 ghost use Rattle.planfile.specs.Reading.{«label-refusal»};
-ghost use Rattle.drawing.specs.Laid.{Lays};
+ghost use Rattle.layout.specs.Laid.{Lays};
 ghost use Rattle.fitting.specs.Fitted.{Frames};
-ghost use Rattle.verdict.specs.Checked.{«checked-of»};
-ghost use Rattle.connectors.specs.Ended.{«ended-of»};
+ghost use Rattle.checker.specs.Checked.{«checked-of»};
+ghost use Rattle.ends.specs.Ended.{«ended-of»};
 ghost use Rattle.printing.specs.Printing.{Lists};
-ghost use Rattle.engine.specs.Read.{Reads};
-ghost use Rattle.engine.specs.ReadLaws.{«read-of»};
+ghost use Rattle.engine.specs.Read.{Reads, «read-of»};
 ghost use Rattle.engine.specs.Label.{«label-of»};
 
 // The number of cells and the allowance; or the refusal's number and cell.
@@ -80,7 +79,7 @@ pub fn layout(table: &[Record], allowance: u32, scratch: &mut [u32], positions: 
     ensures { λ r. ⌜ Lays (cells-of (now (table .entry))) allowance (now (scratch .entry)) (now (scratch .exit)) (now (positions .entry)) (now (positions .exit)) r ⌝ }
 {
     let t = columns_of(table);
-    drawing::layout(t, allowance, scratch, positions)
+    layout::layout(t, allowance, scratch, positions)
 }
 
 // Check: "kept" with width and rows, or "broken" with the lowest rule, then the lowest a, then the lowest b; or the refusal.
@@ -88,7 +87,7 @@ pub fn check(table: &[Record], positions: &[i32], allowance: u32) -> Checked
     ensures { λ r. ⌜ r ≡ checked-of (cells-of (now (table .entry))) (now (positions .entry)) allowance ⌝ }
 {
     let t = columns_of(table);
-    verdict::check(t, positions, allowance)
+    checker::check(t, positions, allowance)
 }
 
 // Ends: where the connector from a cell's parent to the cell begins and ends; or the refusal.
@@ -96,7 +95,7 @@ pub fn ends(table: &[Record], positions: &[i32], cell: usize) -> Ended
     ensures { λ r. ⌜ r ≡ ended-of (cells-of (now (table .entry))) (now (positions .entry)) cell ⌝ }
 {
     let t = columns_of(table);
-    connectors::ends(t, positions, cell)
+    ends::ends(t, positions, cell)
 }
 
 // List: the listing of a plan file, or the line of its refusal, is written into the output; its length, or the refusal of an output that is too short.

@@ -2,7 +2,7 @@
 use mathlib.Core.Path.{_≡_}
 use mathlib.Core.Bool.{cond}
 use mathlib.Core.List.{List, _++_}
-use Prim.Native.Nat.{ℕ}
+use Prim.Native.Nat.{ℕ, _≤_}
 use lib.ListN.{length, drop, replicate}
 use lib.Dec.{eqb}
 use Rattle.plan.specs.Limits.{scratch-size}
@@ -18,16 +18,22 @@ unfoldable pub told : Found → Fitted
 told nowhere = None
 told (found a) = Allowance a
 
-unfoldable pub answer : Table → (squares : ℕ) → Refusal → Fitted
-answer t squares r = cond (eqb (r .number) 0) (told (least-allowance t squares)) (Refused (r .number) (r .cell))
+unfoldable pub fitted-of : Table → (squares : ℕ) → Refusal → Fitted
+fitted-of t squares r = cond (eqb (r .number) 0) (told (least-allowance t squares)) (Refused (r .number) (r .cell))
 
 -- the lent scratch after it. Of an allowance, or of none: as Layout leaves it. Of a refusal: as it was
-unfoldable pub scratch-after : Fitted → List ℕ → List ℕ
-scratch-after (Allowance a) s = replicate scratch-size 0 ++ drop scratch-size s
-scratch-after None s = replicate scratch-size 0 ++ drop scratch-size s
-scratch-after (Refused k c) s = s
+unfoldable pub frame-scratch-after : Fitted → List ℕ → List ℕ
+frame-scratch-after (Allowance a) s = replicate scratch-size 0 ++ drop scratch-size s
+frame-scratch-after None s = replicate scratch-size 0 ++ drop scratch-size s
+frame-scratch-after (Refused k c) s = s
 
 -- a call of Frame: the answer, and the scratch before and after it
 pub record Frames (t : Table) (squares : ℕ) (s s′ : List ℕ) (r : Fitted) : Type 0 where
-  pub answers : r ≡ answer t squares (refusal frame (frame-given t squares (length s)))
-  pub scratch : s′ ≡ scratch-after r s
+  pub answers : r ≡ fitted-of t squares (refusal frame (frame-given t squares (length s)))
+  pub scratch : s′ ≡ frame-scratch-after r s
+
+-- an allowance of at most a is answered
+pub record AtMost (r : Fitted) (a : ℕ) : Type 0 where
+  pub b : ℕ
+  pub answers : r ≡ Allowance b
+  pub bound : b ≤ a

@@ -1,4 +1,3 @@
 pub mod Fitted
-pub mod FittedLaws
-pub mod Promised
 pub mod Worked
+pub mod laws

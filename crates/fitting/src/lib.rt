@@ -1,6 +1,6 @@
 // FRAME (document 02, E2): the least allowance whose sheet is no wider than a frame of so many squares, by halving.
-use drawing::clear;
-use drawing::place;
+use layout::clear;
+use layout::place;
 use plan::Columns;
 use plan::Refusal;
 use plan::limits::MOST_ALLOWANCE;
@@ -22,7 +22,7 @@ ghost use Rattle.plan.specs.Trees.{Column};
 ghost use Rattle.plan.specs.Columns.{table-of};
 ghost use Rattle.plan.specs.Questions.{refusal, frame, frame-given};
 ghost use Rattle.least.specs.Frame.{fits, least-allowance, found};
-ghost use Rattle.drawing.specs.LaidLaws.{Placeable};
+ghost use Rattle.layout.specs.Laid.{Placeable};
 ghost use Rattle.fitting.specs.Fitted.{told, Frames};
 
 // The least allowance that fits, or none that does; or the refusal's number and cell.

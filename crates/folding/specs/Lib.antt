@@ -1,4 +1,1 @@
-pub mod Fold
-pub mod Lists
-pub mod Held
-pub mod FoldLaws
+pub mod laws

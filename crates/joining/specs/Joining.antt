@@ -1,10 +1,8 @@
 -- A complete cell joins its parent: what becomes of the scratch and of the marks. Assumes nothing.
-use mathlib.Core.Path.{_≡_, refl}
 use mathlib.Core.List.{List}
 use mathlib.Core.Bool.{Bool, cond}
-use Prim.Native.Nat.{ℕ, zero, suc, _+_, _-_, _*_, _≤_, _<_, max, min}
-use native.Mathlib.Omega.{arith}
-use lib.ListN.{length, getD, set, length-set}
+use Prim.Native.Nat.{ℕ, zero, suc, _+_, _-_, _*_, _≤_, max, min}
+use lib.ListN.{length, getD, set}
 use lib.Dec.{ltb}
 use Rattle.plan.specs.Limits.{last-row, farthest}
 use Rattle.rows.specs.Rows.{row-size, Low, box-to, max-to, clash-to, upto-rows, beyond-rows}
@@ -14,8 +12,8 @@ pub record Memory : Type 0 where
   pub rows : List ℕ
   pub marks : List ℕ
 
-abbrev pub mem : List ℕ → List ℕ → Memory
-mem xs ms = record { rows = xs; marks = ms }
+abbrev pub memory-of : List ℕ → List ℕ → Memory
+memory-of xs ms = record { rows = xs; marks = ms }
 
 -- mark k of the cell c
 abbrev pub mark : List ℕ → ℕ → ℕ → ℕ
@@ -42,27 +40,27 @@ unfoldable pub completed : Memory → ℕ → ℕ → ℕ → ℕ → Memory
 completed m at c d w =
     let xs = box-to (m .rows) at w (d + 1) in
     let hs = height (m .marks) c d in
-    mem xs (four (m .marks) c (mark (m .marks) c 3 - mark (m .marks) c 2) (max-to xs at hs) (max-to xs (at + 1) hs) 0)
+    memory-of xs (four (m .marks) c (mark (m .marks) c 3 - mark (m .marks) c 2) (max-to xs at hs) (max-to xs (at + 1) hs) 0)
 
 -- the four parts of the separation: S3, S3, S4, S5
-unfoldable pub apart : Memory → ℕ → ℕ → ℕ → ℕ → ℕ → ℕ
-apart m at f c hs al =
+unfoldable pub settled-apart : Memory → ℕ → ℕ → ℕ → ℕ → ℕ → ℕ
+settled-apart m at f c hs al =
     max (max (mark (m .marks) f 1 + 1) (mark (m .marks) c 1 + 1))
     (max (clash-to (m .rows) at (mark (m .marks) f 2) (min (mark (m .marks) f 0) hs)) ((mark (m .marks) f 1 + mark (m .marks) c 1 + 1) - al))
 
 -- the first child: its rows become those of its parent
 abbrev pub settled-first : Memory → ℕ → ℕ → ℕ → ℕ → Memory
-settled-first m at f c hs = mem (upto-rows (m .rows) at 0 0 hs) (four (m .marks) f hs (mark (m .marks) c 2) 0 0)
+settled-first m at f c hs = memory-of (upto-rows (m .rows) at 0 0 hs) (four (m .marks) f hs (mark (m .marks) c 2) 0 0)
 
 -- a later child, g from the one before it, up to the appointed one or beyond it
 abbrev pub settled-by : Memory → ℕ → ℕ → ℕ → ℕ → Bool → ℕ → Memory
 settled-by m at f c hs beyond g =
-    mem (cond beyond (beyond-rows (m .rows) at (mark (m .marks) f 2 + g) hs) (upto-rows (m .rows) at (mark (m .marks) f 0) g (max (mark (m .marks) f 0) hs)))
+    memory-of (cond beyond (beyond-rows (m .rows) at (mark (m .marks) f 2 + g) hs) (upto-rows (m .rows) at (mark (m .marks) f 0) g (max (mark (m .marks) f 0) hs)))
     (four (noted (m .marks) c (mark (m .marks) f 3 + g)) f (max (mark (m .marks) f 0) hs) (mark (m .marks) c 2) (cond beyond (mark (m .marks) f 2 + g) 0) (mark (m .marks) f 3 + g))
 
 abbrev pub settled-at : Memory → ℕ → ℕ → ℕ → ℕ → ℕ → ℕ → ℕ → Memory
 settled-at m at f c hs zero apt al = settled-first m at f c hs
-settled-at m at f c hs (suc p) apt al = settled-by m at f c hs (ltb apt (suc p)) (apart m at f c hs al)
+settled-at m at f c hs (suc p) apt al = settled-by m at f c hs (ltb apt (suc p)) (settled-apart m at f c hs al)
 
 -- the child at the given place, where apt is the appointed one
 unfoldable pub settled : Memory → ℕ → ℕ → ℕ → ℕ → ℕ → ℕ → ℕ → Memory
@@ -97,34 +95,6 @@ pub record Siding (xs : List ℕ) (at hf hs past g : ℕ) : Type 0 where
   pub small-past : past ≤ farthest
   pub small-step : g ≤ 2 * farthest + 1
 
--- ---- the separation is small
-clash-low : (xs : List ℕ) (k x n : ℕ) → Low xs → clash-to xs k x n ≤ 2 * farthest + 1
-unfolding clash-to
-clash-low xs k x zero h = omega arith
-clash-low xs k x (suc n) h = omega (arith, clash-low xs k x n h, h (row-size * n + (k + 1)), h (row-size * n + (k + 2)))
-
-apart-low : (m : Memory) (at f c hs al : ℕ) → Settling m at f c hs → apart m at f c hs al ≤ 2 * farthest + 1
-unfolding apart
-apart-low m at f c hs al h = omega (arith, clash-low (m .rows) at (mark (m .marks) f 2) (min (mark (m .marks) f 0) hs) (h .low), h .edge, h .left)
-
-pub apart-found : (m : Memory) (at f c hs al : ℕ) {g : ℕ} → Settling m at f c hs → g ≡ apart m at f c hs al → (g ≡ apart m at f c hs al) × (g ≤ 2 * farthest + 1)
-apart-found m at f c hs al h e = (e, omega (arith, apart-low m at f c hs al h))
-
--- ---- a place is the first, or not
-pub at-first : (m : Memory) (at f c hs p apt al : ℕ) → p ≡ 0 → settled m at f c hs p apt al ≡ settled-first m at f c hs
-unfolding settled
-at-first m at f c hs p apt al e = rw e
-
-pub at-later : (m : Memory) (at f c hs p apt al : ℕ) → 0 < p → settled m at f c hs p apt al ≡ settled-by m at f c hs (ltb apt p) (apart m at f c hs al)
-unfolding settled
-at-later m at f c hs zero apt al l = absurd (omega arith)
-at-later m at f c hs (suc p) apt al l = refl
-
-pub length-four : (ms : List ℕ) (c m0 m1 m2 m3 : ℕ) → length (four ms c m0 m1 m2 m3) ≡ length ms
-length-four ms c m0 m1 m2 m3 = simp length-set
-
--- ---- the numbers that the code finds on its way
-pub later-found : (xs ms : List ℕ) (at f c hs : ℕ) (beyond : Bool) (al : ℕ) {g x h hf p past r all : ℕ} {xs′ ms₁ ms₂ : List ℕ} → g ≡ apart (mem xs ms) at f c hs al → x ≡ mark ms f 3 → h ≡ mark ms f 0
-    → hf ≡ h → p ≡ mark ms f 2 → xs′ ≡ cond beyond (beyond-rows xs at (p + g) hs) (upto-rows xs at hf g (max hf hs)) → past ≡ cond beyond (p + g) 0 → r ≡ mark ms c 2 → ms₁ ≡ noted ms c (x + g) → all ≡ max hf hs
-    → ms₂ ≡ four ms₁ f all r past (x + g) → mem xs′ ms₂ ≡ settled-by (mem xs ms) at f c hs beyond (apart (mem xs ms) at f c hs al)
-later-found xs ms at f c hs beyond al e₁ e₂ e₃ e₄ e₅ e₆ e₇ e₈ e₉ e₁₀ e₁₁ = rw (e₁₁, e₁₀, e₉, e₈, e₇, e₆, e₅, e₄, e₃, e₂, e₁)
+-- the child c is completed and joins its parent f at the place given
+abbrev pub finished : Memory → ℕ → ℕ → ℕ → ℕ → ℕ → ℕ → ℕ → ℕ → Memory
+finished m at f c d w place apt al = settled (completed m (at + 2) c d w) at f c (height (m .marks) c d) place apt al

@@ -1,5 +1,2 @@
 pub mod Joining
-pub mod Numbers
-pub mod MarkLaws
-pub mod Complete
-pub mod Settle
+pub mod laws

@@ -10,23 +10,18 @@
 use rows::box_rows;
 use rows::clash;
 use rows::column_max;
-use rows::greater;
 use rows::join_beyond;
 use rows::join_upto;
 use rows::less;
+use whole::numbers::greater;
+use whole::numbers::wide32;
 ghost use mathlib.Core.Path.{_≡_};
 ghost use mathlib.Core.Bool.{cond};
 ghost use Prim.Native.Nat.{_+_, _-_, _*_, _≤_, _<_, max, min};
 ghost use lib.ListN.{length};
 ghost use Rattle.plan.specs.Limits.{last-row, farthest};
 ghost use Rattle.rows.specs.Rows.{upto-rows, beyond-rows};
-ghost use Rattle.joining.specs.Joining.{mem, mark, four, noted, height, joined-rows, completed, apart, settled-first, settled-by, settled, Completing, Settling, Siding};
-
-fn wide32(x: u32) -> usize
-    ensures { λ r. ⌜ r ≡ x ⌝ }
-{
-    x as usize
-}
+ghost use Rattle.joining.specs.Joining.{«memory-of», mark, four, noted, height, joined-rows, completed, «settled-apart», settled-first, settled-by, settled, Completing, Settling, Siding};
 
 fn taller(a: usize, b: usize) -> usize
     ensures { λ r. ⌜ r ≡ max a b ⌝ }
@@ -79,8 +74,8 @@ fn note(marks: &mut [u32], c: usize, x: u32)
 
 // The cell c, of depth d and width w, is complete: its box is drawn over its joined rows, and its marks are made. Its number of rows.
 pub fn complete(rows: &mut [u32], marks: &mut [u32], at: usize, c: usize, d: usize, w: u32) -> usize
-    requires { ⌜ Completing (mem (now rows) (now marks)) at c d ⌝ }
-    ensures { λ r. ⌜ (mem (now (rows .exit)) (now (marks .exit)) ≡ completed (mem (now (rows .entry)) (now (marks .entry))) at c d w) × (r ≡ height (now (marks .entry)) c d) ⌝ }
+    requires { ⌜ Completing (memory-of (now rows) (now marks)) at c d ⌝ }
+    ensures { λ r. ⌜ (memory-of (now (rows .exit)) (now (marks .exit)) ≡ completed (memory-of (now (rows .entry)) (now (marks .entry))) at c d w) × (r ≡ height (now (marks .entry)) c d) ⌝ }
 {
     let hs = d + 1 + wide32(mark_of(marks, c, 0));
     let middle = mark_of(marks, c, 3) - mark_of(marks, c, 2);
@@ -101,8 +96,8 @@ fn separation(
     hs: usize,
     allowance: u32,
 ) -> u32
-    requires { ⌜ Settling (mem (now rows) (now marks)) at f c hs ⌝ }
-    ensures { λ r. ⌜ (r ≡ apart (mem (now (rows .entry)) (now (marks .entry))) at f c hs allowance) × (r ≤ 2 * farthest + 1) ⌝ }
+    requires { ⌜ Settling (memory-of (now rows) (now marks)) at f c hs ⌝ }
+    ensures { λ r. ⌜ (r ≡ settled-apart (memory-of (now (rows .entry)) (now (marks .entry))) at f c hs allowance) × (r ≤ 2 * farthest + 1) ⌝ }
 {
     let r = mark_of(marks, f, 1);
     let l = mark_of(marks, c, 1);
@@ -116,8 +111,8 @@ fn separation(
 
 // The first child c joins its parent f.
 fn settle_first(rows: &mut [u32], marks: &mut [u32], at: usize, f: usize, c: usize, hs: usize)
-    requires { ⌜ Settling (mem (now rows) (now marks)) at f c hs ⌝ }
-    ensures { λ _. ⌜ mem (now (rows .exit)) (now (marks .exit)) ≡ settled-first (mem (now (rows .entry)) (now (marks .entry))) at f c hs ⌝ }
+    requires { ⌜ Settling (memory-of (now rows) (now marks)) at f c hs ⌝ }
+    ensures { λ _. ⌜ memory-of (now (rows .exit)) (now (marks .exit)) ≡ settled-first (memory-of (now (rows .entry)) (now (marks .entry))) at f c hs ⌝ }
 {
     join_upto(rows, at, 0, 0, hs);
     let r = mark_of(marks, c, 2);
@@ -156,8 +151,8 @@ fn settle_later(
     beyond: bool,
     allowance: u32,
 )
-    requires { ⌜ Settling (mem (now rows) (now marks)) at f c hs ⌝ }
-    ensures { λ _. ⌜ mem (now (rows .exit)) (now (marks .exit)) ≡ settled-by (mem (now (rows .entry)) (now (marks .entry))) at f c hs beyond (apart (mem (now (rows .entry)) (now (marks .entry))) at f c hs allowance) ⌝ }
+    requires { ⌜ Settling (memory-of (now rows) (now marks)) at f c hs ⌝ }
+    ensures { λ _. ⌜ memory-of (now (rows .exit)) (now (marks .exit)) ≡ settled-by (memory-of (now (rows .entry)) (now (marks .entry))) at f c hs beyond (settled-apart (memory-of (now (rows .entry)) (now (marks .entry))) at f c hs allowance) ⌝ }
 {
     let g = separation(rows, marks, at, f, c, hs, allowance);
     let x = mark_of(marks, f, 3) + g;
@@ -180,8 +175,8 @@ pub fn settle(
     apt: usize,
     allowance: u32,
 )
-    requires { ⌜ Settling (mem (now rows) (now marks)) at f c hs ⌝ }
-    ensures { λ _. ⌜ mem (now (rows .exit)) (now (marks .exit)) ≡ settled (mem (now (rows .entry)) (now (marks .entry))) at f c hs place apt allowance ⌝ }
+    requires { ⌜ Settling (memory-of (now rows) (now marks)) at f c hs ⌝ }
+    ensures { λ _. ⌜ memory-of (now (rows .exit)) (now (marks .exit)) ≡ settled (memory-of (now (rows .entry)) (now (marks .entry))) at f c hs place apt allowance ⌝ }
 {
     if place == 0 {
         settle_first(rows, marks, at, f, c, hs);

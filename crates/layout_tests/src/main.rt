@@ -1,10 +1,10 @@
 // Layout on the worked sheets of document 01, its edges, and larger plans whose siblings are not numbered in preorder. A line for each: its
 // name, the answer, then of a sheet the x's of small plans or the checksum of all positions. "unclear" and "beyond" would tell of a scratch
 // that is not cleared and of a number written past the positions.
-use drawing::Laid;
-use drawing::layout;
 use io::print_decimal;
 use io::write_all;
+use layout::Laid;
+use layout::layout;
 use libc::STDOUT_FILENO;
 use plan::Columns;
 use whole::raise;

@@ -1,32 +1,11 @@
--- A call refuses nothing exactly where each question that it puts is answered yes. Assumes nothing.
-use mathlib.Core.Path.{_≡_, refl, ap, _∙_}
+-- The questions that a call puts, answered yes. Assumes nothing.
 use mathlib.Core.List.{List, [], _∷_}
-use mathlib.Core.Bool.{Bool, true, false, cond}
-use mathlib.Core.Logic.{_↔_}
-use Prim.Native.Nat.{ℕ, zero, suc, _+_, _≤_, _<_}
-use lib.ListN.{length}
+use Prim.Native.Nat.{ℕ}
 use lib.Dec.{T}
-use Rattle.whole.specs.Says.{itself, is-true}
-use Rattle.plan.specs.Lists.{mem, some, from}
+use Rattle.plan.specs.Lists.{mem}
 use Rattle.plan.specs.Plan.{Is}
 use Rattle.plan.specs.Questions as asked
-use Rattle.plan.specs.Questions.{Call, Given, Question, Step, once, each, layout, check, number, puts, sequence, none, or-else, at-each, ask, ask-all, take-step, take-steps, refusal}
-use Rattle.plan.specs.QuestionLaws.{both-none, each-none, each-same}
-use Rattle.plan.specs.CallLaws.{none-first, each-nothing}
-use Rattle.plan.specs.declared.Refusal.{Refusal}
-
--- ---- the first "no" of several
-abbrev pub Passes : Refusal → Type 0
-Passes r = r .number ≡ 0
-
--- no question has the number 0
-pub not-zero : (call : Call) → T (mem 0 (puts call)) → ⊥
-unfolding puts mem some from
-not-zero asked.read h = h
-not-zero asked.label h = h
-not-zero layout h = h
-not-zero check h = h
-not-zero asked.ends h = h
+use Rattle.plan.specs.Questions.{Call, Given, Question, Step, once, each, number, puts}
 
 module _ (call : Call) (g : Given) where
   abbrev pub Put : Question → Type 0
@@ -44,59 +23,3 @@ module _ (call : Call) (g : Given) where
   abbrev pub YesSteps : List Step → Type 0
   YesSteps [] = Unit {0}
   YesSteps (s ∷ ss) = YesStep s × YesSteps ss
-
-  pub ask-read : (q : Question) (c : ℕ) → Put q → Passes (ask call g q c) → T (asked.holds call g q c)
-  unfolding ask asked.asked
-  ask-read q c m h = go (asked.holds call g q c) refl h
-    where
-      go : (v : Bool) → asked.holds call g q c ≡ v → Passes (cond v none (record { number = number q; cell = c })) → T v
-      go true e h = tt
-      go false e h = absurd (not-zero call (rw h at m))
-
-  pub ask-show : (q : Question) (c : ℕ) → T (asked.holds call g q c) → ask call g q c ≡ none
-  unfolding ask asked.asked
-  ask-show q c h = rw (is-true (itself (asked.holds call g q c)) h, ask, asked.asked)
-
-  pub all-read : (qs : List Question) (c : ℕ) → Passes (ask-all call g qs c) → Yes qs c
-  unfolding ask-all
-  all-read [] c h = tt
-  all-read (q ∷ qs) c h = go (mem (number q) (puts call)) refl h (all-read qs c)
-    where
-      go : (v : Bool) → mem (number q) (puts call) ≡ v → Passes (cond v (or-else (ask call g q c) (ask-all call g qs c)) (ask-all call g qs c))
-          → (Passes (ask-all call g qs c) → Yes qs c) → Yes (q ∷ qs) c
-      go true e h more = let (a, b) = both-none (ask call g q c) _ h in (λ m. ask-read q c m a, more b)
-      go false e h more = (λ m. absurd (rw e at m), more h)
-
-  pub all-show : (qs : List Question) (c : ℕ) → Yes qs c → ask-all call g qs c ≡ none
-  unfolding ask-all
-  all-show [] c y = refl
-  all-show (q ∷ qs) c y = go (mem (number q) (puts call)) refl (all-show qs c (y .1))
-    where
-      go : (v : Bool) → mem (number q) (puts call) ≡ v → ask-all call g qs c ≡ none
-          → cond v (or-else (ask call g q c) (ask-all call g qs c)) (ask-all call g qs c) ≡ none
-      go true e r = rw (ask-show q c (y .0 (rw e tt)), r) (none-first none)
-      go false e r = r
-
-  pub step-read : (s : Step) → Passes (take-step call g s) → YesStep s
-  unfolding take-step
-  step-read (once q) h = all-read (q ∷ []) 0 h
-  step-read (each qs) h = λ c i. all-read qs c (each-none (ask-all call g qs) (length (g .table)) h c i)
-
-  pub step-show : (s : Step) → YesStep s → take-step call g s ≡ none
-  unfolding take-step
-  step-show (once q) y = all-show (q ∷ []) 0 y
-  step-show (each qs) y = each-same (ask-all call g qs) (λ _. none) (length (g .table)) (λ c i. all-show qs c (y c i)) ∙ each-nothing (λ _. none) 0 (length (g .table)) (λ _. refl)
-
-  pub steps-read : (ss : List Step) → Passes (take-steps call g ss) → YesSteps ss
-  unfolding take-steps
-  steps-read [] h = tt
-  steps-read (s ∷ ss) h = let (a, b) = both-none (take-step call g s) _ h in (step-read s a, steps-read ss b)
-
-  pub steps-show : (ss : List Step) → YesSteps ss → take-steps call g ss ≡ none
-  unfolding take-steps
-  steps-show [] y = refl
-  steps-show (s ∷ ss) y = rw (step-show s (y .0), steps-show ss (y .1)) (none-first none)
-
-  pub refusal-none : (refusal call g ≡ none) ↔ YesSteps sequence
-  unfolding refusal
-  refusal-none = (λ e. steps-read sequence (ap (λ (r : Refusal). r .number) e), steps-show sequence)

@@ -1,5 +1,4 @@
 pub mod Links
 pub mod Chain
 pub mod Build
-pub mod Built
-pub mod Linked
+pub mod laws

@@ -3,6 +3,8 @@
 use plan::Columns;
 use plan::kinds::appointed;
 use plan::limits::MOST_CELLS;
+use whole::numbers::wide16;
+use whole::numbers::wide16to32;
 ghost use mathlib.Core.Path.{_≡_};
 ghost use Prim.Native.Nat.{_+_, _-_, _*_, _≤_, _<_};
 ghost use lib.ListN.{length, getD};
@@ -10,23 +12,10 @@ ghost use Rattle.plan.specs.Columns.{table-of};
 ghost use Rattle.plan.specs.Fit.{Fit};
 ghost use Rattle.links.specs.Links.{link, Links};
 ghost use Rattle.links.specs.Chain.{«line-of», seek, «goes-on»};
-ghost use Rattle.links.specs.Built.{Built};
-ghost use Rattle.links.specs.Build.{chained, «number-one», counted, placed, Building, Seeking, Numbering, Counting, Appointing, Linking};
+ghost use Rattle.links.specs.Build.{Built, chained, «number-one», counted, placed, Building, Seeking, Numbering, Counting, Appointing, Linking};
 
 // Four links a cell.
 pub const LINKS: usize = 4 * MOST_CELLS;
-
-fn wide32(x: u16) -> u32
-    ensures { λ r. ⌜ r ≡ x ⌝ }
-{
-    x as u32
-}
-
-fn wide16(x: u16) -> usize
-    ensures { λ r. ⌜ r ≡ x ⌝ }
-{
-    x as usize
-}
 
 // Link k of the cell c: its first child, its next sibling (0: none), its place among its siblings, the place of its appointed child.
 pub fn link_of(links: &[u16], c: usize, k: usize) -> usize
@@ -55,7 +44,7 @@ fn count_of(links: &[u16], c: usize) -> u32
     requires { ⌜ 4 * c + 4 ≤ length (now links) ⌝ }
     ensures { λ r. ⌜ r ≡ link (now (links .entry)) c 3 ⌝ }
 {
-    wide32(links[4 * c + 3])
+    wide16to32(links[4 * c + 3])
 }
 
 // The cell that a link leads to (0: none).

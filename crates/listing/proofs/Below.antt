@@ -10,12 +10,13 @@ use lib.Signed.{_<ℤ_, _≤ℤ_, nonNeg, ltZ}
 use mir.Syntax.{w32}
 use mir.Val.{toZ, ofZ, Fits, SFits}
 use mir.ValLaws.{toZ-ofZ}
-use Rattle.whole.specs.Whole.{whole, minus, plus, narrow, not-lt, sum, diff}
-use Rattle.whole.specs.Says.{holds, fails, says-ltZ}
-use Rattle.whole.proofs.Machine.{fits32}
+use Rattle.whole.specs.Whole.{minus, plus}
+use Rattle.whole.specs.laws.Whole.{whole, narrow, not-lt, sum, diff}
+use Rattle.whole.specs.laws.Says.{holds, fails, says-ltZ}
 use Rattle.listing.specs.Printed.{signed, minus-sign, decimal}
 use Rattle.listing.specs.Put.{Put}
-use Rattle.listing.specs.PutLaws.{then}
+use Rattle.listing.specs.laws.Put.{then}
+use Rattle.whole.proofs.Machine.{fits32}
 
 -- x as the machine reads it back, and x + 1, and −(x + 1)
 abbrev back : ℤ → ℤ

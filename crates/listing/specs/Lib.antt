@@ -1,7 +1,5 @@
 pub mod Printed
-pub mod PrintedLaws
-pub mod LineLaws
 pub mod Line
 pub mod Put
-pub mod PutLaws
 pub mod Examples
+pub mod laws

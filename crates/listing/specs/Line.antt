@@ -1,8 +1,8 @@
 -- A LINE AS THE CODE HAS IT. Assumes nothing.
-use mathlib.Core.List.{_++_}
+use mathlib.Core.List.{_++_, [], _∷_}
 use Prim.Native.Nat.{ℕ, _-_}
 use lib.ListN.{length, replicate}
-use Rattle.listing.specs.Printed.{Bytes}
+use Rattle.listing.specs.Printed.{Bytes, space}
 use Rattle.listing.specs.declared.Line.{Line}
 
 -- bytes of a line's buffer: none of the three lines has more than 98
@@ -12,3 +12,8 @@ line-size = 128
 -- the text, and zeros after it
 unfoldable pub line-of : Bytes → Line
 line-of text = record { bytes = text ++ replicate (line-size - length text) 0; length = length text }
+
+-- a label with its space; an empty one and its space are dropped
+unfoldable pub spaced : Bytes → Bytes
+spaced [] = []
+spaced (b ∷ bs) = space ∷ b ∷ bs

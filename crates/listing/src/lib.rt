@@ -8,9 +8,8 @@ ghost use lib.Signed.{_<ℤ_};
 ghost use Rattle.whole.specs.Whole.{minus};
 ghost use Rattle.plan.specs.Limits.{«most-label»};
 ghost use Rattle.listing.specs.Printed.{space, decimal, signed, «sheet-line», «cell-line», «refused-line»};
-ghost use Rattle.listing.specs.LineLaws.{spaced};
+ghost use Rattle.listing.specs.Line.{spaced, «line-size», «line-of»};
 ghost use Rattle.listing.specs.Put.{Put};
-ghost use Rattle.listing.specs.Line.{«line-size», «line-of»};
 
 // Bytes of a line's buffer: no line has more than 98.
 pub const LINE_SIZE: usize = 128;

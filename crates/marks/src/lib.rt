@@ -6,7 +6,7 @@ use plan::limits::MOST_CELLS;
 use walk::walk;
 ghost use mathlib.Core.Path.{_≡_};
 ghost use Rattle.plan.specs.Columns.{table-of};
-ghost use Rattle.joining.specs.Joining.{mem};
+ghost use Rattle.joining.specs.Joining.{«memory-of»};
 ghost use Rattle.marks.specs.Marks.{Markable, Marked, Toured};
 
 // Four marks a cell.
@@ -23,7 +23,7 @@ pub fn marks_of(
 )
     requires { ⌜ Markable t (now tops) (now rows) (now marks) ⌝ }
     ensures { λ _. ⌜ (now (rows .exit) ≡ now (rows .entry)) × Marked (table-of t) allowance (now (marks .exit)) ⌝ }
-    ensures { λ _. ⌜ Toured (table-of t) (mem (now (rows .entry)) (now (marks .entry))) (mem (now (rows .exit)) (now (marks .exit))) ⌝ }
+    ensures { λ _. ⌜ Toured (table-of t) (memory-of (now (rows .entry)) (now (marks .entry))) (memory-of (now (rows .exit)) (now (marks .exit))) ⌝ }
 {
     let links = links_of(t);
     walk(&links, &t.width, &t.depth, tops, allowance, rows, marks);

@@ -3,7 +3,7 @@ use mathlib.Core.List.{List, map}
 use Prim.Native.Nat.{ℕ}
 use lib.ListN.{getD}
 use Rattle.plan.specs.Lists.{from}
-use Rattle.plan.specs.Plan.{Cell, Table}
+use Rattle.plan.specs.Plan.{Table}
 use Rattle.plan.specs.declared.Columns.{Columns}
 
 -- n cells, with these parents, kinds, widths, depths and ranks

@@ -1,12 +1,12 @@
 -- Document 01, "Calls and their questions", with document 02's questions: THE sequence, what each asks, and which of them each call puts.
 -- A call's refusal is the first "no". Every definition computes. Assumes nothing.
 use mathlib.Core.List.{List, [], _∷_, _++_}
-use mathlib.Core.Bool.{Bool, true, false, _&&_, not, cond}
+use mathlib.Core.Bool.{Bool, true, false, _&&_, cond}
 use Prim.Native.Nat.{ℕ, zero, suc, _+_, _*_}
 use lib.ListN.{length, getD}
 use lib.Dec.{eqb, leb, ltb}
 use lib.IntN.{ℤ, pos}
-use Rattle.whole.specs.Range.{within}
+use Rattle.whole.specs.Range.{in-range}
 use Rattle.plan.specs.Limits.{between, most-cells, most-width, most-depth, most-level, last-row, most-allowance, farthest, scratch-size, listing-size, least-file, most-file, trailer-size, first-letter, last-letter, most-label, no-parent}
 use Rattle.plan.specs.Forms.{marked, form-of, record-size, widest}
 use Rattle.plan.specs.Lists.{from, mem}
@@ -159,8 +159,8 @@ every test (v ∷ vs) = let r = every test vs in cond (test v) r false
 abbrev pub no-label : Label
 no-label = record { start = 0; size = 0 }
 
-abbrev pub label-of : File → ℕ → Label
-label-of f c = getD (f .labels) c no-label
+abbrev pub label-at : File → ℕ → Label
+label-at f c = getD (f .labels) c no-label
 
 -- question 6: is p a parent for cell c, 65,535 for cell 0, else less than the cell's own number
 unfoldable pub lower : ℕ → ℕ → Bool
@@ -177,7 +177,7 @@ sized m w d = between 1 m w && between 1 most-depth d
 
 -- question 15, for one number
 unfoldable pub near : ℤ → Bool
-near z = within farthest z
+near z = in-range farthest z
 
 -- question 16: is cell c one of n, and not the root where the root may not be named
 unfoldable pub in-table : (root : Bool) → (n : ℕ) → Subject → Bool
@@ -206,8 +206,8 @@ module _ (call : Call) (g : Given) where
   holds kind-known c = known (kind (g .table) c)
   holds box-sized c = sized (widest-in (g .source)) (W (g .table) c) (D (g .table) c)
   holds label-inside c =
-      in-file (g .source) (λ f. leb (label-of f c .size) most-label && leb (label-of f c .start + label-of f c .size) (f .begin))
-  holds label-fits c = in-file (g .source) (λ f. bordered (kind (g .table) c) (label-of f c .size) (W (g .table) c))
+      in-file (g .source) (λ f. leb (label-at f c .size) most-label && leb (label-at f c .start + label-at f c .size) (f .begin))
+  holds label-fits c = in-file (g .source) (λ f. bordered (kind (g .table) c) (label-at f c .size) (W (g .table) c))
   holds children-allowed c = allows (kind (g .table) c) (length (children (g .table) c))
   holds level-low c = leb (level (g .table) c) most-level
   holds rows-few c = leb (row (g .table) c + D (g .table) c) last-row

@@ -2,7 +2,7 @@
 use crate::limits::MOST_CHILDREN;
 use crate::limits::between;
 ghost use mathlib.Core.Path.{_≡_};
-ghost use Prim.Native.Nat.{ℕ, _^_, _<_};
+ghost use Prim.Native.Nat.{_^_, _<_};
 ghost use Rattle.plan.specs.Plan.{appointed};
 ghost use Rattle.plan.specs.Kinds.{about, known, allows, bordered};
 

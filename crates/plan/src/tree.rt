@@ -2,8 +2,8 @@
 use crate::limits::MOST_CELLS;
 ghost use mathlib.Core.Path.{_≡_};
 ghost use mathlib.Core.List.{List};
-ghost use Prim.Native.Nat.{ℕ, _+_, _≤_, _<_};
-ghost use lib.ListN.{length, getD, replicate};
+ghost use Prim.Native.Nat.{ℕ, _+_, _<_};
+ghost use lib.ListN.{length, replicate};
 ghost use Rattle.plan.specs.Limits.{«most-cells»};
 ghost use Rattle.plan.specs.Plan.{children, level, row};
 ghost use Rattle.plan.specs.Columns.{table};

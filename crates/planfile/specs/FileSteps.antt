@@ -12,7 +12,6 @@ use Rattle.plan.specs.Columns.{table-of}
 use Rattle.plan.specs.Kinds.{bordered}
 use Rattle.plan.specs.Questions.{none, asked, or-else, at-each, every}
 use Rattle.plan.specs.Steps.{cell-refusal, tree-refusal}
-use Rattle.plan.specs.declared.Record.{Record}
 use Rattle.plan.specs.declared.Refusal.{Refusal}
 use Rattle.plan.specs.declared.forms.Form.{Form}
 use Rattle.plan.specs.declared.forms.Form.the-variants.{Old}

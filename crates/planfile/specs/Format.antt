@@ -6,7 +6,7 @@ use Rattle.plan.specs.Limits.{trailer-size}
 use Rattle.plan.specs.Forms.{form-of, record-size}
 use Rattle.plan.specs.Lists.{from}
 use Rattle.plan.specs.Records.{cells-of}
-use Rattle.plan.specs.Questions.{Buffer, absent, Subject, Label, File, file, Given}
+use Rattle.plan.specs.Questions.{Buffer, absent, Subject, Label, file, Given}
 use Rattle.plan.specs.declared.Record.{Record}
 use Rattle.plan.specs.declared.forms.Form.{Form}
 use Rattle.plan.specs.declared.forms.Form.the-variants.{Old, Wide}

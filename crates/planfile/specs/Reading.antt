@@ -1,9 +1,9 @@
 -- What Read and Label answer. Assumes nothing.
 use mathlib.Core.List.{List, [], _∷_}
-use mathlib.Core.Bool.{Bool, cond}
+use mathlib.Core.Bool.{cond}
 use Prim.Native.Nat.{ℕ, zero, suc, _+_}
 use lib.Dec.{eqb}
-use lib.ListN.{getD, set, replicate}
+use lib.ListN.{set, replicate}
 use Rattle.plan.specs.Limits.{most-cells}
 use Rattle.plan.specs.Questions.{to-fill, nothing, named, none, read, label, refusal}
 use Rattle.plan.specs.declared.Record.{Record}

@@ -1,12 +1,13 @@
 // The reading place: each field that is read moves it on and hands it back.
 use plan::Record;
 use plan::forms::Form;
+use whole::numbers::wide8to16;
 ghost use mathlib.Core.Path.{_≡_};
-ghost use Prim.Native.Nat.{ℕ, _+_, _*_, _≤_, _<_};
+ghost use Prim.Native.Nat.{_+_, _*_, _≤_, _<_};
 ghost use lib.ListN.{length, getD};
 ghost use Rattle.plan.specs.Limits.{«old-size», «wide-size»};
 ghost use Rattle.plan.specs.Forms.{«record-size»};
-ghost use Rattle.planfile.specs.Format.{pair, «trailer-of», «record-at»};
+ghost use Rattle.planfile.specs.Format.{pair, «record-at»};
 
 pub struct Cursor {
     pub at: usize,
@@ -27,12 +28,6 @@ pub struct Pair {
 pub struct Entry {
     pub fields: Record,
     pub next: Cursor,
-}
-
-fn wide(x: u8) -> u16
-    ensures { λ r. ⌜ r ≡ x ⌝ }
-{
-    x as u16
 }
 
 // A number of two bytes.
@@ -88,7 +83,7 @@ impl Cursor {
         let fields = Record {
             parent: parent.value,
             kind: kind.value,
-            width: wide(width.value),
+            width: wide8to16(width.value),
             depth: depth.value,
             rank: 0,
             label_length: label_length.value,

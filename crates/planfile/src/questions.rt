@@ -25,13 +25,10 @@ use plan::questions::cell_refusal;
 use plan::questions::or_else;
 use plan::questions::tree_refusal;
 ghost use mathlib.Core.Path.{_≡_};
-ghost use mathlib.Core.List.{List};
-ghost use mathlib.Core.Bool.{Bool, true, false, _&&_};
-ghost use Prim.Native.Nat.{ℕ, _+_, _*_, _^_, _≤_, _<_};
-ghost use lib.Dec.{leb, eqb};
-ghost use lib.ListN.{length, getD, take};
+ghost use mathlib.Core.Bool.{true, false};
+ghost use Prim.Native.Nat.{_+_, _*_, _^_, _≤_, _<_};
+ghost use lib.ListN.{length, take};
 ghost use Rattle.plan.specs.Limits.{between, «first-letter», «last-letter», «least-file», «most-file», «most-cells»};
-ghost use Rattle.plan.specs.Forms.{«record-size»};
 ghost use Rattle.plan.specs.Questions.{every, «at-each»};
 ghost use Rattle.planfile.specs.FileSteps.{inside, counted, «record-refusal», «records-at», «header-refusal», «columns-refusal», «blank-reading», examined};
 

@@ -1,5 +1,3 @@
 pub mod Written
-pub mod WrittenLaws
 pub mod Raised
-pub mod RaisedLaws
-pub mod Measured
+pub mod laws

@@ -5,6 +5,9 @@ use Prim.Native.Nat.{ℕ, _*_, _≤_, _<_}
 use lib.ListN.{getD}
 use lib.IntN.{ℤ, pos, _+ℤ_}
 use Rattle.plan.specs.Limits.{farthest, most-cells}
+use Rattle.plan.specs.Plan.{Table}
+use Rattle.plan.specs.Fit.{Fit}
+use Rattle.marks.specs.Marks.{Marked}
 
 -- n natural numbers, each an x from −65,535 to 65,535 moved up by 65,535
 pub record Raised (xs : List ℕ) (n : ℕ) (x : ℕ → ℤ) : Type 0 where
@@ -19,3 +22,9 @@ pub record High (xs : List ℕ) (n : ℕ) : Type 0 where
 -- n rows, each a y
 pub record Topped (ts : List ℕ) (n : ℕ) (y : ℕ → ℤ) : Type 0 where
   pub each : (c : ℕ) → c < n → pos (getD ts c 0) ≡ y c
+
+-- what is drawn: a table that no question refuses, and its marks under some allowance
+pub record Raising (t : Table) (ms : List ℕ) : Type 0 where
+  pub allowance : ℕ
+  pub fit : Fit t
+  pub marks : Marked t allowance ms

@@ -5,29 +5,24 @@ use marks::MARKS;
 use plan::Columns;
 use plan::limits::FARTHEST;
 use plan::limits::MOST_CELLS;
-use rows::greater;
 use whole::difference;
+use whole::numbers::greater;
+use whole::numbers::lesser;
+use whole::numbers::wide16;
 ghost use mathlib.Core.Path.{_≡_};
 ghost use mathlib.Core.List.{List};
-ghost use Prim.Native.Nat.{ℕ, _+_, _-_, _*_, _^_, _≤_, _<_, min};
+ghost use Prim.Native.Nat.{ℕ, _+_, _-_, _*_, _^_, _≤_, _<_};
 ghost use lib.ListN.{length, getD, set};
 ghost use lib.IntN.{pos, _-ℤ_};
 ghost use Rattle.plan.specs.Limits.{farthest, «most-cells»};
-ghost use Rattle.plan.specs.Plan.{Sound, row, bottom};
+ghost use Rattle.plan.specs.Plan.{Sound, row, «dictated-bottom»};
 ghost use Rattle.plan.specs.Columns.{table, «table-of»};
 ghost use Rattle.plan.specs.Trees.{Column};
 ghost use Rattle.rules.specs.Placement.{Placement, width};
-ghost use Rattle.layout.specs.Sheet.{sheet};
+ghost use Rattle.contours.specs.Sheet.{sheet};
 ghost use Rattle.positions.specs.Written.{written};
 ghost use Rattle.marks.specs.Marks.{Marked};
-ghost use Rattle.positions.specs.Raised.{Raised, High, Topped};
-ghost use Rattle.positions.specs.RaisedLaws.{Raising};
-
-fn wide(x: u16) -> usize
-    ensures { λ r. ⌜ r ≡ x ⌝ }
-{
-    x as usize
-}
+ghost use Rattle.positions.specs.Raised.{Raised, High, Topped, Raising};
 
 fn wide32(x: u16) -> u32
     ensures { λ r. ⌜ (r ≡ x) × (r < 2 ^ 16) ⌝ }
@@ -41,18 +36,12 @@ fn wide8(x: u8) -> u32
     x as u32
 }
 
-fn lesser(a: u32, b: u32) -> u32
-    ensures { λ r. ⌜ r ≡ min a b ⌝ }
-{
-    if a < b { a } else { b }
-}
-
 // The parent of a cell.
 fn parent_of(parents: &[u16; MOST_CELLS], c: usize) -> usize
     requires { ⌜ c < most-cells ⌝ }
     ensures { λ r. ⌜ r ≡ getD (now (parents .entry)) c 0 ⌝ }
 {
-    wide(parents[c])
+    wide16(parents[c])
 }
 
 // The x of each cell: its parent's, and its distance from its first sibling less that of the appointed one.
@@ -148,7 +137,7 @@ fn last_row(tops: &[u16; MOST_CELLS], depths: &[u8; MOST_CELLS], c: usize) -> u3
 // The last row of all, and one.
 pub fn sheet_rows(tops: &[u16; MOST_CELLS], depths: &[u8; MOST_CELLS], n: usize) -> u32
     requires { ⌜ (1 ≤ n) × (n ≤ most-cells) ⌝ }
-    ensures { λ r. ⌜ ((ps ks ws qs : List ℕ) → Sound (table ps ks ws (now (depths .entry)) qs n) → Column (now (tops .entry)) n (row (table ps ks ws (now (depths .entry)) qs n)) → r ≡ bottom (table ps ks ws (now (depths .entry)) qs n) 0 + 1) ⌝ }
+    ensures { λ r. ⌜ ((ps ks ws qs : List ℕ) → Sound (table ps ks ws (now (depths .entry)) qs n) → Column (now (tops .entry)) n (row (table ps ks ws (now (depths .entry)) qs n)) → r ≡ dictated-bottom (table ps ks ws (now (depths .entry)) qs n) 0 + 1) ⌝ }
 {
     let mut last = last_row(tops, depths, 0);
     let mut c: usize = 1;

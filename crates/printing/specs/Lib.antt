@@ -1,4 +1,3 @@
 pub mod Printing
-pub mod PrintingLaws
-pub mod TakenLaws
 pub mod Example
+pub mod laws

@@ -14,7 +14,7 @@ use Rattle.plan.specs.Columns.{table-of}
 use Rattle.plan.specs.Questions.{list, list-given, refusal}
 use Rattle.plan.specs.declared.Refusal.{Refusal}
 use Rattle.rules.specs.Placement.{Placement, placed, Agree, width, rows}
-use Rattle.layout.specs.Sheet.{sheet}
+use Rattle.contours.specs.Sheet.{sheet}
 use Rattle.planfile.specs.declared.Reading.{Reading}
 use Rattle.planfile.specs.Reading.{reading-of, label-part}
 use Rattle.listing.specs.Printed.{Bytes, sheet-line, cell-line, refused-line}
@@ -24,45 +24,45 @@ use Rattle.printing.specs.declared.Listed.{Listed}
 use Rattle.printing.specs.declared.Listed.the-variants.{Text, Refused}
 
 -- the bytes of a cell's label
-abbrev pub label-of : Bytes → (cell : ℕ) → Bytes
-label-of f c = take (label-part f c .end - label-part f c .start) (drop (label-part f c .start) f)
+abbrev pub label-bytes : Bytes → (cell : ℕ) → Bytes
+label-bytes f c = take (label-part f c .end - label-part f c .start) (drop (label-part f c .start) f)
 
 -- the table of a plan that is read, and our sheet for it
-abbrev pub cells : Reading → Table
-cells p = table-of (p .columns)
+abbrev pub read-table : Reading → Table
+read-table p = table-of (p .columns)
 
 abbrev pub ours : Reading → Placement
-ours p = sheet (cells p) (p .allowance)
+ours p = sheet (read-table p) (p .allowance)
 
 -- the first line
-unfoldable pub first-of : Reading → Bytes
-first-of p = sheet-line (p .columns .count) (p .allowance) (plus (width (cells p) (ours p))) (plus (rows (cells p) (ours p)))
+unfoldable pub first-line : Reading → Bytes
+first-line p = sheet-line (p .columns .count) (p .allowance) (plus (width (read-table p) (ours p))) (plus (rows (read-table p) (ours p)))
 
 -- a cell's line
 unfoldable pub cell-of : Reading → (file : Bytes) → (cell : ℕ) → Bytes
-cell-of p f c = cell-line c (ours p .x c) (ours p .y c) (W (cells p) c) (D (cells p) c) (label-of f c)
+cell-of p f c = cell-line c (ours p .x c) (ours p .y c) (W (read-table p) c) (D (read-table p) c) (label-bytes f c)
 
 -- all lines, in order
 unfoldable pub listing-of : (file : Bytes) → List Bytes
 listing-of f =
     let p = reading-of f most-cells in
     cond (eqb (p .refusal .number) 0)
-    (first-of p ∷ map (cell-of p f) (from 0 (p .columns .count)))
+    (first-line p ∷ map (cell-of p f) (from 0 (p .columns .count)))
     (refused-line (p .refusal .number) (p .refusal .cell) ∷ [])
 
 -- lines one after another
-unfoldable pub joined : List Bytes → Bytes
-joined [] = []
-joined (l ∷ ls) = l ++ joined ls
+unfoldable pub lines-joined : List Bytes → Bytes
+lines-joined [] = []
+lines-joined (l ∷ ls) = l ++ lines-joined ls
 
 -- THE LISTING, every byte of it
 unfoldable pub text-of : (file : Bytes) → Bytes
-text-of f = joined (listing-of f)
+text-of f = lines-joined (listing-of f)
 
 -- ---- WHAT THE CALL ANSWERS, and what it leaves in the output lent to it, on every input
 -- document 01's values of the two answers: the length of the listing; number and cell of the refusal, of an output that is too short
-unfoldable pub answer : (file : Bytes) → Refusal → Listed
-answer f r = cond (eqb (r .number) 0) (Text (length (text-of f))) (Refused (r .number) (r .cell))
+unfoldable pub listed-of : (file : Bytes) → Refusal → Listed
+listed-of f r = cond (eqb (r .number) 0) (Text (length (text-of f))) (Refused (r .number) (r .cell))
 
 -- the lent output after it. Of a listing: the listing, the rest as it was. Of a refusal: as it was
 unfoldable pub out-after : Listed → (file out : Bytes) → Bytes
@@ -76,7 +76,7 @@ size (Refused k c) = 0
 
 -- a call: the answer, and the output before and after it. The length that question 1 asks for suffices
 pub record Lists (f out out′ : Bytes) (r : Listed) : Type 0 where
-  pub answers : r ≡ answer f (refusal list (list-given (length out)))
+  pub answers : r ≡ listed-of f (refusal list (list-given (length out)))
   pub bytes : out′ ≡ out-after r f out
   pub suffices : size r ≤ listing-size
 
@@ -92,7 +92,7 @@ cell-size = 65
 
 -- the lines of the first n cells
 unfoldable pub cells-text : Reading → (file : Bytes) → ℕ → Bytes
-cells-text p f n = joined (map (cell-of p f) (from 0 n))
+cells-text p f n = lines-joined (map (cell-of p f) (from 0 n))
 
 -- the bytes of a line
 abbrev pub text : Line → Bytes
@@ -102,13 +102,13 @@ text l = take (l .length) (l .bytes)
 pub record Placed (p : Reading) (ps : List ℤ) : Type 0 where
   pub few : p .columns .count ≤ most-cells
   pub room : 2 * p .columns .count ≤ length ps
-  pub agree : Agree (cells p) (placed ps) (ours p)
+  pub agree : Agree (read-table p) (placed ps) (ours p)
 
 -- its width and its rows
 pub record Measured (p : Reading) (w h : ℕ) : Type 0 where
   pub small : p .columns .count ≤ most-cells
-  pub wide : w ≡ plus (width (cells p) (ours p))
-  pub deep : h ≡ plus (rows (cells p) (ours p))
+  pub wide : w ≡ plus (width (read-table p) (ours p))
+  pub deep : h ≡ plus (rows (read-table p) (ours p))
 
 -- a line whose bytes can be written
 pub record Whole (l : Line) : Type 0 where

@@ -13,7 +13,7 @@ ghost use lib.ListN.{length};
 ghost use Rattle.plan.specs.Limits.{«listing-size»};
 ghost use Rattle.listing.specs.Line.{«line-size», «line-of»};
 ghost use Rattle.listing.specs.Put.{Put};
-ghost use Rattle.printing.specs.Printing.{Whole, Measured, Placed, Taken, Lists, text, «label-of», «first-of», «cell-of», «cells-text», «text-of», «cell-size»};
+ghost use Rattle.printing.specs.Printing.{Whole, Measured, Placed, Taken, Lists, text, «label-bytes», «first-line», «cell-of», «cells-text», «text-of», «cell-size»};
 
 // The length of the listing; or the refusal's number and cell.
 pub enum Listed {
@@ -39,7 +39,7 @@ fn put_line(line: Line, out: &mut [u8], at: usize) -> usize
 // The first line of a plan whose sheet has this width and these rows.
 fn first_line(plan: Reading, width: u32, rows: u32) -> Line
     requires { ⌜ Measured plan width rows ⌝ }
-    ensures { λ r. ⌜ (r ≡ line-of (first-of plan)) × (r .length ≤ line-size) ⌝ }
+    ensures { λ r. ⌜ (r ≡ line-of (first-line plan)) × (r .length ≤ line-size) ⌝ }
 {
     let columns = plan.columns;
     sheet_line(columns.count as u32, plan.allowance as u32, width, rows)
@@ -48,7 +48,7 @@ fn first_line(plan: Reading, width: u32, rows: u32) -> Line
 // The label of a cell: the part of the file that its record says.
 fn label_at(plan: Reading, file: &[u8], c: usize) -> &[u8]
     requires { ⌜ (c < plan .columns .count) × Taken plan (now file) ⌝ }
-    ensures { λ r. ⌜ now r ≡ label-of (now (file .entry)) c ⌝ }
+    ensures { λ r. ⌜ now r ≡ label-bytes (now (file .entry)) c ⌝ }
 {
     let starts = plan.label_start;
     let lengths = plan.label_length;
@@ -98,7 +98,7 @@ fn write_sheet(plan: Reading, file: &[u8], out: &mut [u8]) -> usize
     let allowance = plan.allowance as u32;
     let mut scratch = [0u32; SCRATCH_SIZE];
     let mut positions = [0i32; 2 * MOST_CELLS];
-    let drawn = drawing::draw_over_zeros(columns, allowance, &mut scratch, &mut positions);
+    let drawn = layout::draw_over_zeros(columns, allowance, &mut scratch, &mut positions);
     let first = first_line(plan, drawn.width, drawn.rows);
     let next = put_line(first, out, 0);
     put_cells(plan, file, &positions, out, next)

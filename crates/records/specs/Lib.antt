@@ -1,5 +1,3 @@
 pub mod Apart
-pub mod ApartLaws
-pub mod CrowdedLaws
 pub mod Together
-pub mod TogetherLaws
+pub mod laws

@@ -1,10 +1,8 @@
 -- The scratch as rows of 64 numbers: for each of 32 levels a left and a right extent. Assumes nothing.
-use mathlib.Core.Path.{_≡_, refl}
 use mathlib.Core.List.{List}
 use mathlib.Core.Bool.{Bool, cond}
 use Prim.Native.Nat.{ℕ, zero, suc, _+_, _-_, _*_, _≤_, max}
-use native.Mathlib.Numerals.{add-one}
-use lib.ListN.{length, getD, set, length-set}
+use lib.ListN.{getD, set}
 use lib.Dec.{ltb}
 use Rattle.plan.specs.Limits.{farthest}
 
@@ -63,30 +61,3 @@ upto-rows xs at h g n = put-to xs at (λ j. upto-left xs at h g j) (λ j. extent
 -- a child beyond it, x from it, joins
 abbrev pub beyond-rows : List ℕ → ℕ → ℕ → ℕ → List ℕ
 beyond-rows xs at x n = put-to xs at (λ j. extent xs j at) (λ j. x + extent xs j (at + 3)) n
-
--- ---- one more; lengths
-pub box-to-more : (xs : List ℕ) (k w n : ℕ) → box-to xs k w (n + 1) ≡ box-one (box-to xs k w n) k w n
-unfolding box-to
-box-to-more xs k w n = rw add-one
-
-pub max-to-more : (xs : List ℕ) (k n : ℕ) → max-to xs k (n + 1) ≡ max (max-to xs k n) (extent xs n k)
-unfolding max-to
-max-to-more xs k n = rw add-one
-
-pub clash-to-more : (xs : List ℕ) (k x n : ℕ) → clash-to xs k x (n + 1) ≡ max (clash-to xs k x n) ((extent xs n (k + 1) - x) + extent xs n (k + 2) + 1)
-unfolding clash-to
-clash-to-more xs k x n = rw add-one
-
-pub put-to-more : (xs : List ℕ) (at : ℕ) (L R : ℕ → ℕ) (n : ℕ) → put-to xs at L R (n + 1) ≡ put-one (put-to xs at L R n) at n (L n) (R n)
-unfolding put-to
-put-to-more xs at L R n = rw add-one
-
-pub box-to-length : (xs : List ℕ) (k w n : ℕ) → length (box-to xs k w n) ≡ length xs
-unfolding box-to
-box-to-length xs k w zero = refl
-box-to-length xs k w (suc n) = simp length-set (box-to-length xs k w n)
-
-pub put-to-length : (xs : List ℕ) (at : ℕ) (L R : ℕ → ℕ) (n : ℕ) → length (put-to xs at L R n) ≡ length xs
-unfolding put-to
-put-to-length xs at L R zero = refl
-put-to-length xs at L R (suc n) = simp length-set (put-to-length xs at L R n)

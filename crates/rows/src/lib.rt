@@ -1,10 +1,11 @@
 // Row operations on the scratch: a box is drawn, extents are read, a child's rows join its parent's.
 
+use whole::numbers::greater;
 ghost use mathlib.Core.Path.{_≡_};
-ghost use Prim.Native.Nat.{_+_, _-_, _*_, _≤_, _<_, max};
+ghost use Prim.Native.Nat.{_+_, _-_, _*_, _≤_, _<_};
 ghost use Rattle.plan.specs.Limits.{farthest};
-ghost use lib.ListN.{length, getD};
 ghost use Rattle.rows.specs.Rows.{row-size, Low, box-to, max-to, clash-to, shifted-of, put-one, upto-rows, beyond-rows};
+ghost use lib.ListN.{length, getD};
 
 // Numbers in a row of the scratch: a left and a right extent for each of 32 levels.
 pub const ROW: usize = 64;
@@ -14,12 +15,6 @@ pub fn less(a: u32, b: u32) -> u32
     ensures { λ r. ⌜ r ≡ a - b ⌝ }
 {
     if b <= a { a - b } else { 0 }
-}
-
-pub fn greater(a: u32, b: u32) -> u32
-    ensures { λ r. ⌜ r ≡ max a b ⌝ }
-{
-    if a < b { b } else { a }
 }
 
 // A number of the scratch.

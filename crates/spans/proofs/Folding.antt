@@ -5,12 +5,13 @@ use Prim.Native.Nat.{ℕ, suc, pred, _+_, _-_, _≤_, _<_}
 use native.Mathlib.Omega.{arith}
 use lib.ListN.{length, getD, set, length-set}
 use Rattle.plan.specs.Limits.{most-cells}
-use Rattle.plan.specs.declared.Columns.{Columns}
 use Rattle.plan.specs.Fit.{Fit}
 use Rattle.plan.specs.Columns.{table-of}
-use Rattle.spans.specs.Columns.{at, all, all-long, all-at, put, sum-to, sum-suc, sum-part}
-use Rattle.spans.specs.Sizes.{Sized, Folded, folded-start, folded-next, folded-end}
-use Rattle.plan.specs.TableLaws.{length-is, count-some, count-few, child-of, parent-lower}
+use Rattle.spans.specs.Spans.{at, Sized}
+use Rattle.spans.specs.laws.Columns.{all, all-long, all-at, put, sum-to, sum-suc, sum-part}
+use Rattle.spans.specs.laws.Sizes.{Folded, folded-start, folded-next, folded-end}
+use Rattle.plan.specs.laws.Tables.{length-is, count-some, count-few, child-of, parent-lower}
+use Rattle.plan.specs.declared.Columns.{Columns}
 
 pub record Folding (t : Columns) (c : ℕ) (size : List ℕ) : Type 0 where
   pub low : 1 ≤ c

@@ -2,7 +2,7 @@
 use mathlib.Core.Path.{_≡_, refl, sym, ap, _∙_}
 use mathlib.Core.List.{List, [], _∷_}
 use mathlib.Core.Logic.{_≢_}
-use Prim.Native.Nat.{ℕ, zero, suc, _+_, _-_, _≤_, _<_}
+use Prim.Native.Nat.{ℕ, zero, suc, _+_, _≤_, _<_}
 use native.Mathlib.Omega.{arith}
 use native.Mathlib.Numerals.{add-one}
 use lib.ListN.{length, set, length-set}
@@ -10,17 +10,18 @@ use Rattle.plan.specs.declared.Columns.{Columns}
 use Rattle.plan.specs.Limits.{most-cells}
 use Rattle.plan.specs.Lists.{total}
 use Rattle.plan.specs.Plan.{Is, children}
-use Rattle.plan.specs.PlanLaws.{children-few}
+use Rattle.plan.specs.laws.Plan.{children-few}
 use Rattle.plan.specs.Fit.{Fit}
 use Rattle.plan.specs.Columns.{table-of}
-use Rattle.plan.specs.TableLaws.{length-is, count-few}
+use Rattle.plan.specs.laws.Tables.{length-is, count-few}
 use Rattle.links.specs.Links.{link, Links}
-use Rattle.links.specs.Chain.{Chain, line-of, spell-none, Step, step, chain-spell, children-chain}
-use Rattle.links.specs.Build.{chain-few}
-use Rattle.spans.specs.Columns.{at, all, all-long, all-at, put}
-use Rattle.spans.specs.Sizes.{Sized}
-use Rattle.spans.specs.Spans.{Spans}
-use Rattle.spans.specs.Laid.{Cols, cols, Long, share, share-long, spread, spread-none, spread-cons, spread-at, next-size, kids, or-none, Sharing, Laid, laid-start, laid-next, room-here, spans}
+use Rattle.links.specs.Chain.{Chain, line-of}
+use Rattle.links.specs.laws.Chain.{spell-none, Step, step, chain-spell, children-chain}
+use Rattle.links.specs.laws.Build.{chain-few}
+use Rattle.spans.specs.Spans.{at, Sized, Spans}
+use Rattle.spans.specs.laws.Columns.{all, all-long, all-at, put}
+use Rattle.spans.specs.Shared.{Cols, cols, Long, share, spread, spread-at, next-size, kids, or-none, Sharing}
+use Rattle.spans.specs.laws.Laid.{share-long, spread-none, spread-cons, Laid, laid-start, laid-next, room-here, spans}
 
 -- ---- along the children of f: the walk is at s, whose span begins at a, and that of the sibling before it at b
 pub record Shares (ls sizes : List ℕ) (c₀ : Cols) (f : ℕ) (c : Cols) (s b a : ℕ) : Type 0 where

@@ -6,17 +6,19 @@ use native.Mathlib.Omega.{arith}
 use native.Mathlib.Decide.{ℕ-discrete}
 use lib.ListN.{length, getD, set, length-set}
 use Rattle.plan.specs.Limits.{most-cells}
-use Rattle.plan.specs.declared.Columns.{Columns}
 use Rattle.plan.specs.Plan.{children}
-use Rattle.plan.specs.PlanLaws.{children-few, child-show}
-use Rattle.plan.specs.ListLaws.{at-less}
+use Rattle.plan.specs.laws.Plan.{children-few, child-show}
+use Rattle.plan.specs.laws.Lists.{at-less}
 use Rattle.plan.specs.Fit.{Fit}
 use Rattle.plan.specs.Columns.{table-of}
-use Rattle.plan.specs.Trees.{Lower, seen, seen-most, seen-more, seen-children}
-use Rattle.plan.specs.TableLaws.{length-is, count-some, count-few, child-of, parent-lower}
+use Rattle.plan.specs.Trees.{Lower}
+use Rattle.plan.specs.laws.Trees.{seen, seen-most, seen-more, seen-children}
+use Rattle.plan.specs.laws.Tables.{length-is, count-some, count-few, child-of, parent-lower}
 use Rattle.links.specs.Links.{link, Links}
-use Rattle.spans.specs.Columns.{at, all, all-long, all-at, put}
-use Rattle.spans.specs.Counted.{Counted, counted}
+use Rattle.spans.specs.Spans.{at, Counted}
+use Rattle.spans.specs.laws.Columns.{all, all-long, all-at, put}
+use Rattle.spans.specs.laws.Counted.{counted}
+use Rattle.plan.specs.declared.Columns.{Columns}
 
 pub record Numbering (t : Columns) (ls : List ℕ) (c : ℕ) (nth many : List ℕ) : Type 0 where
   pub low : 1 ≤ c

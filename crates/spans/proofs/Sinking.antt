@@ -1,16 +1,17 @@
 -- The pass that takes the greatest number of each subtree: what its loop keeps. Assumes nothing.
-use mathlib.Core.Path.{_≡_, refl, subst}
+use mathlib.Core.Path.{_≡_, subst}
 use mathlib.Core.List.{List}
-use Prim.Native.Nat.{ℕ, suc, _+_, _-_, _≤_, _<_, max}
+use Prim.Native.Nat.{ℕ, suc, _-_, _≤_, _<_, max}
 use native.Mathlib.Omega.{arith}
 use lib.ListN.{length, getD, set, length-set}
 use Rattle.plan.specs.Limits.{most-cells}
-use Rattle.plan.specs.declared.Columns.{Columns}
 use Rattle.plan.specs.Fit.{Fit}
 use Rattle.plan.specs.Columns.{table-of}
-use Rattle.spans.specs.Columns.{at, put}
-use Rattle.spans.specs.Deepest.{Deepest, Sunk, sunk-start, sunk-next, deepest}
-use Rattle.plan.specs.TableLaws.{length-is, count-some, count-few, child-of, parent-lower}
+use Rattle.spans.specs.Spans.{at, Deepest}
+use Rattle.spans.specs.laws.Columns.{put}
+use Rattle.spans.specs.laws.Deepest.{Sunk, sunk-start, sunk-next, deepest}
+use Rattle.plan.specs.laws.Tables.{length-is, count-some, count-few, child-of, parent-lower}
+use Rattle.plan.specs.declared.Columns.{Columns}
 
 pub record Sinking (t : Columns) (bases : List ℕ) (c : ℕ) (bottoms : List ℕ) : Type 0 where
   pub low : 1 ≤ c

@@ -1,8 +1,8 @@
 // Layout's walk, turn by turn, for the plan file on standard input: before each turn a line with the open cells from the root down and the child
 // that is opened next. The turns are crate walk's own.
-use drawing::layout_refusal;
 use io::print_decimal;
 use io::write_all;
+use layout::layout_refusal;
 use libc::STDOUT_FILENO;
 use links::links_of;
 use marks::MARKS;
@@ -17,7 +17,7 @@ ghost use lib.ListN.{replicate};
 ghost use Rattle.plan.specs.Columns.{table-of};
 ghost use Rattle.plan.specs.Fit.{Fit};
 ghost use Rattle.plan.specs.Limits.{scratch-size};
-ghost use Rattle.drawing.specs.LaidLaws.{Placeable};
+ghost use Rattle.layout.specs.Laid.{Placeable};
 ghost use Rattle.walk.specs.Machine.{chart};
 ghost use Rattle.walk.specs.Walked.{Walking};
 

@@ -1,12 +1,8 @@
 pub mod Machine
-pub mod Stretch
 pub mod Turns
-pub mod Tree
-pub mod Shows
-pub mod Claim
 pub mod Walked
 pub mod Preorder
 pub mod Opened
-pub mod VisitLaws
 pub mod Visits
 pub mod Falls
+pub mod laws

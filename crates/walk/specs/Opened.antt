@@ -4,13 +4,12 @@ use mathlib.Core.List.{List, [], _∷_, _++_}
 use Prim.Native.Nat.{ℕ, zero, suc, _≤_, _<_}
 use lib.ListN.{getD}
 use Rattle.plan.specs.Lists.{At}
-use Rattle.plan.specs.Plan.{Table, Is, children}
-use Rattle.plan.specs.PlanLaws.{Child}
+use Rattle.plan.specs.Plan.{Table, Is, children, Child}
 use Rattle.joining.specs.Joining.{Memory}
 use Rattle.links.specs.Links.{link}
 use Rattle.walk.specs.Machine.{Chart, State, step}
 use Rattle.walk.specs.Turns.{stack-of, state-of}
-use Rattle.walk.specs.Claim.{Suits}
+use Rattle.walk.specs.Walked.{Suits}
 use Rattle.walk.specs.Preorder.{preorder}
 
 -- ---- the machine that the code is proved to run. A step of it opens one cell or closes one; a turn of the code is some openings, then one closing, so

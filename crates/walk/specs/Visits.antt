@@ -11,7 +11,7 @@ use Rattle.walk.specs.Machine.{Chart}
 use Rattle.walk.specs.Turns.{stack-of}
 use Rattle.walk.specs.Preorder.{in-turn, preorder}
 use Rattle.walk.specs.Opened.{begin, run, opened, OpenCells, EachOnce, InOrder}
-use Rattle.walk.specs.VisitLaws as laws
+use Rattle.walk.specs.laws.Visits as laws
 
 -- the preorder of a cell is the cell, then the preorders of its children, one after another: how deep the definition looks does not matter
 pub preorder-is : (t : Table) (fit : Fit t) (c : ℕ) → preorder t c ≡ c ∷ in-turn (preorder t) (children t c)

@@ -6,36 +6,20 @@ use joining::settle;
 use links::link_of;
 use rows::ROW;
 use rows::box_rows;
+use whole::numbers::wide8;
+use whole::numbers::wide16;
+use whole::numbers::wide16to32;
 ghost use mathlib.Core.Path.{_≡_};
 ghost use Prim.Native.Nat.{_+_, _<_, _≤_};
 ghost use lib.ListN.{length, getD};
 ghost use mathlib.Core.List.{[], _∷_};
 ghost use Rattle.links.specs.Links.{link};
-ghost use Rattle.joining.specs.Joining.{mem};
-ghost use Rattle.joining.specs.Settle.{finished};
+ghost use Rattle.joining.specs.Joining.{«memory-of», finished};
 ghost use Rattle.walk.specs.Walked.{Walking, Walked};
 ghost use Rattle.walk.specs.Opened.{Visited};
 ghost use Rattle.walk.specs.Machine.{Finishing, Rooting, root-closed, chart, step, Closing, closed, Turning};
 ghost use Rattle.walk.specs.Turns.{stack-of, state-of};
 ghost use Rattle.walk.specs.Falls.{Falls, fallen, down, first-of, with-leaf, Linked};
-
-fn wide8(x: u8) -> usize
-    ensures { λ r. ⌜ r ≡ x ⌝ }
-{
-    x as usize
-}
-
-fn wide16(x: u16) -> usize
-    ensures { λ r. ⌜ r ≡ x ⌝ }
-{
-    x as usize
-}
-
-fn wide16to32(x: u16) -> u32
-    ensures { λ r. ⌜ r ≡ x ⌝ }
-{
-    x as u32
-}
 
 fn number(s: &[u8], i: usize) -> usize
     requires { ⌜ i < length (now s) ⌝ }
@@ -71,8 +55,8 @@ fn finish_child(
     apt: usize,
     allowance: u32,
 )
-    requires { ⌜ Finishing (mem (now rows) (now marks)) at f c d w ⌝ }
-    ensures { λ _. ⌜ mem (now (rows .exit)) (now (marks .exit)) ≡ finished (mem (now (rows .entry)) (now (marks .entry))) at f c d w place apt allowance ⌝ }
+    requires { ⌜ Finishing (memory-of (now rows) (now marks)) at f c d w ⌝ }
+    ensures { λ _. ⌜ memory-of (now (rows .exit)) (now (marks .exit)) ≡ finished (memory-of (now (rows .entry)) (now (marks .entry))) at f c d w place apt allowance ⌝ }
 {
     let hs = complete(rows, marks, at + 2, c, d, w);
     settle(rows, marks, at, f, c, hs, place, apt, allowance);
@@ -80,8 +64,8 @@ fn finish_child(
 
 // The root is completed, and its rows are cleared.
 fn finish_root(rows: &mut [u32], marks: &mut [u32], d: usize, w: u32)
-    requires { ⌜ Rooting (mem (now rows) (now marks)) d ⌝ }
-    ensures { λ _. ⌜ mem (now (rows .exit)) (now (marks .exit)) ≡ root-closed (mem (now (rows .entry)) (now (marks .entry))) d w ⌝ }
+    requires { ⌜ Rooting (memory-of (now rows) (now marks)) d ⌝ }
+    ensures { λ _. ⌜ memory-of (now (rows .exit)) (now (marks .exit)) ≡ root-closed (memory-of (now (rows .entry)) (now (marks .entry))) d w ⌝ }
 {
     let hs = complete(rows, marks, 0, 0, d, w);
     box_rows(rows, 0, hs, 0);
@@ -101,7 +85,7 @@ fn close(
     marks: &mut [u32],
 )
     requires { ⌜ Closing (chart (now links) (now widths) (now depths) (now tops) allowance) level f c (now rows) (now marks) ⌝ }
-    ensures { λ _. ⌜ mem (now (rows .exit)) (now (marks .exit)) ≡ closed (chart (now (links .entry)) (now (widths .entry)) (now (depths .entry)) (now (tops .entry)) allowance) level f c (mem (now (rows .entry)) (now (marks .entry))) ⌝ }
+    ensures { λ _. ⌜ memory-of (now (rows .exit)) (now (marks .exit)) ≡ closed (chart (now (links .entry)) (now (widths .entry)) (now (depths .entry)) (now (tops .entry)) allowance) level f c (memory-of (now (rows .entry)) (now (marks .entry))) ⌝ }
 {
     let d = number(depths, c);
     let w = width_of(widths, c);
@@ -240,8 +224,8 @@ pub fn turn(
 ) -> Turned
     requires { ⌜ 0 < chain .count ⌝ }
     requires { ⌜ Falls (now links) 32 (chain .count) next ⌝ }
-    requires { ⌜ Turning (chart (now links) (now widths) (now depths) (now tops) allowance) (down (now links) (stack-of (chain .cells) (chain .count)) next (mem (now rows) (now marks))) ⌝ }
-    ensures { λ r. ⌜ state-of (r .open_cells .cells) (r .open_cells .count) (r .next) (now (rows .exit)) (now (marks .exit)) ≡ step (chart (now (links .entry)) (now (widths .entry)) (now (depths .entry)) (now (tops .entry)) allowance) (down (now (links .entry)) (stack-of (chain .cells) (chain .count)) next (mem (now (rows .entry)) (now (marks .entry)))) ⌝ }
+    requires { ⌜ Turning (chart (now links) (now widths) (now depths) (now tops) allowance) (down (now links) (stack-of (chain .cells) (chain .count)) next (memory-of (now rows) (now marks))) ⌝ }
+    ensures { λ r. ⌜ state-of (r .open_cells .cells) (r .open_cells .count) (r .next) (now (rows .exit)) (now (marks .exit)) ≡ step (chart (now (links .entry)) (now (widths .entry)) (now (depths .entry)) (now (tops .entry)) allowance) (down (now (links .entry)) (stack-of (chain .cells) (chain .count)) next (memory-of (now (rows .entry)) (now (marks .entry)))) ⌝ }
 {
     let d = descend(links, chain, next);
     let leaf = d.next;
@@ -297,7 +281,7 @@ pub fn walk<'a>(
 )
     requires { ⌜ Walking (chart (now links) (now widths) (now depths) (now tops) allowance) (now rows) (now marks) ⌝ }
     ensures { λ _. ⌜ Walked (chart (now (links .entry)) (now (widths .entry)) (now (depths .entry)) (now (tops .entry)) allowance) (now (rows .entry)) (now (rows .exit)) (now (marks .exit)) ⌝ }
-    ensures { λ _. ⌜ Visited (chart (now (links .entry)) (now (widths .entry)) (now (depths .entry)) (now (tops .entry)) allowance) (mem (now (rows .entry)) (now (marks .entry))) (mem (now (rows .exit)) (now (marks .exit))) ⌝ }
+    ensures { λ _. ⌜ Visited (chart (now (links .entry)) (now (widths .entry)) (now (depths .entry)) (now (tops .entry)) allowance) (memory-of (now (rows .entry)) (now (marks .entry))) (memory-of (now (rows .exit)) (now (marks .exit))) ⌝ }
 {
     let mut at = begin(links);
     while 0 < at.open_cells.count {

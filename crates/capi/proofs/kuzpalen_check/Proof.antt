@@ -4,10 +4,10 @@ use contract.Running.{givenOf}
 use denote.Enum.Laws as EL
 use denote.Struct.Laws as LL
 use Rattle.plan.specs.Records.{cells-of}
-use Rattle.verdict.specs.Checked.{checked-of}
-use Rattle.verdict.proofs.Checked as B
-use Rattle.verdict.proofs.Checked.Laws as B′
+use Rattle.checker.specs.Checked.{checked-of}
 use Rattle.capi.specs.Answers.{check-answer}
+use Rattle.checker.proofs.Checked as B
+use Rattle.checker.proofs.Checked.Laws as B′
 use Rattle.capi.proofs.CheckAnswer as L
 use Rattle.capi.proofs.CheckAnswer.Laws as L′
 use Rattle.capi.proofs.Told.{meets-three}

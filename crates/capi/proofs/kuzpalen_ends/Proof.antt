@@ -4,10 +4,10 @@ use contract.Running.{givenOf}
 use denote.Enum.Laws as EL
 use denote.Struct.Laws as LL
 use Rattle.plan.specs.Records.{cells-of}
-use Rattle.connectors.specs.Ended.{ended-of}
-use Rattle.connectors.proofs.Ended as B
-use Rattle.connectors.proofs.Ended.Laws as B′
+use Rattle.ends.specs.Ended.{ended-of}
 use Rattle.capi.specs.Answers.{ends-answer}
+use Rattle.ends.proofs.Ended as B
+use Rattle.ends.proofs.Ended.Laws as B′
 use Rattle.capi.proofs.EndsAnswer as L
 use Rattle.capi.proofs.EndsAnswer.Laws as L′
 use Rattle.capi.proofs.Told.{meets-three}

@@ -19,10 +19,10 @@ use denote.Enum.Laws as EL
 use denote.Struct.Laws as LL
 use Rattle.plan.specs.Records.{cells-of}
 use Rattle.fitting.specs.Fitted.{Frames}
+use Rattle.capi.specs.Answers.{frame-answer, Framing}
 use Rattle.plan.proofs.Record as T
 use Rattle.fitting.proofs.Fitted as B
 use Rattle.fitting.proofs.Fitted.Laws as B′
-use Rattle.capi.specs.Answers.{frame-answer, Framing}
 use Rattle.capi.proofs.FrameAnswer as L
 use Rattle.capi.proofs.FrameAnswer.Laws as L′
 use Rattle.engine.proofs.InTurn.{Told, Answered, Calling}

@@ -18,11 +18,11 @@ use denote.Slice.{sliceVal, slice-vals, shr-slice-tells, mut-slice-tells}
 use denote.Enum.Laws as EL
 use denote.Struct.Laws as LL
 use Rattle.plan.specs.Records.{cells-of}
-use Rattle.drawing.specs.Laid.{Lays}
-use Rattle.plan.proofs.Record as T
-use Rattle.drawing.proofs.Laid as B
-use Rattle.drawing.proofs.Laid.Laws as B′
+use Rattle.layout.specs.Laid.{Lays}
 use Rattle.capi.specs.Answers.{laid-answer, Laying}
+use Rattle.plan.proofs.Record as T
+use Rattle.layout.proofs.Laid as B
+use Rattle.layout.proofs.Laid.Laws as B′
 use Rattle.capi.proofs.LayoutAnswer as L
 use Rattle.capi.proofs.LayoutAnswer.Laws as L′
 use Rattle.engine.proofs.InTurn.{Told, Answered, Calling}

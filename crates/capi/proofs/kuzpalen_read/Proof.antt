@@ -17,10 +17,10 @@ use denote.Slice.{sliceVal, slice-vals, shr-slice-tells, mut-slice-tells}
 use denote.Enum.Laws as EL
 use denote.Struct.Laws as LL
 use Rattle.engine.specs.Read.{Reads}
+use Rattle.capi.specs.Answers.{read-answer, Filling}
 use Rattle.plan.proofs.Record as T
 use Rattle.engine.proofs.ReadAnswer as B
 use Rattle.engine.proofs.ReadAnswer.Laws as B′
-use Rattle.capi.specs.Answers.{read-answer, Filling}
 use Rattle.capi.proofs.ReadAnswer as L
 use Rattle.capi.proofs.ReadAnswer.Laws as L′
 use Rattle.engine.proofs.InTurn.{Told, Answered, Calling}

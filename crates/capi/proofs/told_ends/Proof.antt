@@ -1,5 +1,5 @@
 use mathlib.Core.Path.{sym, ap, _∙_}
-use Rattle.capi.specs.AnswerLaws.{joined-alike}
+use Rattle.capi.specs.laws.Answers.{joined-alike}
 use Rattle.capi.specs.Answers.{ends-answer}
 use borrow.Author.Needs.{needs}
 use Rattle.capi.proofs.told_ends.Statement.{statement}

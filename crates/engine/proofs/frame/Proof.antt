@@ -18,7 +18,7 @@ use denote.Builtin.{u32, SliceRefMutOf}
 use denote.Slice.{sliceVal, slice-vals, mut-slice-tells}
 use denote.Enum.Laws as EL
 use Rattle.fitting.specs.Fitted.{Frames}
-use Rattle.engine.specs.LentLaws.{frame-lent}
+use Rattle.engine.specs.laws.Lent.{frame-lent}
 use Rattle.plan.proofs.Columns.Laws as B′
 use Rattle.fitting.proofs.Fitted as L
 use Rattle.fitting.proofs.Fitted.Laws as L′

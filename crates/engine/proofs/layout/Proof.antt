@@ -1,4 +1,4 @@
--- `engine::layout` meets its contract: `columns_of` is called on the table, and `drawing::layout` on the columns and on the other parameters, the two `&mut` slices lent on. Assumes nothing.
+-- `engine::layout` meets its contract: `columns_of` is called on the table, and `layout::layout` on the columns and on the other parameters, the two `&mut` slices lent on. Assumes nothing.
 use mathlib.Core.Path.{refl}
 use Prim.Native.Nat.{ℕ, _<_, _^_}
 use mathlib.Core.List.{[], _∷_, List}
@@ -17,16 +17,16 @@ use denote.Signature.{Slot, plain}
 use denote.Builtin.{u32, i32, SliceRefMutOf}
 use denote.Slice.{sliceVal, slice-vals, mut-slice-tells}
 use denote.Enum.Laws as EL
-use Rattle.drawing.specs.Laid.{Lays}
-use Rattle.engine.specs.LentLaws.{layout-lent}
+use Rattle.layout.specs.Laid.{Lays}
+use Rattle.engine.specs.laws.Lent.{layout-lent}
 use Rattle.plan.proofs.Columns.Laws as B′
-use Rattle.drawing.proofs.Laid as L
-use Rattle.drawing.proofs.Laid.Laws as L′
+use Rattle.layout.proofs.Laid as L
+use Rattle.layout.proofs.Laid.Laws as L′
 use Rattle.engine.proofs.InTurn.{Told, Answered, Calling, Follows}
 use Rattle.engine.proofs.Lent.{meets-lent}
 use Rattle.records.proofs.columns_of.Symbol as apart
-use Rattle.drawing.proofs.layout.Symbol as core
-use Rattle.drawing.proofs.layout.Met as core-thm
+use Rattle.layout.proofs.layout.Symbol as core
+use Rattle.layout.proofs.layout.Met as core-thm
 use Rattle.engine.proofs.layout.Key as own
 use Rattle.engine.proofs.layout.Statement as stated
 use Rattle.engine.proofs.layout.Code as code
@@ -60,7 +60,7 @@ module _ {M : Type 1} (𝓤 : URA M) (H : Heap 𝓤) (A : Atoms 𝓤) (W : Given
 pub layout-spec : {M : Type 1} → stated.statement M
 unfolding code.routine
 layout-spec 𝓤 H 𝓜 𝓖 𝓡 =
-    meets-lent 𝓤 H 𝓜 𝓖 𝓡 code.env own.name core.name code.function (code.unfolded 𝓤 H 𝓜 𝓡) core.routine code.calls-records·columns-of code.calls-drawing·layout L′.mir
+    meets-lent 𝓤 H 𝓜 𝓖 𝓡 code.env own.name core.name code.function (code.unfolded 𝓤 H 𝓜 𝓡) core.routine code.calls-records·columns-of code.calls-layout·layout L′.mir
     2 others L.the-row (λ r u is. EL.lawful L.the-type L′.the-laws 𝓤 H (𝓖 .A) (givenOf 𝓤 H 𝓜 𝓖) tt .typed r _ is .0)
     (λ κs t a e r. Lays t (a .0) (a .1 .0 .now) (e .1 .0 .now) (a .1 .1 .0 .now) (e .1 .1 .0 .now) r)
     (λ κs t c q a e r. layout-lent t c q (a .0) (a .1 .0 .now) (e .1 .0 .now) (a .1 .1 .0 .now) (e .1 .1 .0 .now) r) (λ κ. core-thm.met 𝓤 H 𝓜 𝓖 𝓡)

@@ -1,22 +1,18 @@
 use native.Mathlib.Omega.{arith}
 use borrow.Author.Needs.{needs}
-use Rattle.engine.specs.ReadLaws.{parse-refused, parse-plan, parse-count}
+use Rattle.engine.specs.laws.Read.{parse-refused, parse-plan, parse-count}
 use Rattle.engine.proofs.parse.Statement.{statement}
 use Rattle.engine.proofs.parse.Tie as tie
 
--- src/lib.rt:25:9
 read-requires : tie.Need-read-requires
 read-requires c κs = search needs
 
--- src/lib.rt:28:9
 returns : tie.Need-returns
 returns c = parse-refused _ _ _ (c .before .before .before .read .ensures) (c .if1 .taken)
 
--- src/lib.rt:36:34
 cast-t8 : tie.Need-cast-t8
 cast-t8 c = record { fits = omega (arith, parse-count _ _ _ (c .before .before .before .before .before .read .ensures)) }
 
--- src/lib.rt:22:1
 returns-2 : tie.Need-returns-2
 returns-2 c = parse-plan _ _ _ (c .before .before .before .before .before .read .ensures) (c .before .before .if1 .left)
 

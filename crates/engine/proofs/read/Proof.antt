@@ -37,13 +37,13 @@ use denote.Triple.Spec.{tripleOf, exits}
 use denote.Triple.Table.{entered, cited, framed}
 use denote.Triple.Walked.{says}
 use Rattle.plan.specs.Limits.{most-cells}
+use Rattle.records.specs.Together.{filled}
+use Rattle.engine.specs.Read.{Reads, read-of}
+use Rattle.engine.specs.laws.Read.{parsed-fits, parsed-reads}
 use Rattle.plan.specs.declared.Record.{Record}
 use Rattle.planfile.specs.declared.Reading.{Reading}
-use Rattle.records.specs.Together.{filled}
 use Rattle.engine.specs.declared.ReadAnswer.{ReadAnswer}
 use Rattle.engine.specs.declared.Parsed.{Parsed}
-use Rattle.engine.specs.Read.{Reads}
-use Rattle.engine.specs.ReadLaws.{read-of, parsed-fits, parsed-reads}
 use Rattle.plan.proofs.Record as T
 use Rattle.planfile.proofs.Reading as R
 use Rattle.planfile.proofs.Reading.Laws as R′

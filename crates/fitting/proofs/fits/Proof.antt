@@ -1,14 +1,10 @@
 use Rattle.plan.specs.Columns.{table-of}
-use Rattle.layout.specs.Sheet.{sheet}
-use Rattle.drawing.specs.LaidLaws.{fit-lower, high}
-use Rattle.fitting.specs.FittedLaws.{measured}
+use Rattle.contours.specs.Sheet.{sheet}
+use Rattle.layout.specs.laws.Laid.{fit-lower, high}
+use Rattle.fitting.specs.laws.Fitted.{measured}
 use borrow.Author.Needs.{needs}
 use Rattle.fitting.proofs.fits.Statement.{statement}
 use Rattle.fitting.proofs.fits.Tie as tie
-use Rattle.fitting.proofs.fits.Reads as reads
-use Rattle.fitting.proofs.fits.Lts as lts
-use Rattle.drawing.proofs.place.Reads as place-reads
-use Rattle.positions.proofs.sheet_width.Reads as sheet-width-reads
 
 place-requires : tie.Need-place-requires
 place-requires c κs = search needs

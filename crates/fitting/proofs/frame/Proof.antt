@@ -5,14 +5,10 @@ use lib.Seq.{length-take-le}
 use Rattle.plan.specs.Limits.{scratch-size}
 use Rattle.plan.specs.Columns.{table-of}
 use Rattle.plan.specs.Fit.{Fit}
-use Rattle.fitting.specs.FittedLaws.{refused, asks, done}
+use Rattle.fitting.specs.laws.Fitted.{refused, asks, done}
 use borrow.Author.Needs.{needs}
 use Rattle.fitting.proofs.frame.Statement.{statement}
 use Rattle.fitting.proofs.frame.Tie as tie
-use Rattle.fitting.proofs.frame.Reads as reads
-use Rattle.fitting.proofs.frame.Lts as lts
-use Rattle.fitting.proofs.frame_refusal.Reads as frame-refusal-reads
-use Rattle.fitting.proofs.searched.Reads as searched-reads
 
 frame-refusal-requires : tie.Need-frame-refusal-requires
 frame-refusal-requires c κs = search needs

@@ -1,14 +1,10 @@
 use mathlib.Core.Path.{sym, _∙_}
 use Rattle.plan.specs.Columns.{table-of}
-use Rattle.plan.specs.QuestionLaws.{stops, goes-on}
-use Rattle.plan.specs.CallLaws as calls
+use Rattle.plan.specs.laws.Questions.{stops, goes-on}
+use Rattle.plan.specs.laws.Calls as calls
 use borrow.Author.Needs.{needs}
 use Rattle.fitting.proofs.frame_refusal.Statement.{statement}
 use Rattle.fitting.proofs.frame_refusal.Tie as tie
-use Rattle.fitting.proofs.frame_refusal.Reads as reads
-use Rattle.fitting.proofs.frame_refusal.Lts as lts
-use Rattle.plan.proofs.questions.asked.Reads as asked-reads
-use Rattle.plan.proofs.questions.counted_refusal.Reads as counted-refusal-reads
 
 asked-requires : tie.Need-asked-requires
 asked-requires c κs = search needs

@@ -1,11 +1,8 @@
 use mathlib.Core.Path.{sym, _∙_}
-use Rattle.fitting.specs.FittedLaws.{lower-half, upper-half}
+use Rattle.fitting.specs.laws.Fitted.{lower-half, upper-half}
 use borrow.Author.Needs.{needs}
 use Rattle.fitting.proofs.half_from.Statement.{statement}
 use Rattle.fitting.proofs.half_from.Tie as tie
-use Rattle.fitting.proofs.half_from.Reads as reads
-use Rattle.fitting.proofs.half_from.Lts as lts
-use Rattle.fitting.proofs.fits.Reads as fits-reads
 
 add-fits : tie.Need-add-fits
 add-fits c = search needs

@@ -1,13 +1,10 @@
 use native.Mathlib.Omega.{arith}
 use Rattle.plan.specs.Columns.{table-of}
-use Rattle.drawing.specs.LaidLaws.{Placeable}
-use Rattle.fitting.specs.FittedLaws.{again, Halving, halving-start, halving-room, halving-turn, halving-less, halving-done, turns-of}
+use Rattle.layout.specs.Laid.{Placeable}
+use Rattle.fitting.specs.laws.Fitted.{again, Halving, halving-start, halving-room, halving-turn, halving-less, halving-done, turns-of}
 use borrow.Author.Needs.{needs}
 use Rattle.fitting.proofs.halved.Statement.{statement}
 use Rattle.fitting.proofs.halved.Tie as tie
-use Rattle.fitting.proofs.halved.Reads as reads
-use Rattle.fitting.proofs.halved.Lts as lts
-use Rattle.fitting.proofs.half_from.Reads as half-from-reads
 
 abbrev Inv-loop : tie.InvT-loop
 Inv-loop t tops squares scratch₀ low₀ size₀ scratch low size = Placeable t tops scratch × Halving (table-of t) squares low size

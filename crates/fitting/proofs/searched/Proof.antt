@@ -2,17 +2,11 @@ use mathlib.Core.Path.{sym, ap, _∙_}
 use Prim.Native.Nat.{ℕ}
 use lib.ListN.{replicate}
 use Rattle.plan.specs.Columns.{table-of}
-use Rattle.drawing.specs.LaidLaws.{Placeable}
-use Rattle.fitting.specs.FittedLaws.{again, passes, told-found, told-none}
+use Rattle.layout.specs.Laid.{Placeable}
+use Rattle.fitting.specs.laws.Fitted.{again, passes, told-found, told-none}
 use borrow.Author.Needs.{needs}
 use Rattle.fitting.proofs.searched.Statement.{statement}
 use Rattle.fitting.proofs.searched.Tie as tie
-use Rattle.fitting.proofs.searched.Reads as reads
-use Rattle.fitting.proofs.searched.Lts as lts
-use Rattle.drawing.proofs.clear.Reads as clear-reads
-use Rattle.fitting.proofs.fits.Reads as fits-reads
-use Rattle.fitting.proofs.halved.Reads as halved-reads
-use Rattle.fitting.proofs.tops_of.Reads as tops-of-reads
 
 clear-requires : tie.Need-clear-requires
 clear-requires c κs = search needs

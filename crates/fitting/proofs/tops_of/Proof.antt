@@ -1,11 +1,7 @@
 use mathlib.Core.Path.{refl}
-use Rattle.drawing.specs.LaidLaws.{fit-lower, fit-flat}
-use borrow.Author.Needs.{needs}
+use Rattle.layout.specs.laws.Laid.{fit-lower, fit-flat}
 use Rattle.fitting.proofs.tops_of.Statement.{statement}
 use Rattle.fitting.proofs.tops_of.Tie as tie
-use Rattle.fitting.proofs.tops_of.Reads as reads
-use Rattle.fitting.proofs.tops_of.Lts as lts
-use Rattle.plan.proofs.tree.survey.Reads as survey-reads
 
 survey-requires : tie.Need-survey-requires
 survey-requires c κs =

@@ -1,6 +1,5 @@
 use borrow.Author.Needs.{needs}
 use Rattle.joining.specs.Joining.{completed}
-use Prim.Native.Nat.{_-_}
 use Rattle.joining.proofs.complete.Statement.{statement}
 use Rattle.joining.proofs.complete.Tie as tie
 

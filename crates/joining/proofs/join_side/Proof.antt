@@ -1,5 +1,4 @@
 use borrow.Author.Needs.{needs}
-use Prim.Native.Nat.{_-_}
 use mathlib.Core.Path.{refl}
 use Rattle.joining.proofs.join_side.Statement.{statement}
 use Rattle.joining.proofs.join_side.Tie as tie

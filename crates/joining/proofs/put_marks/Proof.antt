@@ -1,6 +1,5 @@
 use borrow.Author.Needs.{needs}
 use native.Mathlib.Omega.{arith}
-use Prim.Native.Nat.{_-_}
 use lib.ListN.{length-set}
 use Rattle.joining.proofs.put_marks.Statement.{statement}
 use Rattle.joining.proofs.put_marks.Tie as tie

@@ -1,6 +1,6 @@
 use borrow.Author.Needs.{needs}
-use Rattle.joining.specs.Joining.{mem, apart, apart-found}
-use Prim.Native.Nat.{_-_}
+use Rattle.joining.specs.Joining.{memory-of, settled-apart}
+use Rattle.joining.specs.laws.Joining.{apart-found}
 use Rattle.joining.proofs.separation.Statement.{statement}
 use Rattle.joining.proofs.separation.Tie as tie
 
@@ -50,10 +50,10 @@ greater-requires-3 : tie.Need-greater-requires-3
 greater-requires-3 c κs = search needs
 
 returns : tie.Need-returns
-unfolding apart
+unfolding settled-apart
 returns c =
     let a = c .before .before .before .before .before .before .before .before .before .before .before .before .before .args in
-    apart-found (mem (a .rows .now) (a .marks .now)) (a .at) (a .f) (a .c) (a .hs) (a .allowance) (c .before .before .before .before .before .before .before .before .before .before .before .before .before .pre) (cc)
+    apart-found (memory-of (a .rows .now) (a .marks .now)) (a .at) (a .f) (a .c) (a .hs) (a .allowance) (c .before .before .before .before .before .before .before .before .before .before .before .before .before .pre) (cc)
 
 pub separation-spec : {M : Type 1} → statement M
 separation-spec =

@@ -1,5 +1,4 @@
 use borrow.Author.Needs.{needs}
-use Prim.Native.Nat.{_-_}
 use Rattle.joining.proofs.settle_first.Statement.{statement}
 use Rattle.joining.proofs.settle_first.Tie as tie
 

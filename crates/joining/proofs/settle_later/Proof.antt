@@ -1,6 +1,5 @@
 use borrow.Author.Needs.{needs}
-use Rattle.joining.specs.Joining.{later-found}
-use Prim.Native.Nat.{_-_}
+use Rattle.joining.specs.laws.Joining.{later-found}
 use Rattle.joining.proofs.settle_later.Statement.{statement}
 use Rattle.joining.proofs.settle_later.Tie as tie
 

@@ -1,10 +1,10 @@
 use borrow.Author.Needs.{needs}
-use Rattle.links.specs.Build.{placed-small}
+use Rattle.links.specs.laws.Build.{placed-small, placed-more, appointed-small}
+use Rattle.links.specs.Build.{placed}
 use native.Mathlib.Omega.{arith}
 use Prim.Native.Nat.{_≤_, _-_}
 use mathlib.Core.Path.{_≡_, refl}
 use lib.ListN.{length, length-set}
-use Rattle.links.specs.Build.{placed, placed-more, appointed-small}
 use Rattle.links.proofs.appoint.Statement.{statement}
 use Rattle.links.proofs.appoint.Tie as tie
 

@@ -3,8 +3,9 @@ use native.Mathlib.Omega.{arith}
 use Prim.Native.Nat.{_≤_, _<_, _-_, _*_}
 use mathlib.Core.Path.{_≡_, refl}
 use lib.ListN.{length, length-set}
-use Rattle.links.specs.Build.{chained, chain-more, slot-inside}
-use Rattle.links.specs.Built.{seeking}
+use Rattle.links.specs.Build.{chained}
+use Rattle.links.specs.laws.Build.{chain-more, slot-inside}
+use Rattle.links.specs.laws.Built.{seeking}
 use Rattle.links.proofs.chain_siblings.Statement.{statement}
 use Rattle.links.proofs.chain_siblings.Tie as tie
 

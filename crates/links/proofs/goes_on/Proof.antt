@@ -1,5 +1,5 @@
 use borrow.Author.Needs.{needs}
-use Rattle.links.specs.Build.{goes-is}
+use Rattle.links.specs.laws.Build.{goes-is}
 use Rattle.links.proofs.goes_on.Statement.{statement}
 use Rattle.links.proofs.goes_on.Tie as tie
 

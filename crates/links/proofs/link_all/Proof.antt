@@ -1,6 +1,6 @@
 use borrow.Author.Needs.{needs}
-use Rattle.links.specs.Build.{links-found}
-use Rattle.links.specs.Built.{counting, appointing, links-are}
+use Rattle.links.specs.laws.Build.{links-found}
+use Rattle.links.specs.laws.Built.{counting, appointing, links-are}
 use Rattle.links.proofs.link_all.Statement.{statement}
 use Rattle.links.proofs.link_all.Tie as tie
 

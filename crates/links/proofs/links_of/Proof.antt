@@ -2,7 +2,7 @@ use borrow.Author.Needs.{needs}
 use mathlib.Core.Path.{_≡_}
 use lib.ListN.{length}
 use Rattle.plan.specs.Limits.{most-cells}
-use Rattle.links.specs.Linked.{linking, linked}
+use Rattle.links.specs.laws.Linked.{linking, linked}
 use Rattle.links.proofs.links_of.Statement.{statement}
 use Rattle.links.proofs.links_of.Tie as tie
 

@@ -1,7 +1,7 @@
 use native.Mathlib.Omega.{arith}
 use lib.ListN.{length, length-set}
 use Rattle.links.specs.Chain.{line-of}
-use Rattle.links.specs.Build.{Numbered, numbered-start, number-few, number-low, numbered-next, numbered-less, numbered-end}
+use Rattle.links.specs.laws.Build.{Numbered, numbered-start, number-few, number-low, numbered-next, numbered-less, numbered-end}
 use Rattle.links.proofs.number_children.Statement.{statement}
 use Rattle.links.proofs.number_children.Tie as tie
 

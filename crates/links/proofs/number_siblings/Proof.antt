@@ -3,8 +3,9 @@ use native.Mathlib.Omega.{arith}
 use Prim.Native.Nat.{_≤_, _-_}
 use mathlib.Core.Path.{_≡_, refl, _∙_}
 use lib.ListN.{length}
-use Rattle.links.specs.Build.{counted, count-more, number-length}
-use Rattle.links.specs.Built.{numbering}
+use Rattle.links.specs.Build.{counted}
+use Rattle.links.specs.laws.Build.{count-more, number-length}
+use Rattle.links.specs.laws.Built.{numbering}
 use Rattle.links.proofs.number_siblings.Statement.{statement}
 use Rattle.links.proofs.number_siblings.Tie as tie
 

@@ -1,7 +1,7 @@
 use native.Mathlib.Omega.{arith}
 use lib.ListN.{length}
 use Rattle.links.specs.Chain.{line-of}
-use Rattle.links.specs.Build.{Sought, sought-start, sought-few, sought-next, sought-less, sought-end, passes, fails}
+use Rattle.links.specs.laws.Build.{Sought, sought-start, sought-few, sought-next, sought-less, sought-end, passes, fails}
 use Rattle.links.proofs.slot.Statement.{statement}
 use Rattle.links.proofs.slot.Tie as tie
 

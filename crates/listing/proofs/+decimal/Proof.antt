@@ -1,6 +1,6 @@
 use native.Mathlib.Omega.{arith}
-use Rattle.listing.specs.PrintedLaws.{nine, ten}
-use Rattle.listing.specs.PutLaws.{decimal-digit, decimal-last}
+use Rattle.listing.specs.laws.Printed.{nine, ten}
+use Rattle.listing.specs.laws.Put.{decimal-digit, decimal-last}
 use borrow.Author.Needs.{needs}
 use Prim.Native.Nat.{ℕ, _<_}
 use borrow.Fn.Kinds.{In}
@@ -22,7 +22,6 @@ decimal-at t = and 1 decimal-kinds.ps (is 1 decimal-kinds.ps μ-decimal t) decim
 abbrev decimal-below : ℕ → In 1 decimal-kinds.ps
 decimal-below t = and 1 decimal-kinds.ps (falls 1 decimal-kinds.ps _<_ μ-decimal t) decimal.Pre
 
--- src/lib.rt:49:20
 decimal-digit-requires : (t : ℕ) → decimal-lts.Need-digit-requires (
   digit-reads.Asked,
   digit-reads.Learnt,
@@ -33,7 +32,6 @@ decimal-digit-requires : (t : ℕ) → decimal-lts.Need-digit-requires (
 ) (decimal-at t) decimal.Post
 decimal-digit-requires t c κs = search needs
 
--- src/lib.rt:49:9
 decimal-put-requires : (t : ℕ) → decimal-lts.Need-put-requires (
   digit-reads.Asked,
   digit-reads.Learnt,
@@ -44,7 +42,6 @@ decimal-put-requires : (t : ℕ) → decimal-lts.Need-put-requires (
 ) (decimal-at t) decimal.Post
 decimal-put-requires t c κs = omega arith
 
--- src/lib.rt:49:9
 decimal-returns : (t : ℕ) → decimal-lts.Need-returns (
   digit-reads.Asked,
   digit-reads.Learnt,
@@ -55,7 +52,6 @@ decimal-returns : (t : ℕ) → decimal-lts.Need-returns (
 ) (decimal-at t) decimal.Post
 decimal-returns t c = (decimal-digit (c .before .before .before .if1 .taken) (c .before .before .digit .ensures) (c .put .ensures), omega arith)
 
--- src/lib.rt:51:9
 decimal-decimal-requires : (t : ℕ) → decimal-lts.Need-decimal-requires (
   digit-reads.Asked,
   digit-reads.Learnt,
@@ -66,7 +62,6 @@ decimal-decimal-requires : (t : ℕ) → decimal-lts.Need-decimal-requires (
 ) (decimal-at t) decimal.Post
 decimal-decimal-requires t c κs = omega arith
 
--- src/lib.rt:52:9
 decimal-digit-requires-2 : (t : ℕ) → decimal-lts.Need-digit-requires-2 (
   digit-reads.Asked,
   digit-reads.Learnt,
@@ -77,7 +72,6 @@ decimal-digit-requires-2 : (t : ℕ) → decimal-lts.Need-digit-requires-2 (
 ) (decimal-at t) decimal.Post
 decimal-digit-requires-2 t c κs = search needs
 
--- src/lib.rt:52:5
 decimal-put-requires-2 : (t : ℕ) → decimal-lts.Need-put-requires-2 (
   digit-reads.Asked,
   digit-reads.Learnt,
@@ -88,7 +82,6 @@ decimal-put-requires-2 : (t : ℕ) → decimal-lts.Need-put-requires-2 (
 ) (decimal-at t) decimal.Post
 decimal-put-requires-2 t c κs = omega (arith, nine (c .before .before .before .before .if1 .left) (c .before .before .before .before .before .fits .n .fits), c .before .before .decimal .ensures .0 .place)
 
--- src/lib.rt:44:1
 decimal-returns-2 : (t : ℕ) → decimal-lts.Need-returns-2 (
   digit-reads.Asked,
   digit-reads.Learnt,

@@ -2,11 +2,9 @@ use Prim.Native.Nat.{_+_, _-_, _≤_}
 use native.Mathlib.Omega.{arith}
 use lib.ListN.{length, take}
 use Rattle.listing.specs.Put.{Put}
-use Rattle.listing.specs.PutLaws.{put-start, put-more, put-all}
+use Rattle.listing.specs.laws.Put.{put-start, put-more, put-all}
 use Rattle.listing.proofs.copy.Statement.{statement}
 use Rattle.listing.proofs.copy.Tie as tie
-use Rattle.listing.proofs.copy.Reads as reads
-use Rattle.listing.proofs.copy.Lts as lts
 
 abbrev Inv-loop : tie.InvT-loop
 Inv-loop text out₀ at i₀ out i = (i ≤ length text) × Put out₀ at (take i text) out (at + i)
@@ -14,39 +12,30 @@ Inv-loop text out₀ at i₀ out i = (i ≤ length text) × Put out₀ at (take 
 abbrev μ-loop : tie.MeasureT-loop
 μ-loop text out₀ at i₀ out i = length text - i
 
--- src/lib.rt:28:5
 loop-holds : tie.Need-loop-holds Inv-loop μ-loop
 loop-holds c = (omega arith, put-start _ _)
 
--- src/lib.rt:29:23
 shared-slice-read-out : tie.Need-shared-slice-read-out Inv-loop μ-loop
 shared-slice-read-out c = omega arith
 
--- src/lib.rt:29:13
 add-out : tie.Need-add-out Inv-loop μ-loop
 add-out c = omega arith
 
--- src/lib.rt:29:9
 element-write-out : tie.Need-element-write-out Inv-loop μ-loop
 element-write-out c = omega arith
 
--- src/lib.rt:30:9
 add-i : tie.Need-add-i Inv-loop μ-loop
 add-i c = omega arith
 
--- src/lib.rt:28:5
 loop-less : tie.Need-loop-less Inv-loop μ-loop
 loop-less c = omega arith
 
--- src/lib.rt:28:5
 loop-again : tie.Need-loop-again Inv-loop μ-loop
 loop-again c = (omega arith, put-more _ (c .before .before .loop .inv .1) (c .before .loop-test .taken))
 
--- src/lib.rt:32:5
 add-result : tie.Need-add-result Inv-loop μ-loop
 add-result c = omega arith
 
--- src/lib.rt:23:1
 returns : tie.Need-returns Inv-loop μ-loop
 returns c = put-all _ (c .before .loop .inv .1) (c .loop-test .left)
 

@@ -1,44 +1,31 @@
 use native.Mathlib.Omega.{arith}
-use Rattle.listing.specs.LineLaws.{sheet-line-is}
-use Rattle.listing.specs.PutLaws.{then, line-is}
+use Rattle.listing.specs.laws.Line.{sheet-line-is}
+use Rattle.listing.specs.laws.Put.{then, line-is}
 use borrow.Author.Needs.{needs}
 use Rattle.listing.proofs.sheet_line.Statement.{statement}
 use Rattle.listing.proofs.sheet_line.Tie as tie
-use Rattle.listing.proofs.sheet_line.Reads as reads
-use Rattle.listing.proofs.sheet_line.Lts as lts
-use Rattle.listing.proofs.copy.Reads as copy-reads
-use Rattle.listing.proofs.field.Reads as field-reads
-use Rattle.listing.proofs.put.Reads as put-reads
 
--- src/lib.rt:122:18
 slice-aggregate-copy : tie.Need-slice-aggregate-copy
 slice-aggregate-copy c = search needs
 
--- src/lib.rt:122:9
 copy-requires : tie.Need-copy-requires
 copy-requires c κs = search needs
 
--- src/lib.rt:123:9
 field-requires : tie.Need-field-requires
 field-requires c κs = search needs
 
--- src/lib.rt:124:9
 field-requires-2 : tie.Need-field-requires-2
 field-requires-2 c κs = search needs
 
--- src/lib.rt:125:9
 field-requires-3 : tie.Need-field-requires-3
 field-requires-3 c κs = search needs
 
--- src/lib.rt:126:9
 field-requires-4 : tie.Need-field-requires-4
 field-requires-4 c κs = search needs
 
--- src/lib.rt:127:9
 put-requires : tie.Need-put-requires
 put-requires c κs = search needs
 
--- src/lib.rt:118:1
 returns : tie.Need-returns
 returns c = (line-is (then (then (then (then (then (c .before .before .before .before .before .before .before .before .before .before .copy .ensures) (c .before .before .before .before .before .before .before .before .field .ensures .0)) (c .before .before .before .before .before .before .field2 .ensures .0)) (c .before .before .before .before .field3 .ensures .0)) (c .before .before .field4 .ensures .0)) (c .put .ensures)) (omega arith) (sheet-line-is _ _ _ _), omega arith)
 

@@ -3,37 +3,25 @@ use Rattle.listing.proofs.Below.{negative, signed-negative, natural, si
 use borrow.Author.Needs.{needs}
 use Rattle.listing.proofs.signed.Statement.{statement}
 use Rattle.listing.proofs.signed.Tie as tie
-use Rattle.listing.proofs.signed.Reads as reads
-use Rattle.listing.proofs.signed.Lts as lts
-use Rattle.listing.proofs.below_zero.Reads as below-zero-reads
-use Rattle.listing.proofs.decimal.Reads as decimal-reads
-use Rattle.listing.proofs.put.Reads as put-reads
 
--- src/lib.rt:72:13
 put-requires : tie.Need-put-requires
 put-requires c κs = search needs
 
--- src/lib.rt:73:24
 below-zero-requires : tie.Need-below-zero-requires
 below-zero-requires c κs = negative _ (c .before .before .before .fits .x) (c .before .before .if1 .taken)
 
--- src/lib.rt:73:9
 decimal-requires : tie.Need-decimal-requires
 decimal-requires c κs = search needs
 
--- src/lib.rt:73:9
 returns : tie.Need-returns
 returns c = (signed-negative _ (c .before .before .before .before .before .before .fits .x) (c .before .before .before .before .before .if1 .taken) (c .before .before .below-zero .ensures) (c .before .before .before .put .ensures) (c .decimal .ensures .0), omega arith)
 
--- src/lib.rt:75:13
 cast-decimal : tie.Need-cast-decimal
 cast-decimal c = natural _ (c .before .fits .x) (c .if1 .left)
 
--- src/lib.rt:75:5
 decimal-requires-2 : tie.Need-decimal-requires-2
 decimal-requires-2 c κs = search needs
 
--- src/lib.rt:67:1
 returns-2 : tie.Need-returns-2
 returns-2 c = (signed-natural _ (c .before .before .before .fits .x) (c .before .before .if1 .left) (c .decimal2 .ensures .0), omega arith)
 

@@ -3,7 +3,7 @@ use mathlib.Core.Path.{_≡_}
 use lib.ListN.{length}
 use native.Mathlib.Omega.{arith}
 use Rattle.plan.specs.Limits.{most-cells}
-use Rattle.marks.specs.Marks.{Long, walking, marked, toured}
+use Rattle.marks.specs.laws.Marks.{Long, walking, marked, toured}
 use Rattle.marks.proofs.marks_of.Statement.{statement}
 use Rattle.marks.proofs.marks_of.Tie as tie
 

@@ -1,31 +1,20 @@
-use mathlib.Core.Path.{_≡_, _∙_}
-use native.Mathlib.Omega.{arith}
-use Rattle.planfile.specs.LabelLaws.{part-inside}
-use Rattle.planfile.specs.declared.Part.{Part}
+use Rattle.planfile.specs.laws.Label.{part-inside}
 use borrow.Author.Needs.{needs}
 use Rattle.planfile.proofs.label.Statement.{statement}
 use Rattle.planfile.proofs.label.Tie as tie
-use Rattle.planfile.proofs.label.Reads as reads
-use Rattle.planfile.proofs.label.Lts as lts
-use Rattle.planfile.proofs.label_part.Reads as label-part-reads
 
--- src/lib.rt:91:9
 label-part-requires : tie.Need-label-part-requires
 label-part-requires c κs = search needs
 
--- src/lib.rt:94:5
 sub-result : tie.Need-sub-result
 sub-result c = rw (c .label-part .ensures) (part-inside (c .before .before .args .file .now) (c .before .before .args .cell) .0)
 
--- src/lib.rt:94:5
 part-result-start : tie.Need-part-result-start
 part-result-start c = rw (c .label-part .ensures) (part-inside (c .before .before .args .file .now) (c .before .before .args .cell) .0)
 
--- src/lib.rt:94:5
 part-result-end : tie.Need-part-result-end
 part-result-end c = rw (c .label-part .ensures) (part-inside (c .before .before .args .file .now) (c .before .before .args .cell) .1)
 
--- src/lib.rt:88:1
 returns : tie.Need-returns
 returns c = rw (c .before .label-part .ensures)
 

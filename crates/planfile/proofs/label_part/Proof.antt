@@ -1,58 +1,40 @@
-use Rattle.planfile.specs.LabelLaws.{part-refused, part-given, trailer-there, record-there, record-is}
+use Rattle.planfile.specs.laws.Label.{part-refused, part-given, trailer-there, record-there, record-is}
 use native.Mathlib.Omega.{arith}
 use mathlib.Core.Path.{_∙_}
 use borrow.Author.Needs.{needs}
 use Rattle.planfile.proofs.label_part.Statement.{statement}
 use Rattle.planfile.proofs.label_part.Tie as tie
-use Rattle.planfile.proofs.label_part.Reads as reads
-use Rattle.planfile.proofs.label_part.Lts as lts
-use Rattle.plan.proofs.forms.form_of.Reads as form-of-reads
-use Rattle.planfile.proofs.cursor.Cursor.entry.Reads as entry-reads
-use Rattle.planfile.proofs.label_refusal.Reads as label-refusal-reads
-use Rattle.planfile.proofs.table.place.Reads as place-reads
-use Rattle.planfile.proofs.table.trailer.Reads as trailer-reads
 
--- src/lib.rt:72:9
 label-refusal-requires : tie.Need-label-refusal-requires
 label-refusal-requires c κs = search needs
 
--- src/lib.rt:74:9
 returns : tie.Need-returns
 returns c = part-refused (c .before .before .before .before .args .file .now) _ _ (c .before .before .label-refusal .ensures) (c .if1 .taken)
 
--- src/lib.rt:76:9
 trailer-requires : tie.Need-trailer-requires
 trailer-requires c κs = trailer-there (c .before .before .before .before .args .file .now) (c .before .before .before .before .args .cell) (c .before .before .label-refusal .result) (c .before .before .label-refusal .ensures) (c .if1 .left)
 
--- src/lib.rt:77:9
 form-of-requires : tie.Need-form-of-requires
 form-of-requires c κs = search needs
 
--- src/lib.rt:79:25
 cast-place : tie.Need-cast-place
 cast-place c = search needs
 
--- src/lib.rt:79:13
 place-requires : tie.Need-place-requires
 place-requires c κs = rw (c .before .form-of .ensures) (let h = record-there (c .before .before .before .before .before .before .before .args .file .now) (c .before .before .before .before .before .before .before .args .cell) (c .before .before .before .before .before .label-refusal .result) (c .before .before .before .before .before .label-refusal .ensures) (c .before .before .before .if1 .left) (c .before .before .trailer .result) (c .before .before .trailer .ensures) in (h .0, omega (arith, h .1, c .before .before .before .before .before .before .before .good)))
 
--- src/lib.rt:81:9
 entry-requires : tie.Need-entry-requires
 entry-requires c κs = rw (c .place .ensures, c .before .before .form-of .ensures) (record-there (c .before .before .before .before .before .before .before .before .args .file .now) (c .before .before .before .before .before .before .before .before .args .cell) (c .before .before .before .before .before .before .label-refusal .result) (c .before .before .before .before .before .before .label-refusal .ensures) (c .before .before .before .before .if1 .left) (c .before .before .before .trailer .result) (c .before .before .before .trailer .ensures) .1)
 
--- src/lib.rt:83:17
 cast-start : tie.Need-cast-start
 cast-start c = search needs
 
--- src/lib.rt:86:23
 cast-t11 : tie.Need-cast-t11
 cast-t11 c = search needs
 
--- src/lib.rt:86:14
 add-t12 : tie.Need-add-t12
 add-t12 c = search needs
 
--- src/lib.rt:69:1
 returns-2 : tie.Need-returns-2
 returns-2 c = part-given (c .before .before .before .before .before .before .before .before .before .before .before .before .args .file .now) _ _ (c .before .before .before .before .before .before .before .before .before .before .label-refusal .ensures) (c .before .before .before .before .before .before .before .before .if1 .left) _ (c .before .before .before .entry .ensures .0 ∙ rw (c .before .before .before .before .place .ensures, c .before .before .before .before .before .before .form-of .ensures) (record-is (c .before .before .before .before .before .before .before .before .before .before .before .before .args .file .now) (c .before .before .before .before .before .before .before .before .before .before .before .before .args .cell) (c .before .before .before .before .before .before .before .before .before .before .label-refusal .result) (c .before .before .before .before .before .before .before .before .before .before .label-refusal .ensures) (c .before .before .before .before .before .before .before .before .if1 .left) _ (c .before .before .before .before .before .before .before .trailer .ensures)))
 

@@ -4,31 +4,22 @@ use lib.Seq.{length-take-le}
 use borrow.Author.Needs.{needs}
 use Rattle.planfile_tests.proofs.filled.Statement.{statement}
 use Rattle.planfile_tests.proofs.filled.Tie as tie
-use Rattle.planfile_tests.proofs.filled.Reads as reads
-use Rattle.planfile_tests.proofs.filled.Lts as lts
-use Rattle.io.proofs.read_full.Reads as read-full-reads
 
--- src/main.rt:84:9
 returns : tie.Need-returns
 returns c = search needs
 
--- src/main.rt:86:30
 slice-relend-prefix-read-full : tie.Need-slice-relend-prefix-read-full
 slice-relend-prefix-read-full c = search needs
 
--- src/main.rt:86:30
 slice-aggregate-read-full : tie.Need-slice-aggregate-read-full
 slice-aggregate-read-full c = sym (length-take-le _ _ (omega arith))
 
--- src/main.rt:86:9
 read-full-requires : tie.Need-read-full-requires
 read-full-requires c κs = search needs
 
--- src/main.rt:82:1
 same-length : tie.Need-same-length
 same-length c = search needs
 
--- src/main.rt:82:1
 returns-2 : tie.Need-returns-2
 returns-2 c = search needs
 

@@ -4,28 +4,19 @@ use lib.Seq.{length-take-le}
 use borrow.Author.Needs.{needs}
 use Rattle.planfile_tests.proofs.print_case.Statement.{statement}
 use Rattle.planfile_tests.proofs.print_case.Tie as tie
-use Rattle.planfile_tests.proofs.print_case.Reads as reads
-use Rattle.planfile_tests.proofs.print_case.Lts as lts
-use Rattle.planfile_tests.proofs.print_label.Reads as print-label-reads
-use Rattle.planfile_tests.proofs.print_reading.Reads as print-reading-reads
 
--- src/main.rt:92:9
 returns : tie.Need-returns
 returns c = search needs
 
--- src/main.rt:94:9
 slice-aggregate-file : tie.Need-slice-aggregate-file
 slice-aggregate-file c = sym (length-take-le _ _ (omega arith))
 
--- src/main.rt:95:5
 print-reading-requires : tie.Need-print-reading-requires
 print-reading-requires c κs = search needs
 
--- src/main.rt:96:5
 print-label-requires : tie.Need-print-label-requires
 print-label-requires c κs = search needs
 
--- src/main.rt:90:1
 returns-2 : tie.Need-returns-2
 returns-2 c = search needs
 

@@ -1,11 +1,7 @@
 use Prim.Native.Nat.{_-_}
-use native.Mathlib.Omega.{arith}
 use borrow.Author.Needs.{needs}
 use Rattle.planfile_tests.proofs.print_records.Statement.{statement}
 use Rattle.planfile_tests.proofs.print_records.Tie as tie
-use Rattle.planfile_tests.proofs.print_records.Reads as reads
-use Rattle.planfile_tests.proofs.print_records.Lts as lts
-use Rattle.planfile_tests.proofs.print_record.Reads as print-record-reads
 
 abbrev Inv-loop : tie.InvT-loop
 Inv-loop plan file n c₀ c = Unit {0}
@@ -13,27 +9,21 @@ Inv-loop plan file n c₀ c = Unit {0}
 abbrev μ-loop : tie.MeasureT-loop
 μ-loop plan file n c₀ c = 4 - c
 
--- src/main.rt:48:5
 loop-holds : tie.Need-loop-holds Inv-loop μ-loop
 loop-holds c = search needs
 
--- src/main.rt:50:13
 print-record-requires : tie.Need-print-record-requires Inv-loop μ-loop
 print-record-requires c κs = search needs
 
--- src/main.rt:52:9
 add-c : tie.Need-add-c Inv-loop μ-loop
 add-c c = search needs
 
--- src/main.rt:48:5
 loop-less : tie.Need-loop-less Inv-loop μ-loop
 loop-less c = search needs
 
--- src/main.rt:48:5
 loop-again : tie.Need-loop-again Inv-loop μ-loop
 loop-again c = search needs
 
--- src/main.rt:46:1
 returns : tie.Need-returns Inv-loop μ-loop
 returns c = search needs
 

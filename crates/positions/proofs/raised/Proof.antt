@@ -4,10 +4,10 @@ use native.Mathlib.Omega.{arith}
 use lib.ListN.{length, length-set, replicate}
 use Rattle.plan.specs.Limits.{farthest, most-cells}
 use Rattle.plan.specs.Columns.{table-of}
-use Rattle.layout.specs.Sheet.{sheet}
+use Rattle.contours.specs.Sheet.{sheet}
 use Rattle.marks.specs.Marks.{Marked}
 use Rattle.positions.specs.Raised.{Raised}
-use Rattle.positions.specs.RaisedLaws.{counted, raised-start, Turn, turn}
+use Rattle.positions.specs.laws.Raised.{counted, raised-start, Turn, turn}
 use borrow.Author.Needs.{needs}
 use Rattle.positions.proofs.raised.Statement.{statement}
 use Rattle.positions.proofs.raised.Tie as tie

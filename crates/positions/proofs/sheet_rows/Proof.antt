@@ -2,7 +2,7 @@ use mathlib.Core.Path.{_≡_, ap}
 use Prim.Native.Nat.{ℕ, _+_, _-_, _≤_}
 use lib.ListN.{getD}
 use native.Mathlib.Omega.{arith}
-use Rattle.positions.specs.Measured.{Greatest, greatest-one, greatest-more, bottom-is}
+use Rattle.positions.specs.laws.Measured.{Greatest, greatest-one, greatest-more, bottom-is}
 use borrow.Author.Needs.{needs}
 use Rattle.positions.proofs.sheet_rows.Statement.{statement}
 use Rattle.positions.proofs.sheet_rows.Tie as tie

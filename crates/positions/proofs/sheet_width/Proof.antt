@@ -2,7 +2,7 @@ use mathlib.Core.Path.{_≡_}
 use Prim.Native.Nat.{_+_, _-_, _≤_}
 use lib.ListN.{getD}
 use native.Mathlib.Omega.{arith}
-use Rattle.positions.specs.Measured.{Smallest, Greatest, smallest-one, greatest-one, smallest-more, greatest-more, width-is}
+use Rattle.positions.specs.laws.Measured.{Smallest, Greatest, smallest-one, greatest-one, smallest-more, greatest-more, width-is}
 use borrow.Author.Needs.{needs}
 use Rattle.positions.proofs.sheet_width.Statement.{statement}
 use Rattle.positions.proofs.sheet_width.Tie as tie

@@ -1,14 +1,14 @@
 use mir.Syntax.{w32}
 use mir.ValLaws.{toZ-ofZ}
 use Rattle.plan.specs.Limits.{farthest}
+use Rattle.rules.specs.Placement.{Placement}
+use Rattle.positions.specs.Raised.{Raised, Topped}
+use Rattle.positions.specs.Written.{written}
+use Rattle.positions.specs.laws.Written.{written-none, written-put, lowered}
 use mathlib.Core.Path.{_≡_, refl, _∙_, ap}
 use Prim.Native.Nat.{_-_, _≤_}
 use lib.ListN.{length, length-set}
 use native.Mathlib.Omega.{arith}
-use Rattle.rules.specs.Placement.{Placement}
-use Rattle.positions.specs.Raised.{Raised, Topped}
-use Rattle.positions.specs.Written.{written}
-use Rattle.positions.specs.WrittenLaws.{written-none, written-put, lowered}
 use borrow.Author.Needs.{needs}
 use Rattle.positions.proofs.write_positions.Statement.{statement}
 use Rattle.positions.proofs.write_positions.Tie as tie

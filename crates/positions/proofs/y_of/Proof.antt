@@ -2,7 +2,7 @@ use mir.Syntax.{w32}
 use mir.ValLaws.{toZ-ofZ}
 use mathlib.Core.Path.{ap, _∙_}
 use lib.IntN.{pos}
-use Rattle.positions.specs.WrittenLaws.{less-none}
+use Rattle.positions.specs.laws.Written.{less-none}
 use borrow.Author.Needs.{needs}
 use Rattle.positions.proofs.y_of.Statement.{statement}
 use Rattle.positions.proofs.y_of.Tie as tie

@@ -1,49 +1,37 @@
 use mathlib.Core.Path.{refl}
 use native.Mathlib.Omega.{arith}
-use Rattle.printing.specs.TakenLaws.{taken-few, label-inside, label-there}
+use Rattle.printing.specs.laws.Taken.{taken-few, label-inside, label-there}
 use borrow.Author.Needs.{needs}
 use Rattle.printing.proofs.label_at.Statement.{statement}
 use Rattle.printing.proofs.label_at.Tie as tie
-use Rattle.printing.proofs.label_at.Reads as reads
-use Rattle.printing.proofs.label_at.Lts as lts
 
--- src/lib.rt:58:17
 mul-start : tie.Need-mul-start
 mul-start c = omega (arith, c .before .before .pre .0, taken-few _ _ (c .before .before .pre .1))
 
--- src/lib.rt:58:17
 array-read-start : tie.Need-array-read-start
 array-read-start c = omega (arith, c .before .before .pre .0, taken-few _ _ (c .before .before .pre .1))
 
--- src/lib.rt:58:17
 cast-start : tie.Need-cast-start
 cast-start c = search needs
 
--- src/lib.rt:59:24
 array-read-end : tie.Need-array-read-end
 array-read-end c = omega (arith, c .before .before .pre .0, taken-few _ _ (c .before .before .pre .1))
 
--- src/lib.rt:59:24
 cast-end : tie.Need-cast-end
 cast-end c = search needs
 
--- src/lib.rt:59:15
 add-end : tie.Need-add-end
 add-end c = omega (arith, label-inside _ _ (c .before .before .pre .1) _ (c .before .before .pre .0))
 
--- src/lib.rt:60:5
 sub-result : tie.Need-sub-result
 sub-result c = search needs
 
--- src/lib.rt:60:5
 part-result-start : tie.Need-part-result-start
 part-result-start c = search needs
 
--- src/lib.rt:60:5
 part-result-end : tie.Need-part-result-end
 part-result-end c = omega (arith, label-inside _ _ (c .before .before .pre .1) _ (c .before .before .pre .0))
 
--- src/lib.rt:52:1
 returns : tie.Need-returns
 returns c = label-there _ _ (c .before .before .before .pre .1) _ (c .before .before .before .pre .0) _ _ refl refl
 

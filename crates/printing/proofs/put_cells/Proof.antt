@@ -4,14 +4,10 @@ use native.Mathlib.Omega.{arith}
 use lib.ListN.{length}
 use Rattle.listing.specs.Put.{Put}
 use Rattle.printing.specs.Printing.{cells-text, cell-size}
-use Rattle.printing.specs.TakenLaws.{put-no-cells, put-cell, cells-done}
+use Rattle.printing.specs.laws.Taken.{put-no-cells, put-cell, cells-done}
 use borrow.Author.Needs.{needs}
 use Rattle.printing.proofs.put_cells.Statement.{statement}
 use Rattle.printing.proofs.put_cells.Tie as tie
-use Rattle.printing.proofs.put_cells.Reads as reads
-use Rattle.printing.proofs.put_cells.Lts as lts
-use Rattle.printing.proofs.line_at.Reads as line-at-reads
-use Rattle.printing.proofs.put_line.Reads as put-line-reads
 
 abbrev Inv-loop : tie.InvT-loop
 Inv-loop plan file positions out₀ at n next₀ c₀ out next c =
@@ -20,15 +16,12 @@ Inv-loop plan file positions out₀ at n next₀ c₀ out next c =
 abbrev μ-loop : tie.MeasureT-loop
 μ-loop plan file positions out₀ at n next₀ c₀ out next c = n - c
 
--- src/lib.rt:87:5
 loop-holds : tie.Need-loop-holds Inv-loop μ-loop
 loop-holds c = (omega arith, refl, omega arith, put-no-cells _ _ _ _)
 
--- src/lib.rt:88:13
 line-at-requires : tie.Need-line-at-requires Inv-loop μ-loop
 line-at-requires c κs = (omega arith, c .before .before .before .before .before .pre .0, c .before .before .before .before .before .pre .1)
 
--- src/lib.rt:89:9
 put-line-requires : tie.Need-put-line-requires Inv-loop μ-loop
 put-line-requires c κs =
     let i = c .before .before .before .loop .inv in
@@ -37,26 +30,21 @@ put-line-requires c κs =
     let t = c .before .before .loop-test .taken in
     (record { long = search needs; inside = omega (arith, m) }, omega (arith, i .0, i .1, i .2, r, m, t))
 
--- src/lib.rt:90:9
 add-c : tie.Need-add-c Inv-loop μ-loop
 add-c c = omega arith
 
--- src/lib.rt:87:5
 loop-less : tie.Need-loop-less Inv-loop μ-loop
 loop-less c = omega arith
 
--- src/lib.rt:87:5
 loop-again : tie.Need-loop-again Inv-loop μ-loop
 loop-again c =
     let i = c .before .before .before .before .before .before .loop .inv in
     let g = put-cell _ _ _ _ (i .3) (c .before .before .before .before .line-at .ensures .0) (c .before .before .before .before .line-at .ensures .1) (c .before .before .put-line .ensures) in
     (omega arith, omega (arith, i .1), omega (arith, g .0, i .2), g .1)
 
--- src/lib.rt:79:1
 same-length : tie.Need-same-length Inv-loop μ-loop
 same-length c = search needs
 
--- src/lib.rt:79:1
 returns : tie.Need-returns Inv-loop μ-loop
 returns c =
     let i = c .before .loop .inv in

@@ -1,55 +1,39 @@
 use native.Mathlib.Omega.{arith}
-use Rattle.printing.specs.TakenLaws.{put-short, refusal-done}
+use Rattle.printing.specs.laws.Taken.{put-short, refusal-done}
 use borrow.Author.Needs.{needs}
 use Rattle.printing.proofs.write_listing.Statement.{statement}
 use Rattle.printing.proofs.write_listing.Tie as tie
-use Rattle.printing.proofs.write_listing.Reads as reads
-use Rattle.printing.proofs.write_listing.Lts as lts
-use Rattle.listing.proofs.refused_line.Reads as refused-line-reads
-use Rattle.planfile.proofs.read.Reads as read-reads
-use Rattle.printing.proofs.put_line.Reads as put-line-reads
-use Rattle.printing.proofs.write_sheet.Reads as write-sheet-reads
 
--- src/lib.rt:117:9
 read-requires : tie.Need-read-requires
 read-requires c κs = search needs
 
--- src/lib.rt:120:33
 cast-refused-line : tie.Need-cast-refused-line
 cast-refused-line c = search needs
 
--- src/lib.rt:120:56
 cast-refused-line-2 : tie.Need-cast-refused-line-2
 cast-refused-line-2 c = search needs
 
--- src/lib.rt:120:13
 refused-line-requires : tie.Need-refused-line-requires
 refused-line-requires c κs = search needs
 
--- src/lib.rt:121:9
 put-line-requires : tie.Need-put-line-requires
 put-line-requires c κs = search needs
 
--- src/lib.rt:121:9
 same-length : tie.Need-same-length
 same-length c = search needs
 
--- src/lib.rt:121:9
 returns : tie.Need-returns
 returns c =
     let l = c .before .before .before .before .refused-line .ensures in
     let k = put-short _ (c .before .before .put-line .ensures) (l .1) in
     (refusal-done _ _ (c .before .before .before .before .before .before .before .before .before .before .read .ensures) (c .before .before .before .before .before .before .before .if1 .taken) _ (l .0) (c .before .before .put-line .ensures), omega (arith, k))
 
--- src/lib.rt:123:5
 write-sheet-requires : tie.Need-write-sheet-requires
 write-sheet-requires c κs = search needs
 
--- src/lib.rt:113:1
 same-length-2 : tie.Need-same-length-2
 same-length-2 c = search needs
 
--- src/lib.rt:113:1
 returns-2 : tie.Need-returns-2
 returns-2 c = search needs
 

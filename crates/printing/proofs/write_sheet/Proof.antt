@@ -1,45 +1,31 @@
 use native.Mathlib.Omega.{arith}
-use Rattle.printing.specs.PrintingLaws.{drawn-measured, drawn-placed}
-use Rattle.printing.specs.TakenLaws.{taken-few, taken-drawable, put-short, sheet-done}
+use Rattle.printing.specs.laws.Printing.{drawn-measured, drawn-placed}
+use Rattle.printing.specs.laws.Taken.{taken-few, taken-drawable, put-short, sheet-done}
 use borrow.Author.Needs.{needs}
 use Rattle.printing.proofs.write_sheet.Statement.{statement}
 use Rattle.printing.proofs.write_sheet.Tie as tie
-use Rattle.printing.proofs.write_sheet.Reads as reads
-use Rattle.printing.proofs.write_sheet.Lts as lts
-use Rattle.drawing.proofs.draw_over_zeros.Reads as draw-over-zeros-reads
-use Rattle.printing.proofs.first_line.Reads as first-line-reads
-use Rattle.printing.proofs.put_cells.Reads as put-cells-reads
-use Rattle.printing.proofs.put_line.Reads as put-line-reads
 
--- src/lib.rt:100:21
 cast-allowance : tie.Need-cast-allowance
 cast-allowance c = search needs
 
--- src/lib.rt:103:51
 slice-aggregate-draw-over-zeros : tie.Need-slice-aggregate-draw-over-zeros
 slice-aggregate-draw-over-zeros c = search needs
 
--- src/lib.rt:103:65
 slice-aggregate-draw-over-zeros-2 : tie.Need-slice-aggregate-draw-over-zeros-2
 slice-aggregate-draw-over-zeros-2 c = search needs
 
--- src/lib.rt:103:9
 draw-over-zeros-requires : tie.Need-draw-over-zeros-requires
 draw-over-zeros-requires c κs = (taken-drawable _ _ (c .before .before .before .before .before .before .pre .0) _ _ (search needs) (omega arith), search needs)
 
--- src/lib.rt:104:9
 first-line-requires : tie.Need-first-line-requires
 first-line-requires c κs = drawn-measured _ (taken-few _ _ (c .before .before .before .before .before .before .before .before .before .pre .0)) (c .before .before .draw-over-zeros .ensures)
 
--- src/lib.rt:105:9
 put-line-requires : tie.Need-put-line-requires
 put-line-requires c κs = search needs
 
--- src/lib.rt:106:27
 slice-aggregate-put-cells : tie.Need-slice-aggregate-put-cells
 slice-aggregate-put-cells c = search needs
 
--- src/lib.rt:106:5
 put-cells-requires : tie.Need-put-cells-requires
 put-cells-requires c κs =
     let h = c .before .before .before .before .before .before .before .before .before .before .before .before .before .before .before .before .pre in
@@ -47,11 +33,9 @@ put-cells-requires c κs =
     let k = put-short _ (c .before .before .before .before .put-line .ensures) (c .before .before .before .before .before .before .first-line .ensures .1) in
     (h .0, drawn-placed _ n (c .before .before .before .before .before .before .before .before .before .draw-over-zeros .ensures) (omega (arith, c .before .before .before .before .before .before .before .before .before .draw-over-zeros .kept)), omega (arith, h .1, n, k))
 
--- src/lib.rt:95:1
 same-length : tie.Need-same-length
 same-length c = search needs
 
--- src/lib.rt:95:1
 returns : tie.Need-returns
 returns c =
     let h = c .before .before .before .before .before .before .before .before .before .before .before .before .before .before .before .before .before .before .before .pre in

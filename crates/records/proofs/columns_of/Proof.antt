@@ -48,10 +48,10 @@ use denote.Triple.Walked.{says, Stays, stay-none-slice, walkOf, goes-none-slice,
 use denote.Triple.Clauses.{ensured, lasts}
 use denote.Exit.{yes}
 use Rattle.plan.specs.Limits.{most-cells}
+use Rattle.records.specs.Apart.{lent-at, with-record, blank, columns, clipped}
+use Rattle.records.specs.laws.Apart.{clipped-fits, columns-none, columns-more}
 use Rattle.plan.specs.declared.Record.{Record}
 use Rattle.plan.specs.declared.Columns.{Columns}
-use Rattle.records.specs.Apart.{lent-at, with-record, blank, columns, clipped}
-use Rattle.records.specs.ApartLaws.{clipped-fits, columns-none, columns-more}
 use Rattle.plan.proofs.Record as T
 use Rattle.plan.proofs.Record.Laws as T′
 use Rattle.plan.proofs.Columns as B

@@ -47,11 +47,11 @@ use denote.Triple.Table.{entered}
 use denote.Triple.Walked.{says, needs, Stays, stay-slice, stay-none, walkOf, goes-slice, goes-none, Walks, ends-at, walked, walk-meets}
 use denote.Exit.{yes}
 use Rattle.plan.specs.Limits.{most-cells}
-use Rattle.plan.specs.declared.Record.{Record}
-use Rattle.planfile.specs.declared.Reading.{Reading}
 use Rattle.records.specs.Apart.{no-record}
 use Rattle.records.specs.Together.{record-in, filled}
-use Rattle.records.specs.TogetherLaws.{filled-length, filled-none, filled-more}
+use Rattle.records.specs.laws.Together.{filled-length, filled-none, filled-more}
+use Rattle.plan.specs.declared.Record.{Record}
+use Rattle.planfile.specs.declared.Reading.{Reading}
 use Rattle.plan.proofs.Record as T
 use Rattle.plan.proofs.Record.Laws as T′
 use Rattle.plan.proofs.Columns as D

@@ -3,7 +3,8 @@ use native.Mathlib.Omega.{arith}
 use Prim.Native.Nat.{_≤_, _-_}
 use mathlib.Core.Path.{_≡_, refl}
 use lib.ListN.{length, length-set}
-use Rattle.rows.specs.Rows.{box-to, box-to-more}
+use Rattle.rows.specs.Rows.{box-to}
+use Rattle.rows.specs.laws.Rows.{box-to-more}
 use Rattle.rows.proofs.box_rows.Statement.{statement}
 use Rattle.rows.proofs.box_rows.Tie as tie
 

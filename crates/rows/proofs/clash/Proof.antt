@@ -2,7 +2,8 @@ use borrow.Author.Needs.{needs}
 use native.Mathlib.Omega.{arith}
 use Prim.Native.Nat.{_≤_, _-_}
 use mathlib.Core.Path.{_≡_, refl}
-use Rattle.rows.specs.Rows.{clash-to, clash-to-more}
+use Rattle.rows.specs.Rows.{clash-to}
+use Rattle.rows.specs.laws.Rows.{clash-to-more}
 use Rattle.rows.proofs.clash.Statement.{statement}
 use Rattle.rows.proofs.clash.Tie as tie
 

@@ -2,7 +2,8 @@ use borrow.Author.Needs.{needs}
 use native.Mathlib.Omega.{arith}
 use Prim.Native.Nat.{_≤_, _-_}
 use mathlib.Core.Path.{_≡_, refl}
-use Rattle.rows.specs.Rows.{max-to, max-to-more}
+use Rattle.rows.specs.Rows.{max-to}
+use Rattle.rows.specs.laws.Rows.{max-to-more}
 use Rattle.rows.proofs.column_max.Statement.{statement}
 use Rattle.rows.proofs.column_max.Tie as tie
 

@@ -4,7 +4,7 @@ use Prim.Native.Nat.{_≤_, _-_, _+_, _*_}
 use mathlib.Core.Path.{_≡_, refl}
 use lib.ListN.{length}
 use Rattle.rows.specs.Rows.{beyond-rows, put-to}
-use Rattle.rows.specs.RowLaws.{unread, beyond-more}
+use Rattle.rows.specs.laws.Rows.{unread, beyond-more}
 use Rattle.rows.proofs.join_beyond.Statement.{statement}
 use Rattle.rows.proofs.join_beyond.Tie as tie
 

@@ -4,7 +4,7 @@ use Prim.Native.Nat.{_≤_, _-_, _*_}
 use mathlib.Core.Path.{_≡_, refl, _∙_, ap}
 use lib.ListN.{length}
 use Rattle.rows.specs.Rows.{extent, upto-rows, put-to}
-use Rattle.rows.specs.RowLaws.{put-to-above, upto-more}
+use Rattle.rows.specs.laws.Rows.{put-to-above, upto-more}
 use Rattle.rows.proofs.join_upto.Statement.{statement}
 use Rattle.rows.proofs.join_upto.Tie as tie
 

@@ -4,61 +4,43 @@ use lib.Seq.{length-take-le}
 use borrow.Author.Needs.{needs}
 use Rattle.sheet.proofs.main.Statement.{statement}
 use Rattle.sheet.proofs.main.Tie as tie
-use Rattle.sheet.proofs.main.Reads as reads
-use Rattle.sheet.proofs.main.Lts as lts
-use Rattle.io.proofs.read_full.Reads as read-full-reads
-use Rattle.io.proofs.write_all.Reads as write-all-reads
-use Rattle.printing.proofs.write_listing.Reads as write-listing-reads
 
--- src/main.rt:6:30
 slice-aggregate-read-full : tie.Need-slice-aggregate-read-full
 slice-aggregate-read-full c = search needs
 
--- src/main.rt:6:9
 read-full-requires : tie.Need-read-full-requires
 read-full-requires c κs = search needs
 
--- src/main.rt:8:42
 array-share-prefix-file : tie.Need-array-share-prefix-file
 array-share-prefix-file c = search needs
 
--- src/main.rt:8:42
 slice-aggregate-write-listing : tie.Need-slice-aggregate-write-listing
 slice-aggregate-write-listing c = search needs
 
--- src/main.rt:8:54
 slice-aggregate-write-listing-2 : tie.Need-slice-aggregate-write-listing-2
 slice-aggregate-write-listing-2 c = search needs
 
--- src/main.rt:8:9
 write-listing-requires : tie.Need-write-listing-requires
 write-listing-requires c κs = search needs
 
--- src/main.rt:9:26
 array-share-prefix-out : tie.Need-array-share-prefix-out
 array-share-prefix-out c = search needs
 
--- src/main.rt:9:26
 slice-aggregate-write-all : tie.Need-slice-aggregate-write-all
 slice-aggregate-write-all c = sym (length-take-le _ _ (omega (arith, c .before .before .write-listing .ensures .1, c .before .before .write-listing .kept)))
 
--- src/main.rt:9:9
 write-all-requires : tie.Need-write-all-requires
 write-all-requires c κs = search needs
 
--- src/main.rt:10:26
 slice-aggregate-write-all-2 : tie.Need-slice-aggregate-write-all-2
 slice-aggregate-write-all-2 c = search needs
 
--- src/main.rt:10:9
 write-all-requires-2 : tie.Need-write-all-requires-2
 write-all-requires-2 c κs = search needs
 
--- src/main.rt:4:1
 returns : tie.Need-returns
 returns c = search needs
 
--- src/main.rt:4:1
 returns-2 : tie.Need-returns-2
 returns-2 c = search needs
 

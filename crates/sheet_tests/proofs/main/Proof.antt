@@ -3,9 +3,6 @@ use lib.ListN.{length}
 use borrow.Author.Needs.{needs}
 use Rattle.sheet_tests.proofs.main.Statement.{statement}
 use Rattle.sheet_tests.proofs.main.Tie as tie
-use Rattle.sheet_tests.proofs.main.Reads as reads
-use Rattle.sheet_tests.proofs.main.Lts as lts
-use Rattle.sheet_tests.proofs.print_next.Reads as print-next-reads
 
 abbrev Inv-loop : tie.InvT-loop
 Inv-loop space₀ turns₀ space turns = length space ≡ 16400
@@ -13,35 +10,27 @@ Inv-loop space₀ turns₀ space turns = length space ≡ 16400
 abbrev μ-loop : tie.MeasureT-loop
 μ-loop space₀ turns₀ space turns = turns
 
--- src/main.rt:39:5
 loop-holds : tie.Need-loop-holds Inv-loop μ-loop
 loop-holds c = search needs
 
--- src/main.rt:40:24
 slice-aggregate-print-next : tie.Need-slice-aggregate-print-next Inv-loop μ-loop
 slice-aggregate-print-next c = search needs
 
--- src/main.rt:40:13
 print-next-requires : tie.Need-print-next-requires Inv-loop μ-loop
 print-next-requires c κs = search needs
 
--- src/main.rt:41:13
 returns : tie.Need-returns Inv-loop μ-loop
 returns c = search needs
 
--- src/main.rt:43:9
 sub-turns : tie.Need-sub-turns Inv-loop μ-loop
 sub-turns c = search needs
 
--- src/main.rt:39:5
 loop-less : tie.Need-loop-less Inv-loop μ-loop
 loop-less c = search needs
 
--- src/main.rt:39:5
 loop-again : tie.Need-loop-again Inv-loop μ-loop
 loop-again c = search needs
 
--- src/main.rt:36:1
 returns-2 : tie.Need-returns-2 Inv-loop μ-loop
 returns-2 c = search needs
 

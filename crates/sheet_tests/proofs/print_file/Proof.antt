@@ -4,40 +4,28 @@ use lib.Seq.{length-take-le}
 use borrow.Author.Needs.{needs}
 use Rattle.sheet_tests.proofs.print_file.Statement.{statement}
 use Rattle.sheet_tests.proofs.print_file.Tie as tie
-use Rattle.sheet_tests.proofs.print_file.Reads as reads
-use Rattle.sheet_tests.proofs.print_file.Lts as lts
-use Rattle.io.proofs.write_all.Reads as write-all-reads
-use Rattle.printing.proofs.write_listing.Reads as write-listing-reads
 
--- src/main.rt:19:9
 returns : tie.Need-returns
 returns c = search needs
 
--- src/main.rt:22:42
 slice-aggregate-write-listing : tie.Need-slice-aggregate-write-listing
 slice-aggregate-write-listing c = sym (length-take-le _ _ (omega arith))
 
--- src/main.rt:22:58
 slice-aggregate-write-listing-2 : tie.Need-slice-aggregate-write-listing-2
 slice-aggregate-write-listing-2 c = search needs
 
--- src/main.rt:22:9
 write-listing-requires : tie.Need-write-listing-requires
 write-listing-requires c κs = search needs
 
--- src/main.rt:23:22
 array-share-prefix-out : tie.Need-array-share-prefix-out
 array-share-prefix-out c = search needs
 
--- src/main.rt:23:22
 slice-aggregate-write-all : tie.Need-slice-aggregate-write-all
 slice-aggregate-write-all c = sym (length-take-le _ _ (omega (arith, c .before .before .write-listing .ensures .1, c .before .before .write-listing .kept)))
 
--- src/main.rt:23:5
 write-all-requires : tie.Need-write-all-requires
 write-all-requires c κs = search needs
 
--- src/main.rt:17:1
 returns-2 : tie.Need-returns-2
 returns-2 c = search needs
 

@@ -1,7 +1,7 @@
 use borrow.Author.Needs.{needs}
 use Prim.Native.Nat.{_-_}
 use mathlib.Core.Path.{refl}
-use Rattle.spans.specs.Laid.{cols}
+use Rattle.spans.specs.Shared.{cols}
 use Rattle.spans.proofs.Laying.{Laying, laying-starts, sharing, laying-turns, laying-ends}
 use Rattle.spans.proofs.lay.Statement.{statement}
 use Rattle.spans.proofs.lay.Tie as tie

@@ -2,7 +2,7 @@ use native.Mathlib.Omega.{arith}
 use mathlib.Core.Path.{refl}
 use lib.ListN.{length}
 use Rattle.links.specs.Chain.{line-of}
-use Rattle.spans.specs.Laid.{cols}
+use Rattle.spans.specs.Shared.{cols}
 use Rattle.spans.proofs.Laying.{Shares, shares-start, shares-now, shares-fit, next-few, shares-next, shares-less, shares-end}
 use Rattle.spans.proofs.lay_children.Statement.{statement}
 use Rattle.spans.proofs.lay_children.Tie as tie

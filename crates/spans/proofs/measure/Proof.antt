@@ -1,6 +1,6 @@
 use Prim.Native.Nat.{_-_}
 use Rattle.spans.proofs.Folding.{Folding, folding-starts, size-fits, folding-turns, folding-ends}
-use Rattle.plan.specs.TableLaws.{parent-lower}
+use Rattle.plan.specs.laws.Tables.{parent-lower}
 use native.Mathlib.Omega.{arith}
 use borrow.Author.Needs.{needs}
 use Rattle.spans.proofs.measure.Statement.{statement}

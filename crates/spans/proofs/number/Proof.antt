@@ -1,6 +1,6 @@
 use Prim.Native.Nat.{_-_}
 use Rattle.spans.proofs.Numbering.{Numbering, numbering-starts, many-fits, place-fits, numbering-turns, numbering-ends}
-use Rattle.plan.specs.TableLaws.{parent-lower}
+use Rattle.plan.specs.laws.Tables.{parent-lower}
 use native.Mathlib.Omega.{arith}
 use borrow.Author.Needs.{needs}
 use Rattle.spans.proofs.number.Statement.{statement}

@@ -3,9 +3,9 @@ use mathlib.Core.Path.{ap, sym, _∙_}
 use Prim.Native.Nat.{_*_}
 use Rattle.plan.specs.Columns.{table-of}
 use Rattle.plan.specs.Limits.{scratch-size, most-cells}
-use Rattle.plan.specs.declared.Refusal.{Refusal}
 use Rattle.least.specs.Asked.{layout-asks}
-use Rattle.drawing.specs.LaidLaws.{nothing}
+use Rattle.layout.specs.laws.Laid.{nothing}
+use Rattle.plan.specs.declared.Refusal.{Refusal}
 use Rattle.turns.proofs.show.Statement.{statement}
 use Rattle.turns.proofs.show.Tie as tie
 

@@ -1,6 +1,6 @@
 use borrow.Author.Needs.{needs}
 use mathlib.Core.Path.{refl}
-use Rattle.drawing.specs.LaidLaws.{fit-lower, fit-flat}
+use Rattle.layout.specs.laws.Laid.{fit-lower, fit-flat}
 use Rattle.turns.proofs.survey_and_tour.Statement.{statement}
 use Rattle.turns.proofs.survey_and_tour.Tie as tie
 

@@ -3,8 +3,8 @@ use mathlib.Core.Path.{_≡_, refl}
 use lib.ListN.{length}
 use native.Mathlib.Omega.{arith}
 use Rattle.plan.specs.Limits.{most-cells}
-use Rattle.marks.specs.Marks.{Long, walking}
-use Rattle.drawing.specs.LaidLaws.{markable}
+use Rattle.marks.specs.laws.Marks.{Long, walking}
+use Rattle.layout.specs.laws.Laid.{markable}
 use Rattle.turns.proofs.tour.Statement.{statement}
 use Rattle.turns.proofs.tour.Tie as tie
 

@@ -1,8 +1,11 @@
 use borrow.Author.Needs.{needs}
-use Rattle.walk.specs.Falls.{Falls, fallen, Fell, fall}
-use Rattle.walk.specs.Walked.{Keeps, keeps-start, keeps-turning, keeps-turn, keeps-less}
-use Rattle.walk.specs.Turns.{stack-of, state-of, stack-of-length}
-use Rattle.walk.specs.Machine.{Chart, chart, State, most-turns, turns}
+use Rattle.walk.specs.Falls.{Falls, fallen}
+use Rattle.walk.specs.laws.Falls.{Fell, fall}
+use Rattle.walk.specs.laws.Walked.{Keeps, keeps-start, keeps-turning, keeps-turn, keeps-less}
+use Rattle.walk.specs.Turns.{state-of}
+use Rattle.walk.specs.laws.Turns.{stack-of-length}
+use Rattle.walk.specs.Machine.{Chart, chart, State}
+use Rattle.walk.specs.laws.Machine.{most-turns, turns}
 use lib.ListN.{length}
 use mathlib.Core.Path.{_≡_, refl, _∙_}
 use Prim.Native.Nat.{_<_}

@@ -1,6 +1,5 @@
 use borrow.Author.Needs.{needs}
 use mathlib.Core.Path.{refl}
-use native.Mathlib.Omega.{arith}
 use Rattle.walk.specs.Turns.{stack-of}
 use Rattle.walk.proofs.begin.Statement.{statement}
 use Rattle.walk.proofs.begin.Tie as tie

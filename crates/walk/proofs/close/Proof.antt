@@ -2,7 +2,7 @@ use borrow.Author.Needs.{needs}
 use Prim.Native.Nat.{_*_}
 use mathlib.Core.Path.{refl}
 use Rattle.walk.specs.Machine.{Chart, chart}
-use Rattle.walk.specs.Turns.{child-ready, close-found}
+use Rattle.walk.specs.laws.Turns.{child-ready, close-found}
 use Rattle.walk.proofs.Parts.{part-seen, part-rest}
 use Rattle.walk.proofs.close.Statement.{statement}
 use Rattle.walk.proofs.close.Tie as tie

@@ -1,4 +1,5 @@
-use Rattle.walk.specs.Falls.{Falling, fallen, first-of, falling-room, falling-on, falling-linked, falling-leaf, first-child}
+use Rattle.walk.specs.Falls.{fallen, first-of}
+use Rattle.walk.specs.laws.Falls.{Falling, falling-room, falling-on, falling-linked, falling-leaf, first-child}
 use Rattle.walk.specs.Turns.{stack-of}
 use lib.ListN.{length, length-set}
 use native.Mathlib.Omega.{arith}

@@ -1,7 +1,6 @@
 use borrow.Author.Needs.{needs}
-use Prim.Native.Nat.{_-_}
-use Rattle.joining.specs.Joining.{mem}
-use Rattle.walk.specs.Turns.{settle-ready, finish-found}
+use Rattle.joining.specs.Joining.{memory-of}
+use Rattle.walk.specs.laws.Turns.{settle-ready, finish-found}
 use Rattle.walk.proofs.finish_child.Statement.{statement}
 use Rattle.walk.proofs.finish_child.Tie as tie
 
@@ -15,7 +14,7 @@ settle-requires : tie.Need-settle-requires
 settle-requires c κs =
     let st = c .before .before .before .before .before .before .before .before .before .before .before in
     let a = st .args in
-    settle-ready (mem (a .rows .now) (a .marks .now)) (a .at) (a .f) (a .c) (a .d) (a .w) (st .pre) (c .before .before .before .before .before .before .complete .ensures .0) (c .before .before .before .before .before .before .complete .ensures .1)
+    settle-ready (memory-of (a .rows .now) (a .marks .now)) (a .at) (a .f) (a .c) (a .d) (a .w) (st .pre) (c .before .before .before .before .before .before .complete .ensures .0) (c .before .before .before .before .before .before .complete .ensures .1)
 
 same-length : tie.Need-same-length
 same-length c = search needs
@@ -26,7 +25,7 @@ same-length-2 c = search needs
 returns : tie.Need-returns
 returns c =
     let a = c .before .before .before .before .before .before .before .before .before .before .before .before .before .before .before .before .args in
-    finish-found (mem (a .rows .now) (a .marks .now)) (a .at) (a .f) (a .c) (a .d) (a .w) (a .place) (a .apt) (a .allowance) (c .before .before .before .before .before .before .before .before .before .before .before .complete .ensures .0) (c .before .before .before .before .before .before .before .before .before .before .before .complete .ensures .1) (c .before .before .before .before .settle .ensures)
+    finish-found (memory-of (a .rows .now) (a .marks .now)) (a .at) (a .f) (a .c) (a .d) (a .w) (a .place) (a .apt) (a .allowance) (c .before .before .before .before .before .before .before .before .before .before .before .complete .ensures .0) (c .before .before .before .before .before .before .before .before .before .before .before .complete .ensures .1) (c .before .before .before .before .settle .ensures)
 
 pub finish-child-spec : {M : Type 1} → statement M
 finish-child-spec =

@@ -1,7 +1,6 @@
 use borrow.Author.Needs.{needs}
-use Prim.Native.Nat.{_-_}
-use Rattle.joining.specs.Joining.{mem}
-use Rattle.walk.specs.Turns.{root-found}
+use Rattle.joining.specs.Joining.{memory-of}
+use Rattle.walk.specs.laws.Turns.{root-found}
 use Rattle.walk.proofs.finish_root.Statement.{statement}
 use Rattle.walk.proofs.finish_root.Tie as tie
 
@@ -20,7 +19,7 @@ same-length-2 c = search needs
 returns : tie.Need-returns
 returns c =
     let a = c .before .before .before .before .before .before .before .before .before .before .before .before .before .args in
-    root-found (mem (a .rows .now) (a .marks .now)) (a .d) (a .w) (c .before .before .before .before .before .before .before .before .complete .ensures .0) (c .before .before .before .before .before .before .before .before .complete .ensures .1) (c .before .before .box-rows .ensures)
+    root-found (memory-of (a .rows .now) (a .marks .now)) (a .d) (a .w) (c .before .before .before .before .before .before .before .before .complete .ensures .0) (c .before .before .before .before .before .before .before .before .complete .ensures .1) (c .before .before .box-rows .ensures)
 
 pub finish-root-spec : {M : Type 1} → statement M
 finish-root-spec =

@@ -1,4 +1,4 @@
-use Rattle.walk.specs.Falls.{first-none, first-some}
+use Rattle.walk.specs.laws.Falls.{first-none, first-some}
 use native.Mathlib.Omega.{arith}
 use Rattle.walk.proofs.first_of.Statement.{statement}
 use Rattle.walk.proofs.first_of.Tie as tie

@@ -3,9 +3,9 @@ use mathlib.Core.Path.{_≡_}
 use Prim.Native.Nat.{ℕ, _+_, _-_, _<_}
 use native.Mathlib.Omega.{arith}
 use lib.ListN.{getD}
-use Rattle.joining.specs.Joining.{mem}
+use Rattle.joining.specs.Joining.{memory-of}
 use Rattle.walk.specs.Machine.{Chart, chart, Closing, Ending}
-use Rattle.walk.specs.Turns.{turn-close, turn-end, shut-two, shut-one, turn-some}
+use Rattle.walk.specs.laws.Turns.{turn-close, turn-end, shut-two, shut-one, turn-some}
 use Rattle.walk.proofs.shut.Statement.{statement}
 use Rattle.walk.proofs.shut.Tie as tie
 
@@ -19,7 +19,7 @@ within s =
     let so = turn-some (board s) (a .cells .now) (a .level + 1) (a .rows .now) (a .marks .now) (s .pre) in
     omega arith
 
-ending : (s : tie.Start) → s .args .level ≡ 0 → Ending (board s) (mem (s .args .rows .now) (s .args .marks .now))
+ending : (s : tie.Start) → s .args .level ≡ 0 → Ending (board s) (memory-of (s .args .rows .now) (s .args .marks .now))
 ending s e = let a = s .args in shut-one (board s) (a .cells .now) (a .level) (a .rows .now) (a .marks .now) (s .pre) e
 
 closing : (s : tie.Start) {c f : ℕ} → 0 < s .args .level → c ≡ getD (s .args .cells .now) (s .args .level) 0 → f ≡ getD (s .args .cells .now) (s .args .level - 1) 0

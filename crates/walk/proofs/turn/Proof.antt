@@ -1,8 +1,9 @@
-use Rattle.walk.specs.Falls.{leaf-length, leaf-closing, leaf-closed, no-leaf}
-use Rattle.walk.specs.Turns.{state-of, stack-of-length}
+use Rattle.walk.specs.laws.Falls.{leaf-length, leaf-closing, leaf-closed, no-leaf}
+use Rattle.walk.specs.Turns.{state-of}
+use Rattle.walk.specs.laws.Turns.{stack-of-length}
 use Rattle.walk.specs.Machine.{Chart, chart, Turning}
 use native.Mathlib.Omega.{arith}
-use Prim.Native.Nat.{_+_, _-_, _<_}
+use Prim.Native.Nat.{_+_, _-_}
 use mathlib.Core.Path.{_≡_}
 use borrow.Author.Needs.{needs}
 use Rattle.walk.proofs.turn.Statement.{statement}

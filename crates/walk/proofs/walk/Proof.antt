@@ -1,10 +1,13 @@
-use Rattle.walk.specs.Falls.{Falls, fallen, Fell, fall, visiting-fall}
+use Rattle.walk.specs.Falls.{Falls, fallen}
+use Rattle.walk.specs.laws.Falls.{Fell, fall, visiting-fall}
 use Rattle.walk.specs.Opened.{Visiting}
-use Rattle.walk.specs.VisitLaws.{visiting-start, visited}
-use Rattle.walk.specs.Walked.{Keeps, keeps-start, keeps-turning, keeps-turn, keeps-less, keeps-end}
-use Rattle.walk.specs.Turns.{stack-of, state-of, stack-of-length}
-use Rattle.walk.specs.Machine.{Chart, chart, State, most-turns, turns}
-use Rattle.joining.specs.Joining.{mem}
+use Rattle.walk.specs.laws.Visits.{visiting-start, visited}
+use Rattle.walk.specs.laws.Walked.{Keeps, keeps-start, keeps-turning, keeps-turn, keeps-less, keeps-end}
+use Rattle.walk.specs.Turns.{state-of}
+use Rattle.walk.specs.laws.Turns.{stack-of-length}
+use Rattle.walk.specs.Machine.{Chart, chart, State}
+use Rattle.walk.specs.laws.Machine.{most-turns, turns}
+use Rattle.joining.specs.Joining.{memory-of}
 use lib.ListN.{length}
 use mathlib.Core.Path.{_≡_, refl, _∙_}
 use Prim.Native.Nat.{_<_}
@@ -13,7 +16,7 @@ use Rattle.walk.proofs.walk.Statement.{statement}
 use Rattle.walk.proofs.walk.Tie as tie
 
 abbrev Inv-loop : tie.InvT-loop
-Inv-loop links widths depths tops allowance rows₀ marks₀ at₀ rows marks at = Keeps (chart links widths depths tops allowance) rows₀ (state-of (at .open_cells .cells) (at .open_cells .count) (at .next) rows marks) × Visiting (chart links widths depths tops allowance) (mem rows₀ marks₀) (at .open_cells .cells) (at .open_cells .count) (at .next) rows marks × (length rows ≡ length rows₀) × (length marks ≡ length marks₀)
+Inv-loop links widths depths tops allowance rows₀ marks₀ at₀ rows marks at = Keeps (chart links widths depths tops allowance) rows₀ (state-of (at .open_cells .cells) (at .open_cells .count) (at .next) rows marks) × Visiting (chart links widths depths tops allowance) (memory-of rows₀ marks₀) (at .open_cells .cells) (at .open_cells .count) (at .next) rows marks × (length rows ≡ length rows₀) × (length marks ≡ length marks₀)
 
 abbrev μ-loop : tie.MeasureT-loop
 μ-loop links widths depths tops allowance rows₀ marks₀ at₀ rows marks at = turns (chart links widths depths tops allowance) most-turns (state-of (at .open_cells .cells) (at .open_cells .count) (at .next) rows marks)
@@ -72,7 +75,7 @@ returns c =
     let l = c .before .before .loop in
     let none : l .at .open_cells .count ≡ 0 = omega (arith, c .if1 .left) in
     let s = c .before .before .before .before .before .before .before .before .before .before in
-    (keeps-end (board s) (s .args .rows .now) (state (c .before .before)) (l .inv .0) (stack-of-length (l .at .open_cells .cells) (l .at .open_cells .count) ∙ none), visited (board s) (mem (s .args .rows .now) (s .args .marks .now)) (l .inv .1) none)
+    (keeps-end (board s) (s .args .rows .now) (state (c .before .before)) (l .inv .0) (stack-of-length (l .at .open_cells .cells) (l .at .open_cells .count) ∙ none), visited (board s) (memory-of (s .args .rows .now) (s .args .marks .now)) (l .inv .1) none)
 
 pub walk-spec : {M : Type 1} → statement M
 walk-spec =

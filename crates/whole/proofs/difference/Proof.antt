@@ -2,22 +2,16 @@ use Rattle.whole.proofs.Machine.{difference-fits, difference-is}
 use borrow.Author.Needs.{needs}
 use Rattle.whole.proofs.difference.Statement.{statement}
 use Rattle.whole.proofs.difference.Tie as tie
-use Rattle.whole.proofs.difference.Reads as reads
-use Rattle.whole.proofs.difference.Lts as lts
 
--- src/lib.rt:45:6
 cast-result : tie.Need-cast-result
 cast-result c = search needs
 
--- src/lib.rt:45:19
 cast-result-2 : tie.Need-cast-result-2
 cast-result-2 c = search needs
 
--- src/lib.rt:45:5
 sub-result : tie.Need-sub-result
 sub-result c = difference-fits (c .args .a) (c .args .b) (c .pre .0) (c .pre .1)
 
--- src/lib.rt:41:1
 returns : tie.Need-returns
 returns c = difference-is (c .args .a) (c .args .b) (c .pre .0) (c .pre .1)
 

@@ -4,23 +4,16 @@ use Rattle.whole.proofs.Machine.{back}
 use borrow.Author.Needs.{needs}
 use Rattle.whole.proofs.raise_at.Statement.{statement}
 use Rattle.whole.proofs.raise_at.Tie as tie
-use Rattle.whole.proofs.raise_at.Reads as reads
-use Rattle.whole.proofs.raise_at.Lts as lts
-use Rattle.whole.proofs.raise.Reads as raise-reads
 
--- src/lib.rt:37:11
 mul-raise : tie.Need-mul-raise
 mul-raise c = search needs
 
--- src/lib.rt:37:11
 shared-slice-copy-out-raise : tie.Need-shared-slice-copy-out-raise
 shared-slice-copy-out-raise c = search needs
 
--- src/lib.rt:37:5
 raise-requires : tie.Need-raise-requires
 raise-requires c κs = rw (back _ (c .before .pre .1) _ (c .before .pre .2)) (c .before .pre .1, c .before .pre .2)
 
--- src/lib.rt:33:1
 returns : tie.Need-returns
 returns c = c .raise .ensures ∙ ap (bias _) (back _ (c .before .before .pre .1) _ (c .before .before .pre .2))
 

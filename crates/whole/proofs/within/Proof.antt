@@ -2,26 +2,19 @@ use Rattle.whole.proofs.Machine.{low-fits, low-fails, high-fails, passe
 use borrow.Author.Needs.{needs}
 use Rattle.whole.proofs.within.Statement.{statement}
 use Rattle.whole.proofs.within.Tie as tie
-use Rattle.whole.proofs.within.Reads as reads
-use Rattle.whole.proofs.within.Lts as lts
 
--- src/lib.rt:14:16
 cast-high : tie.Need-cast-high
 cast-high c = search needs
 
--- src/lib.rt:15:12
 sub-if1 : tie.Need-sub-if1
 sub-if1 c = low-fits (c .args .far) (c .pre) (c .args .x) (c .fits .x)
 
--- src/lib.rt:16:9
 returns : tie.Need-returns
 returns c = low-fails _ (c .before .pre) _ (c .before .fits .x) (c .if1 .taken)
 
--- src/lib.rt:19:9
 returns-2 : tie.Need-returns-2
 returns-2 c = high-fails _ (c .before .before .pre) _ (c .before .before .fits .x) (c .if2 .taken)
 
--- src/lib.rt:10:1
 returns-3 : tie.Need-returns-3
 returns-3 c = passes _ (c .before .before .pre) _ (c .before .before .fits .x) (c .before .if1 .left) (c .if2 .left)
 

@@ -1,17 +1,12 @@
 use borrow.Author.Tests.{eq-eqb, ne-eqb}
 use Rattle.plan.specs.Forms.{form-of}
-use borrow.Author.Needs.{needs}
 use Rattle.plan.proofs.forms.form_of.Statement.{statement}
 use Rattle.plan.proofs.forms.form_of.Tie as tie
-use Rattle.plan.proofs.forms.form_of.Reads as reads
-use Rattle.plan.proofs.forms.form_of.Lts as lts
 
--- src/forms.rt:30:9
 returns : tie.Need-returns
 unfolding form-of
 returns c = rw (eq-eqb _ _ (c .if1 .taken))
 
--- src/forms.rt:26:1
 returns-2 : tie.Need-returns-2
 unfolding form-of
 returns-2 c = rw (ne-eqb _ _ (c .if1 .left))

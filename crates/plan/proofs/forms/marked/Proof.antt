@@ -1,17 +1,12 @@
 use borrow.Author.Tests.{eq-eqb, ne-eqb}
 use Rattle.plan.specs.Forms.{marked}
-use borrow.Author.Needs.{needs}
 use Rattle.plan.proofs.forms.marked.Statement.{statement}
 use Rattle.plan.proofs.forms.marked.Tie as tie
-use Rattle.plan.proofs.forms.marked.Reads as reads
-use Rattle.plan.proofs.forms.marked.Lts as lts
 
--- src/forms.rt:21:9
 returns : tie.Need-returns
 unfolding marked
 returns c = rw (eq-eqb _ _ (c .if1 .taken))
 
--- src/forms.rt:17:1
 returns-2 : tie.Need-returns-2
 unfolding marked
 returns-2 c = rw (ne-eqb _ _ (c .if1 .left))

@@ -3,8 +3,6 @@ use borrow.Author.Needs.{needs}
 use borrow.Author.Tests.{ne-eqb}
 use Rattle.plan.proofs.kinds.appointed.Statement.{statement}
 use Rattle.plan.proofs.kinds.appointed.Tie as tie
-use Rattle.plan.proofs.kinds.appointed.Reads as reads
-use Rattle.plan.proofs.kinds.appointed.Lts as lts
 
 add-result : tie.Need-add-result
 add-result c = search needs

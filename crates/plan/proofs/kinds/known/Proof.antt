@@ -2,28 +2,20 @@ use Rattle.plan.specs.Kinds.{known, about}
 use borrow.Author.Needs.{needs}
 use Rattle.plan.proofs.kinds.known.Statement.{statement}
 use Rattle.plan.proofs.kinds.known.Tie as tie
-use Rattle.plan.proofs.kinds.known.Reads as reads
-use Rattle.plan.proofs.kinds.known.Lts as lts
-use Rattle.plan.proofs.kinds.about.Reads as about-reads
 
--- src/kinds.rt:41:11
 about-requires : tie.Need-about-requires
 about-requires c κs = search needs
 
--- src/kinds.rt:42:29
 enum-told : tie.Need-enum-told
 enum-told c = search needs
 
--- src/kinds.rt:43:28
 enum-told-2 : tie.Need-enum-told-2
 enum-told-2 c = search needs
 
--- src/kinds.rt:38:1
 returns : tie.Need-returns
 unfolding known about
 returns c = search needs
 
--- src/kinds.rt:38:1
 returns-2 : tie.Need-returns-2
 unfolding known about
 returns-2 c = search needs

@@ -1,15 +1,10 @@
 use borrow.Author.Tests.{lt-leb, le-leb}
-use borrow.Author.Needs.{needs}
 use Rattle.plan.proofs.limits.between.Statement.{statement}
 use Rattle.plan.proofs.limits.between.Tie as tie
-use Rattle.plan.proofs.limits.between.Reads as reads
-use Rattle.plan.proofs.limits.between.Lts as lts
 
--- src/limits.rt:46:9
 returns : tie.Need-returns
 returns c = rw (lt-leb _ _ (c .if1 .taken))
 
--- src/limits.rt:42:1
 returns-2 : tie.Need-returns-2
 returns-2 c = rw (le-leb _ _ (c .if1 .left))
 

@@ -2,19 +2,14 @@ use Rattle.plan.specs.Questions.{asked}
 use borrow.Author.Needs.{needs}
 use Rattle.plan.proofs.questions.asked.Statement.{statement}
 use Rattle.plan.proofs.questions.asked.Tie as tie
-use Rattle.plan.proofs.questions.asked.Reads as reads
-use Rattle.plan.proofs.questions.asked.Lts as lts
 
--- src/questions.rt:26:9
 returns : tie.Need-returns
 unfolding asked
 returns c = rw (c .if1 .taken)
 
--- src/questions.rt:30:15
 cast-t5 : tie.Need-cast-t5
 cast-t5 c = search needs
 
--- src/questions.rt:21:1
 returns-2 : tie.Need-returns-2
 unfolding asked
 returns-2 c = rw (c .if1 .left)

@@ -1,38 +1,28 @@
 use mathlib.Core.Path.{sym, _∙_}
 use borrow.Author.Tests.{not-true, not-false}
-use Rattle.plan.specs.QuestionLaws.{and-no, and-yes}
+use Rattle.plan.specs.laws.Questions.{and-no, and-yes}
 use borrow.Author.Needs.{needs}
 use Rattle.plan.proofs.questions.both_near.Statement.{statement}
 use Rattle.plan.proofs.questions.both_near.Tie as tie
-use Rattle.plan.proofs.questions.both_near.Reads as reads
-use Rattle.plan.proofs.questions.both_near.Lts as lts
-use Rattle.plan.proofs.questions.near.Reads as near-reads
 
--- src/questions.rt:252:25
 mul-near : tie.Need-mul-near
 mul-near c = search needs
 
--- src/questions.rt:252:9
 near-requires : tie.Need-near-requires
 near-requires c κs = search needs
 
--- src/questions.rt:253:9
 returns : tie.Need-returns
 returns c = sym (and-no _ _ (sym (c .before .near .ensures) ∙ not-true _ (c .if1 .taken)))
 
--- src/questions.rt:255:21
 mul-near-2 : tie.Need-mul-near-2
 mul-near-2 c = search needs
 
--- src/questions.rt:255:21
 add-near : tie.Need-add-near
 add-near c = search needs
 
--- src/questions.rt:255:5
 near-requires-2 : tie.Need-near-requires-2
 near-requires-2 c κs = search needs
 
--- src/questions.rt:248:1
 returns-2 : tie.Need-returns-2
 returns-2 c = c .near2 .ensures ∙ sym (and-yes _ _ (sym (c .before .before .near .ensures) ∙ not-false _ (c .before .if1 .left)))
 

@@ -1,16 +1,13 @@
-use Rattle.plan.specs.QuestionLaws.{loop-starts, loop-stops, loop-goes-on, loop-ends}
-use mathlib.Core.Path.{_≡_, refl, sym, _∙_}
+use Rattle.plan.specs.laws.Questions.{loop-starts, loop-stops, loop-goes-on, loop-ends}
+use Rattle.plan.specs.Questions.{at-each}
+use Rattle.plan.specs.laws.Steps.{cells-columns}
+use Rattle.plan.specs.Steps.{cells-at}
+use mathlib.Core.Path.{_≡_, sym, _∙_}
 use Prim.Native.Nat.{_≤_, _-_}
 use native.Mathlib.Omega.{arith}
-use Rattle.plan.specs.Questions.{at-each}
-use Rattle.plan.specs.StepLaws.{cells-columns}
-use Rattle.plan.specs.Steps.{cells-at}
 use borrow.Author.Needs.{needs}
 use Rattle.plan.proofs.questions.cells_refusal.Statement.{statement}
 use Rattle.plan.proofs.questions.cells_refusal.Tie as tie
-use Rattle.plan.proofs.questions.cells_refusal.Reads as reads
-use Rattle.plan.proofs.questions.cells_refusal.Lts as lts
-use Rattle.plan.proofs.questions.cell_refusal.Reads as cell-refusal-reads
 
 abbrev Inv-loop : tie.InvT-loop
 Inv-loop parents kinds widths depths n c₀ c =
@@ -19,55 +16,42 @@ Inv-loop parents kinds widths depths n c₀ c =
 abbrev μ-loop : tie.MeasureT-loop
 μ-loop parents kinds widths depths n c₀ c = n - c
 
--- src/questions.rt:90:5
 loop-holds : tie.Need-loop-holds Inv-loop μ-loop
 loop-holds c = (omega arith, loop-starts _ _)
 
--- src/questions.rt:91:33
 mul-cell-refusal : tie.Need-mul-cell-refusal Inv-loop μ-loop
 mul-cell-refusal c = omega arith
 
--- src/questions.rt:91:33
 element-copy-out-cell-refusal : tie.Need-element-copy-out-cell-refusal Inv-loop μ-loop
 element-copy-out-cell-refusal c = omega arith
 
--- src/questions.rt:91:45
 element-copy-out-cell-refusal-2 : tie.Need-element-copy-out-cell-refusal-2 Inv-loop μ-loop
 element-copy-out-cell-refusal-2 c = omega arith
 
--- src/questions.rt:91:55
 mul-cell-refusal-2 : tie.Need-mul-cell-refusal-2 Inv-loop μ-loop
 mul-cell-refusal-2 c = omega arith
 
--- src/questions.rt:91:55
 element-copy-out-cell-refusal-3 : tie.Need-element-copy-out-cell-refusal-3 Inv-loop μ-loop
 element-copy-out-cell-refusal-3 c = omega arith
 
--- src/questions.rt:91:66
 element-copy-out-cell-refusal-4 : tie.Need-element-copy-out-cell-refusal-4 Inv-loop μ-loop
 element-copy-out-cell-refusal-4 c = omega arith
 
--- src/questions.rt:91:13
 cell-refusal-requires : tie.Need-cell-refusal-requires Inv-loop μ-loop
 cell-refusal-requires c κs = search needs
 
--- src/questions.rt:93:13
 returns : tie.Need-returns Inv-loop μ-loop
 returns c = λ qs. loop-stops _ _ _ (c .before .before .before .before .before .before .before .before .loop .inv .1) (c .before .before .before .before .before .before .before .loop-test .taken) _ (c .before .before .cell-refusal .ensures) (c .if1 .taken) ∙ sym (cells-columns _ _ _ _ qs _)
 
--- src/questions.rt:95:9
 add-c : tie.Need-add-c Inv-loop μ-loop
 add-c c = omega arith
 
--- src/questions.rt:90:5
 loop-less : tie.Need-loop-less Inv-loop μ-loop
 loop-less c = omega arith
 
--- src/questions.rt:90:5
 loop-again : tie.Need-loop-again Inv-loop μ-loop
 loop-again c = (omega arith, loop-goes-on _ _ _ (c .before .before .before .before .before .before .before .before .loop .inv .1) (c .before .before .before .before .before .before .before .loop-test .taken) _ (c .before .before .cell-refusal .ensures) (c .if1 .left))
 
--- src/questions.rt:79:1
 returns-2 : tie.Need-returns-2 Inv-loop μ-loop
 returns-2 c = λ qs. loop-ends _ _ _ (c .before .loop .inv .1) (c .loop-test .left) ∙ sym (cells-columns _ _ _ _ qs _)
 

@@ -1,16 +1,12 @@
-use mathlib.Core.Path.{_≡_, refl, sym, ap, _∙_}
+use mathlib.Core.Path.{_≡_, ap, _∙_}
 use Prim.Native.Nat.{_≤_, _-_}
 use native.Mathlib.Omega.{arith}
 use Rattle.plan.specs.Questions.{asked, at-each}
-use Rattle.plan.specs.QuestionLaws.{loop-starts, loop-stops, loop-goes-on, loop-ends}
-use Rattle.plan.specs.Steps.{children-at, levels-at, rows-at}
+use Rattle.plan.specs.laws.Questions.{loop-starts, loop-stops, loop-goes-on, loop-ends}
+use Rattle.plan.specs.Steps.{children-at}
 use borrow.Author.Needs.{needs}
 use Rattle.plan.proofs.questions.children_refusal.Statement.{statement}
 use Rattle.plan.proofs.questions.children_refusal.Tie as tie
-use Rattle.plan.proofs.questions.children_refusal.Reads as reads
-use Rattle.plan.proofs.questions.children_refusal.Lts as lts
-use Rattle.plan.proofs.kinds.allows.Reads as allows-reads
-use Rattle.plan.proofs.questions.asked.Reads as asked-reads
 
 abbrev Inv-loop : tie.InvT-loop
 Inv-loop kinds counts n c₀ c = (c ≤ n) × (at-each (children-at kinds counts) 0 n ≡ at-each (children-at kinds counts) c (n - c))
@@ -18,47 +14,36 @@ Inv-loop kinds counts n c₀ c = (c ≤ n) × (at-each (children-at kinds counts
 abbrev μ-loop : tie.MeasureT-loop
 μ-loop kinds counts n c₀ c = n - c
 
--- src/questions.rt:124:5
 loop-holds : tie.Need-loop-holds Inv-loop μ-loop
 loop-holds c = (omega arith, loop-starts _ _)
 
--- src/questions.rt:125:34
 element-copy-out-allows : tie.Need-element-copy-out-allows Inv-loop μ-loop
 element-copy-out-allows c = omega arith
 
--- src/questions.rt:125:44
 mul-allows : tie.Need-mul-allows Inv-loop μ-loop
 mul-allows c = omega arith
 
--- src/questions.rt:125:44
 element-copy-out-allows-2 : tie.Need-element-copy-out-allows-2 Inv-loop μ-loop
 element-copy-out-allows-2 c = omega arith
 
--- src/questions.rt:125:27
 allows-requires : tie.Need-allows-requires Inv-loop μ-loop
 allows-requires c κs = search needs
 
--- src/questions.rt:125:13
 asked-requires : tie.Need-asked-requires Inv-loop μ-loop
 asked-requires c κs = search needs
 
--- src/questions.rt:127:13
 returns : tie.Need-returns Inv-loop μ-loop
 returns c = loop-stops _ _ _ (c .before .before .before .before .before .before .before .loop .inv .1) (c .before .before .before .before .before .before .loop-test .taken) _ (c .before .before .asked .ensures ∙ ap (λ b. asked 11 b (c .before .before .before .before .before .before .before .loop .c)) (c .before .before .before .allows .ensures)) (c .if1 .taken)
 
--- src/questions.rt:129:9
 add-c : tie.Need-add-c Inv-loop μ-loop
 add-c c = omega arith
 
--- src/questions.rt:124:5
 loop-less : tie.Need-loop-less Inv-loop μ-loop
 loop-less c = omega arith
 
--- src/questions.rt:124:5
 loop-again : tie.Need-loop-again Inv-loop μ-loop
 loop-again c = (omega arith, loop-goes-on _ _ _ (c .before .before .before .before .before .before .before .loop .inv .1) (c .before .before .before .before .before .before .loop-test .taken) _ (c .before .before .asked .ensures ∙ ap (λ b. asked 11 b (c .before .before .before .before .before .before .before .loop .c)) (c .before .before .before .allows .ensures)) (c .if1 .left))
 
--- src/questions.rt:119:1
 returns-2 : tie.Need-returns-2 Inv-loop μ-loop
 returns-2 c = loop-ends _ _ _ (c .before .loop .inv .1) (c .loop-test .left)
 

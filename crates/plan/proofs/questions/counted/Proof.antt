@@ -1,15 +1,10 @@
 use borrow.Author.Tests.{lt-leb, le-leb}
-use borrow.Author.Needs.{needs}
 use Rattle.plan.proofs.questions.counted.Statement.{statement}
 use Rattle.plan.proofs.questions.counted.Tie as tie
-use Rattle.plan.proofs.questions.counted.Reads as reads
-use Rattle.plan.proofs.questions.counted.Lts as lts
 
--- src/questions.rt:205:9
 returns : tie.Need-returns
 returns c = rw (lt-leb _ _ (c .if1 .taken))
 
--- src/questions.rt:201:1
 returns-2 : tie.Need-returns-2
 returns-2 c = rw (le-leb _ _ (c .if1 .left))
 

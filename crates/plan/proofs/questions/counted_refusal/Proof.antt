@@ -1,15 +1,10 @@
 use mathlib.Core.Path.{sym, ap, _∙_}
 use Rattle.plan.specs.Questions.{asked}
-use Rattle.plan.specs.QuestionLaws.{stops, goes-on}
-use Rattle.plan.specs.StepLaws.{counted-columns, counted-read}
+use Rattle.plan.specs.laws.Questions.{stops, goes-on}
+use Rattle.plan.specs.laws.Steps.{counted-columns, counted-read}
 use borrow.Author.Needs.{needs}
 use Rattle.plan.proofs.questions.counted_refusal.Statement.{statement}
 use Rattle.plan.proofs.questions.counted_refusal.Tie as tie
-use Rattle.plan.proofs.questions.counted_refusal.Reads as reads
-use Rattle.plan.proofs.questions.counted_refusal.Lts as lts
-use Rattle.plan.proofs.questions.asked.Reads as asked-reads
-use Rattle.plan.proofs.questions.counted.Reads as counted-reads
-use Rattle.plan.proofs.questions.table_refusal.Reads as table-refusal-reads
 
 counted-requires : tie.Need-counted-requires
 counted-requires c κs = search needs

@@ -1,46 +1,33 @@
 use mathlib.Core.Path.{sym, ap, _∙_}
 use native.Mathlib.Omega.{arith}
 use Rattle.plan.specs.Questions.{asked}
-use Rattle.plan.specs.QuestionLaws.{stops, goes-on}
-use Rattle.plan.specs.StepLaws.{lent-columns, counted-read}
+use Rattle.plan.specs.laws.Questions.{stops, goes-on}
+use Rattle.plan.specs.laws.Steps.{lent-columns, counted-read}
 use borrow.Author.Needs.{needs}
 use Rattle.plan.proofs.questions.lent_refusal.Statement.{statement}
 use Rattle.plan.proofs.questions.lent_refusal.Tie as tie
-use Rattle.plan.proofs.questions.lent_refusal.Reads as reads
-use Rattle.plan.proofs.questions.lent_refusal.Lts as lts
-use Rattle.plan.proofs.questions.asked.Reads as asked-reads
-use Rattle.plan.proofs.questions.counted.Reads as counted-reads
-use Rattle.plan.proofs.questions.table_refusal.Reads as table-refusal-reads
 
--- src/questions.rt:221:24
 counted-requires : tie.Need-counted-requires
 counted-requires c κs = search needs
 
--- src/questions.rt:221:9
 asked-requires : tie.Need-asked-requires
 asked-requires c κs = search needs
 
--- src/questions.rt:223:9
 returns : tie.Need-returns
 returns c = λ qs. stops _ _ _ (c .before .before .asked .ensures ∙ ap (λ x. asked 4 x 0) (c .before .before .before .counted .ensures)) (c .if1 .taken) ∙ sym (lent-columns (c .before .before .before .before .args .parents .now) (c .before .before .before .before .args .kinds .now) (c .before .before .before .before .args .widths .now) (c .before .before .before .before .args .depths .now) qs (c .before .before .before .before .args .n) (c .before .before .before .before .args .positions))
 
--- src/questions.rt:225:25
 mul-asked : tie.Need-mul-asked
 mul-asked c = omega (arith, counted-read (c .before .before .before .before .args .n) (c .before .before .asked .result) (c .before .before .asked .ensures ∙ ap (λ x. asked 4 x 0) (c .before .before .before .counted .ensures)) (c .if1 .left))
 
--- src/questions.rt:225:9
 asked-requires-2 : tie.Need-asked-requires-2
 asked-requires-2 c κs = search needs
 
--- src/questions.rt:227:9
 returns-2 : tie.Need-returns-2
 returns-2 c = λ qs. goes-on _ _ _ _ (c .before .before .before .before .before .asked .ensures ∙ ap (λ x. asked 4 x 0) (c .before .before .before .before .before .before .counted .ensures)) (c .before .before .before .if1 .left) (stops _ _ _ (c .before .before .asked2 .ensures) (c .if2 .taken)) ∙ sym (lent-columns (c .before .before .before .before .before .before .before .args .parents .now) (c .before .before .before .before .before .before .before .args .kinds .now) (c .before .before .before .before .before .before .before .args .widths .now) (c .before .before .before .before .before .before .before .args .depths .now) qs (c .before .before .before .before .before .before .before .args .n) (c .before .before .before .before .before .before .before .args .positions))
 
--- src/questions.rt:229:5
 table-refusal-requires : tie.Need-table-refusal-requires
 table-refusal-requires c κs = counted-read _ _ (c .before .before .before .before .before .asked .ensures ∙ ap (λ x. asked 4 x 0) (c .before .before .before .before .before .before .counted .ensures)) (c .before .before .before .if1 .left)
 
--- src/questions.rt:211:1
 returns-3 : tie.Need-returns-3
 returns-3 c = λ qs. goes-on _ _ _ _ (c .before .before .before .before .before .before .asked .ensures ∙ ap (λ x. asked 4 x 0) (c .before .before .before .before .before .before .before .counted .ensures)) (c .before .before .before .before .if1 .left) (goes-on _ _ _ _ (c .before .before .before .asked2 .ensures) (c .before .if2 .left) (c .table-refusal .ensures qs)) ∙ sym (lent-columns (c .before .before .before .before .before .before .before .before .args .parents .now) (c .before .before .before .before .before .before .before .before .args .kinds .now) (c .before .before .before .before .before .before .before .before .args .widths .now) (c .before .before .before .before .before .before .before .before .args .depths .now) qs (c .before .before .before .before .before .before .before .before .args .n) (c .before .before .before .before .before .before .before .before .args .positions))
 

@@ -1,32 +1,25 @@
 use mathlib.Core.Path.{ap, _∙_}
 use mir.Syntax.{w32}
 use mir.ValLaws.{toZ-ofZ}
-use Rattle.whole.specs.Range.{within}
+use Rattle.whole.specs.Range.{in-range}
 use Rattle.plan.specs.Limits.{farthest}
 use Rattle.plan.specs.Questions.{near}
 use borrow.Author.Needs.{needs}
 use Rattle.plan.proofs.questions.near.Statement.{statement}
 use Rattle.plan.proofs.questions.near.Tie as tie
-use Rattle.plan.proofs.questions.near.Reads as reads
-use Rattle.plan.proofs.questions.near.Lts as lts
-use Rattle.whole.proofs.within.Reads as within-reads
 
--- src/questions.rt:244:12
 mul-within : tie.Need-mul-within
 mul-within c = search needs
 
--- src/questions.rt:244:12
 shared-slice-copy-out-within : tie.Need-shared-slice-copy-out-within
 shared-slice-copy-out-within c = search needs
 
--- src/questions.rt:244:5
 within-requires : tie.Need-within-requires
 within-requires c κs = search needs
 
--- src/questions.rt:240:1
 returns : tie.Need-returns
 unfolding near
-returns c = c .within .ensures ∙ ap (within farthest) (toZ-ofZ w32 _ (record { sfits = c .before .within-arg .given }))
+returns c = c .within .ensures ∙ ap (in-range farthest) (toZ-ofZ w32 _ (record { sfits = c .before .within-arg .given }))
 
 pub near-spec : {M : Type 1} → statement M
 near-spec = tie.close (tie.spec mul-within shared-slice-copy-out-within within-requires returns)

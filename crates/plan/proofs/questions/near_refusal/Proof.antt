@@ -1,16 +1,12 @@
-use mathlib.Core.Path.{_≡_, sym, ap, _∙_}
+use mathlib.Core.Path.{_≡_, ap, _∙_}
 use Prim.Native.Nat.{_≤_, _-_}
 use native.Mathlib.Omega.{arith}
 use Rattle.plan.specs.Questions.{asked, at-each}
-use Rattle.plan.specs.QuestionLaws.{loop-starts, loop-stops, loop-goes-on, loop-ends}
+use Rattle.plan.specs.laws.Questions.{loop-starts, loop-stops, loop-goes-on, loop-ends}
 use Rattle.plan.specs.Steps.{near-at, near-refusal}
 use borrow.Author.Needs.{needs}
 use Rattle.plan.proofs.questions.near_refusal.Statement.{statement}
 use Rattle.plan.proofs.questions.near_refusal.Tie as tie
-use Rattle.plan.proofs.questions.near_refusal.Reads as reads
-use Rattle.plan.proofs.questions.near_refusal.Lts as lts
-use Rattle.plan.proofs.questions.asked.Reads as asked-reads
-use Rattle.plan.proofs.questions.both_near.Reads as both-near-reads
 
 abbrev Inv-loop : tie.InvT-loop
 Inv-loop positions n c₀ c = (c ≤ n) × (at-each (near-at positions) 0 n ≡ at-each (near-at positions) c (n - c))
@@ -18,36 +14,28 @@ Inv-loop positions n c₀ c = (c ≤ n) × (at-each (near-at positions) 0 n ≡ 
 abbrev μ-loop : tie.MeasureT-loop
 μ-loop positions n c₀ c = n - c
 
--- src/questions.rt:264:5
 loop-holds : tie.Need-loop-holds Inv-loop μ-loop
 loop-holds c = (omega arith, loop-starts _ _)
 
--- src/questions.rt:265:27
 both-near-requires : tie.Need-both-near-requires Inv-loop μ-loop
 both-near-requires c κs = omega arith
 
--- src/questions.rt:265:13
 asked-requires : tie.Need-asked-requires Inv-loop μ-loop
 asked-requires c κs = search needs
 
--- src/questions.rt:267:13
 returns : tie.Need-returns Inv-loop μ-loop
 unfolding near-refusal
 returns c = loop-stops _ _ _ (c .before .before .before .before .before .loop .inv .1) (c .before .before .before .before .loop-test .taken) _ (c .before .before .asked .ensures ∙ ap (λ x. asked 15 x (c .before .before .before .before .before .loop .c)) (c .before .before .before .both-near .ensures)) (c .if1 .taken)
 
--- src/questions.rt:269:9
 add-c : tie.Need-add-c Inv-loop μ-loop
 add-c c = omega arith
 
--- src/questions.rt:264:5
 loop-less : tie.Need-loop-less Inv-loop μ-loop
 loop-less c = omega arith
 
--- src/questions.rt:264:5
 loop-again : tie.Need-loop-again Inv-loop μ-loop
 loop-again c = (omega arith, loop-goes-on _ _ _ (c .before .before .before .before .before .loop .inv .1) (c .before .before .before .before .loop-test .taken) _ (c .before .before .asked .ensures ∙ ap (λ x. asked 15 x (c .before .before .before .before .before .loop .c)) (c .before .before .before .both-near .ensures)) (c .if1 .left))
 
--- src/questions.rt:259:1
 returns-2 : tie.Need-returns-2 Inv-loop μ-loop
 unfolding near-refusal
 returns-2 c = loop-ends _ _ _ (c .before .loop .inv .1) (c .loop-test .left)

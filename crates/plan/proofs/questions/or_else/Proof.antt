@@ -1,16 +1,11 @@
 use mathlib.Core.Path.{sym}
-use Rattle.plan.specs.QuestionLaws.{first-none, first-some}
-use borrow.Author.Needs.{needs}
+use Rattle.plan.specs.laws.Questions.{first-none, first-some}
 use Rattle.plan.proofs.questions.or_else.Statement.{statement}
 use Rattle.plan.proofs.questions.or_else.Tie as tie
-use Rattle.plan.proofs.questions.or_else.Reads as reads
-use Rattle.plan.proofs.questions.or_else.Lts as lts
 
--- src/questions.rt:39:9
 returns : tie.Need-returns
 returns c = sym (first-none _ _ (c .if1 .taken))
 
--- src/questions.rt:35:1
 returns-2 : tie.Need-returns-2
 returns-2 c = sym (first-some _ _ (c .if1 .left))
 

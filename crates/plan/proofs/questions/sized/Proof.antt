@@ -1,28 +1,21 @@
 use mathlib.Core.Path.{_∙_, sym}
-use Rattle.plan.specs.QuestionLaws.{and-no, and-yes}
+use Rattle.plan.specs.laws.Questions.{and-no, and-yes}
 use Rattle.plan.specs.Questions.{sized}
 use borrow.Author.Tests.{not-true, not-false}
 use borrow.Author.Needs.{needs}
 use Rattle.plan.proofs.questions.sized.Statement.{statement}
 use Rattle.plan.proofs.questions.sized.Tie as tie
-use Rattle.plan.proofs.questions.sized.Reads as reads
-use Rattle.plan.proofs.questions.sized.Lts as lts
-use Rattle.plan.proofs.limits.between.Reads as between-reads
 
--- src/questions.rt:58:9
 between-requires : tie.Need-between-requires
 between-requires c κs = search needs
 
--- src/questions.rt:59:9
 returns : tie.Need-returns
 unfolding sized
 returns c = sym (and-no _ _ (sym (c .before .between .ensures) ∙ not-true _ (c .if1 .taken)))
 
--- src/questions.rt:61:5
 between-requires-2 : tie.Need-between-requires-2
 between-requires-2 c κs = search needs
 
--- src/questions.rt:55:1
 returns-2 : tie.Need-returns-2
 unfolding sized
 returns-2 c = c .between2 .ensures ∙ sym (and-yes _ _ (sym (c .before .before .between .ensures) ∙ not-false _ (c .before .if1 .left)))

@@ -2,33 +2,22 @@ use mathlib.Core.Path.{sym, ap, _∙_}
 use mathlib.Core.List.{[]}
 use Rattle.plan.specs.declared.Refusal.{Refusal}
 use Rattle.plan.specs.Steps.{table-refusal}
-use Rattle.plan.specs.QuestionLaws.{stops, goes-on}
-use Rattle.plan.specs.StepLaws.{cells-lower, cells-flat}
-use Rattle.plan.proofs.questions.children_refusal.Reads as children-refusal-reads
-use Rattle.plan.proofs.questions.levels_refusal.Reads as levels-refusal-reads
-use Rattle.plan.proofs.questions.rows_refusal.Reads as rows-refusal-reads
+use Rattle.plan.specs.laws.Questions.{stops, goes-on}
+use Rattle.plan.specs.laws.Steps.{cells-lower, cells-flat}
 use borrow.Author.Needs.{needs}
 use Rattle.plan.proofs.questions.table_refusal.Statement.{statement}
 use Rattle.plan.proofs.questions.table_refusal.Tie as tie
-use Rattle.plan.proofs.questions.table_refusal.Reads as reads
-use Rattle.plan.proofs.questions.table_refusal.Lts as lts
-use Rattle.plan.proofs.questions.cells_refusal.Reads as cells-refusal-reads
-use Rattle.plan.proofs.questions.tree_refusal.Reads as tree-refusal-reads
 
--- src/questions.rt:208:9
 cells-refusal-requires : tie.Need-cells-refusal-requires
 cells-refusal-requires c κs = search needs
 
--- src/questions.rt:210:9
 returns : tie.Need-returns
 unfolding table-refusal
 returns c = λ qs. stops _ _ _ (c .before .before .cells-refusal .ensures qs) (c .if1 .taken)
 
--- src/questions.rt:212:5
 tree-refusal-requires : tie.Need-tree-refusal-requires
 tree-refusal-requires c κs = (cells-lower (c .before .before .before .args .parents .now) (c .before .before .before .args .kinds .now) (c .before .before .before .args .widths .now) (c .before .before .before .args .depths .now) [] (c .before .before .before .args .n) (ap (λ (x : Refusal). x .number) (sym (c .before .before .cells-refusal .ensures [])) ∙ c .if1 .left) (c .before .before .before .pre .0) (c .before .before .before .pre .1), cells-flat (c .before .before .before .args .parents .now) (c .before .before .before .args .kinds .now) (c .before .before .before .args .widths .now) (c .before .before .before .args .depths .now) [] (c .before .before .before .args .n) (ap (λ (x : Refusal). x .number) (sym (c .before .before .cells-refusal .ensures [])) ∙ c .if1 .left))
 
--- src/questions.rt:198:1
 returns-2 : tie.Need-returns-2
 unfolding table-refusal
 returns-2 c = λ qs. goes-on _ _ _ _ (c .before .before .before .cells-refusal .ensures qs) (c .before .if1 .left) (c .tree-refusal .ensures _ qs)

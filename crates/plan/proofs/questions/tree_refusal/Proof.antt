@@ -1,8 +1,8 @@
 use mathlib.Core.Path.{refl, sym, _∙_}
 use mathlib.Core.List.{[]}
 use Rattle.plan.specs.Steps.{tree-refusal}
-use Rattle.plan.specs.QuestionLaws.{stops, goes-on}
-use Rattle.plan.specs.StepLaws.{rows-short, children-columns, levels-columns, rows-columns}
+use Rattle.plan.specs.laws.Questions.{stops, goes-on}
+use Rattle.plan.specs.laws.Steps.{rows-short, children-columns, levels-columns, rows-columns}
 use Rattle.plan.proofs.questions.tree_refusal.Statement.{statement}
 use Rattle.plan.proofs.questions.tree_refusal.Tie as tie
 

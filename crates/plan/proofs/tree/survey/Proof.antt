@@ -6,7 +6,7 @@ use lib.ListN.{length, getD, replicate, getD-replicate, length-set}
 use Rattle.plan.specs.Limits.{most-cells}
 use Rattle.plan.specs.Plan.{level, row}
 use Rattle.plan.specs.Columns.{table}
-use Rattle.plan.specs.Trees.{parent-few, seen, seen-most, seen-more, seen-children, level-small, level-value, level-more, row-value, row-more, row-small, first-only}
+use Rattle.plan.specs.laws.Trees.{parent-few, seen, seen-most, seen-more, seen-children, level-small, level-value, level-more, row-value, row-more, row-small, first-only}
 use Rattle.plan.proofs.tree.survey.Statement.{statement}
 use Rattle.plan.proofs.tree.survey.Tie as tie
 

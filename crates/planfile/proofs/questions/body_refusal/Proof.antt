@@ -1,14 +1,9 @@
-use Rattle.planfile.specs.ExaminedLaws.{records-lower, records-flat}
+use Rattle.planfile.specs.laws.Examined.{records-lower, records-flat}
 use Rattle.planfile.specs.FileSteps.{columns-refusal}
-use Rattle.plan.specs.QuestionLaws.{stops, goes-on}
+use Rattle.plan.specs.laws.Questions.{stops, goes-on}
 use borrow.Author.Needs.{needs}
 use Rattle.planfile.proofs.questions.body_refusal.Statement.{statement}
 use Rattle.planfile.proofs.questions.body_refusal.Tie as tie
-use Rattle.planfile.proofs.questions.body_refusal.Reads as reads
-use Rattle.planfile.proofs.questions.body_refusal.Lts as lts
-use Rattle.plan.proofs.questions.allowance_refusal.Reads as allowance-refusal-reads
-use Rattle.plan.proofs.questions.tree_refusal.Reads as tree-refusal-reads
-use Rattle.planfile.proofs.questions.records_refusal.Reads as records-refusal-reads
 
 cast-allowance : tie.Need-cast-allowance
 cast-allowance c = search needs

@@ -1,38 +1,28 @@
-use Rattle.plan.specs.FormLaws.{records-short}
+use Rattle.plan.specs.laws.Form.{records-short}
 use borrow.Author.Tests.{lt-leb, le-leb}
 use native.Mathlib.Omega.{arith}
 use borrow.Author.Needs.{needs}
 use Rattle.planfile.proofs.questions.counted.Statement.{statement}
 use Rattle.planfile.proofs.questions.counted.Tie as tie
-use Rattle.planfile.proofs.questions.counted.Reads as reads
-use Rattle.planfile.proofs.questions.counted.Lts as lts
-use Rattle.plan.proofs.forms.record_size.Reads as record-size-reads
 
--- src/questions.rt:55:9
 returns : tie.Need-returns
 returns c = rw (lt-leb _ _ (c .if1 .taken))
 
--- src/questions.rt:58:9
 returns-2 : tie.Need-returns-2
 returns-2 c = rw (le-leb _ _ (c .before .if1 .left), lt-leb _ _ (c .if2 .taken))
 
--- src/questions.rt:60:13
 record-size-requires : tie.Need-record-size-requires
 record-size-requires c κs = search needs
 
--- src/questions.rt:60:13
 mul-result : tie.Need-mul-result
 mul-result c = rw (c .record-size .ensures) (omega (arith, records-short (c .before .before .before .args .form) (c .before .before .before .args .n), c .before .if2 .left))
 
--- src/questions.rt:60:5
 add-result : tie.Need-add-result
 add-result c = rw (c .record-size .ensures) (omega (arith, records-short (c .before .before .before .args .form) (c .before .before .before .args .n), c .before .if2 .left, c .before .before .before .pre))
 
--- src/questions.rt:60:5
 add-result-2 : tie.Need-add-result-2
 add-result-2 c = rw (c .record-size .ensures) (omega (arith, records-short (c .before .before .before .args .form) (c .before .before .before .args .n), c .before .if2 .left, c .before .before .before .pre))
 
--- src/questions.rt:50:1
 returns-3 : tie.Need-returns-3
 returns-3 c = rw (le-leb _ _ (c .before .before .if1 .left), le-leb _ _ (c .before .if2 .left), c .record-size .ensures)
 

@@ -1,17 +1,9 @@
-use Rattle.planfile.specs.ExaminedLaws.{zero-of, header-read, room-read, count-read, body-is, plan-examined, file-passed, header-stops, examined-refused}
+use Rattle.planfile.specs.laws.Examined.{zero-of, header-read, room-read, count-read, body-is, plan-examined, file-passed, header-stops, examined-refused}
 use native.Mathlib.Omega.{arith}
 use mathlib.Core.Path.{_∙_}
 use borrow.Author.Needs.{needs}
 use Rattle.planfile.proofs.questions.examined.Statement.{statement}
 use Rattle.planfile.proofs.questions.examined.Tie as tie
-use Rattle.planfile.proofs.questions.examined.Reads as reads
-use Rattle.planfile.proofs.questions.examined.Lts as lts
-use Rattle.plan.proofs.forms.form_of.Reads as form-of-reads
-use Rattle.planfile.proofs.questions.body_refusal.Reads as body-refusal-reads
-use Rattle.planfile.proofs.questions.header_refusal.Reads as header-refusal-reads
-use Rattle.planfile.proofs.questions.refused.Reads as refused-reads
-use Rattle.planfile.proofs.table.records.Reads as records-reads
-use Rattle.planfile.proofs.table.trailer.Reads as trailer-reads
 
 header-refusal-requires : tie.Need-header-refusal-requires
 header-refusal-requires c κs = search needs

@@ -1,90 +1,65 @@
-use Rattle.planfile.specs.ExaminedLaws.{sized-read, full-read}
+use Rattle.planfile.specs.laws.Examined.{sized-read, full-read}
 use Rattle.planfile.specs.FileSteps.{header-refusal, counted}
-use Rattle.planfile.specs.declared.Trailer.{Trailer}
-use Rattle.plan.specs.QuestionLaws.{stops, goes-on}
+use Rattle.plan.specs.laws.Questions.{stops, goes-on}
 use Rattle.plan.specs.Questions.{asked, every}
 use Rattle.plan.specs.Forms.{marked, form-of}
 use Rattle.plan.specs.Limits.{between, first-letter, last-letter}
+use Rattle.planfile.specs.declared.Trailer.{Trailer}
 use lib.ListN.{length, take}
 use native.Mathlib.Omega.{arith}
-use mathlib.Core.Path.{refl, sym, ap, _∙_}
+use mathlib.Core.Path.{ap, _∙_}
 use borrow.Author.Needs.{needs}
 use Rattle.planfile.proofs.questions.header_refusal.Statement.{statement}
 use Rattle.planfile.proofs.questions.header_refusal.Tie as tie
-use Rattle.planfile.proofs.questions.header_refusal.Reads as reads
-use Rattle.planfile.proofs.questions.header_refusal.Lts as lts
-use Rattle.plan.proofs.forms.form_of.Reads as form-of-reads
-use Rattle.plan.proofs.forms.marked.Reads as marked-reads
-use Rattle.plan.proofs.questions.asked.Reads as asked-reads
-use Rattle.planfile.proofs.questions.counted.Reads as counted-reads
-use Rattle.planfile.proofs.questions.file_sized.Reads as file-sized-reads
-use Rattle.planfile.proofs.questions.letters_printable.Reads as letters-printable-reads
-use Rattle.planfile.proofs.table.trailer.Reads as trailer-reads
 
--- src/questions.rt:177:26
 file-sized-requires : tie.Need-file-sized-requires
 file-sized-requires c κs = search needs
 
--- src/questions.rt:177:9
 asked-requires : tie.Need-asked-requires
 asked-requires c κs = search needs
 
--- src/questions.rt:179:9
 returns : tie.Need-returns
 unfolding header-refusal
 returns c = stops _ _ _ (c .before .before .asked .ensures ∙ ap (λ x. asked 2 x 0) (c .before .before .before .file-sized .ensures)) (c .if1 .taken)
 
--- src/questions.rt:181:9
 trailer-requires : tie.Need-trailer-requires
 trailer-requires c κs = omega (arith, sized-read (length (c .before .before .before .before .before .args .file .now)) (c .before .before .asked .result) (c .before .before .asked .ensures ∙ ap (λ x. asked 2 x 0) (c .before .before .before .file-sized .ensures)) (c .if1 .left))
 
--- src/questions.rt:182:26
 marked-requires : tie.Need-marked-requires
 marked-requires c κs = search needs
 
--- src/questions.rt:182:9
 asked-requires-2 : tie.Need-asked-requires-2
 asked-requires-2 c κs = search needs
 
--- src/questions.rt:184:9
 returns-2 : tie.Need-returns-2
 unfolding header-refusal
 returns-2 c = goes-on _ _ _ _ (c .before .before .before .before .before .before .before .asked .ensures ∙ ap (λ x. asked 2 x 0) (c .before .before .before .before .before .before .before .before .file-sized .ensures)) (c .before .before .before .before .before .if1 .left) (stops _ _ _ (c .before .before .asked2 .ensures ∙ ap (λ x. asked 3 x 0) (c .before .before .before .marked .ensures ∙ ap (λ (t : Trailer). marked (t .mark)) (c .before .before .before .before .trailer .ensures))) (c .if2 .taken))
 
--- src/questions.rt:186:17
 cast-begin : tie.Need-cast-begin
 cast-begin c = search needs
 
--- src/questions.rt:189:17
 form-of-requires : tie.Need-form-of-requires
 form-of-requires c κs = search needs
 
--- src/questions.rt:189:47
 cast-counted : tie.Need-cast-counted
 cast-counted c = search needs
 
--- src/questions.rt:189:9
 counted-requires : tie.Need-counted-requires
 counted-requires c κs = search needs
 
--- src/questions.rt:187:9
 asked-requires-3 : tie.Need-asked-requires-3
 asked-requires-3 c κs = search needs
 
--- src/questions.rt:193:9
 returns-3 : tie.Need-returns-3
 unfolding header-refusal
 returns-3 c = goes-on _ _ _ _ (c .before .before .before .before .before .before .before .before .before .before .before .before .before .before .asked .ensures ∙ ap (λ x. asked 2 x 0) (c .before .before .before .before .before .before .before .before .before .before .before .before .before .before .before .file-sized .ensures)) (c .before .before .before .before .before .before .before .before .before .before .before .before .if1 .left) (goes-on _ _ _ _ (c .before .before .before .before .before .before .before .before .before .asked2 .ensures ∙ ap (λ x. asked 3 x 0) (c .before .before .before .before .before .before .before .before .before .before .marked .ensures ∙ ap (λ (t : Trailer). marked (t .mark)) (c .before .before .before .before .before .before .before .before .before .before .before .trailer .ensures))) (c .before .before .before .before .before .before .before .if2 .left) (stops _ _ _ (c .before .before .asked3 .ensures ∙ ap (λ x. asked 4 x 0) (c .before .before .before .counted .ensures ∙ rw (c .before .before .before .before .before .form-of .ensures) (ap (λ (t : Trailer). counted (form-of (t .mark)) (length (c .before .before .before .before .before .before .before .before .before .before .before .before .before .before .before .before .before .args .file .now)) (t .begin) (t .count)) (c .before .before .before .before .before .before .before .before .before .before .before .trailer .ensures)))) (c .if3 .taken)))
 
--- src/questions.rt:195:14
 letters-printable-requires : tie.Need-letters-printable-requires
 letters-printable-requires c κs = omega (arith, full-read _ (length (c .before .before .before .before .before .before .before .before .before .before .before .before .before .before .before .before .before .args .file .now)) (c .before .before .before .before .before .before .before .before .before .before .before .trailer .result .begin) (c .before .before .before .before .before .before .before .before .before .before .before .trailer .result .count) (c .before .before .asked3 .result) (c .before .before .asked3 .ensures ∙ ap (λ x. asked 4 x 0) (c .before .before .before .counted .ensures)) (c .if3 .left) .exact)
 
--- src/questions.rt:195:5
 asked-requires-4 : tie.Need-asked-requires-4
 asked-requires-4 c κs = search needs
 
--- src/questions.rt:173:1
 returns-4 : tie.Need-returns-4
 unfolding header-refusal
 returns-4 c = goes-on _ _ _ _ (c .before .before .before .before .before .before .before .before .before .before .before .before .before .before .before .before .asked .ensures ∙ ap (λ x. asked 2 x 0) (c .before .before .before .before .before .before .before .before .before .before .before .before .before .before .before .before .before .file-sized .ensures)) (c .before .before .before .before .before .before .before .before .before .before .before .before .before .before .if1 .left) (goes-on _ _ _ _ (c .before .before .before .before .before .before .before .before .before .before .before .asked2 .ensures ∙ ap (λ x. asked 3 x 0) (c .before .before .before .before .before .before .before .before .before .before .before .before .marked .ensures ∙ ap (λ (t : Trailer). marked (t .mark)) (c .before .before .before .before .before .before .before .before .before .before .before .before .before .trailer .ensures))) (c .before .before .before .before .before .before .before .before .before .if2 .left) (goes-on _ _ _ _ (c .before .before .before .before .asked3 .ensures ∙ ap (λ x. asked 4 x 0) (c .before .before .before .before .before .counted .ensures ∙ rw (c .before .before .before .before .before .before .before .form-of .ensures) (ap (λ (t : Trailer). counted (form-of (t .mark)) (length (c .before .before .before .before .before .before .before .before .before .before .before .before .before .before .before .before .before .before .before .args .file .now)) (t .begin) (t .count)) (c .before .before .before .before .before .before .before .before .before .before .before .before .before .trailer .ensures)))) (c .before .before .if3 .left) (c .asked4 .ensures ∙ ap (λ x. asked 5 x 0) (c .before .letters-printable .ensures ∙ ap (λ (t : Trailer). every (between first-letter last-letter) (take (t .begin) (c .before .before .before .before .before .before .before .before .before .before .before .before .before .before .before .before .before .before .before .args .file .now))) (c .before .before .before .before .before .before .before .before .before .before .before .before .before .trailer .ensures)))))

@@ -2,18 +2,13 @@ use borrow.Author.Tests.{lt-leb, le-leb}
 use borrow.Author.Needs.{needs}
 use Rattle.planfile.proofs.questions.inside.Statement.{statement}
 use Rattle.planfile.proofs.questions.inside.Tie as tie
-use Rattle.planfile.proofs.questions.inside.Reads as reads
-use Rattle.planfile.proofs.questions.inside.Lts as lts
 
--- src/questions.rt:86:9
 returns : tie.Need-returns
 returns c = rw (lt-leb _ _ (c .if1 .taken))
 
--- src/questions.rt:88:5
 add-result : tie.Need-add-result
 add-result c = search needs
 
--- src/questions.rt:82:1
 returns-2 : tie.Need-returns-2
 returns-2 c = rw (le-leb _ _ (c .if1 .left))
 

@@ -1,8 +1,8 @@
-use mathlib.Core.Path.{_≡_, refl}
+use mathlib.Core.Path.{refl}
 use Prim.Native.Nat.{_≤_, _-_}
 use native.Mathlib.Omega.{arith}
 use Rattle.plan.specs.Limits.{between, first-letter, last-letter}
-use Rattle.planfile.specs.EveryLaws.{Tested, every-more, every-ends}
+use Rattle.planfile.specs.laws.Every.{Tested, every-more, every-ends}
 use borrow.Author.Needs.{needs}
 use Rattle.planfile.proofs.questions.letters_printable.Statement.{statement}
 use Rattle.planfile.proofs.questions.letters_printable.Tie as tie

@@ -3,14 +3,6 @@ use mathlib.Core.Path.{_∙_}
 use borrow.Author.Needs.{needs}
 use Rattle.planfile.proofs.questions.record_refusal.Statement.{statement}
 use Rattle.planfile.proofs.questions.record_refusal.Tie as tie
-use Rattle.planfile.proofs.questions.record_refusal.Reads as reads
-use Rattle.planfile.proofs.questions.record_refusal.Lts as lts
-use Rattle.plan.proofs.forms.widest.Reads as widest-reads
-use Rattle.plan.proofs.kinds.bordered.Reads as bordered-reads
-use Rattle.plan.proofs.questions.asked.Reads as asked-reads
-use Rattle.plan.proofs.questions.cell_refusal.Reads as cell-refusal-reads
-use Rattle.plan.proofs.questions.or_else.Reads as or-else-reads
-use Rattle.planfile.proofs.questions.inside.Reads as inside-reads
 
 widest-requires : tie.Need-widest-requires
 widest-requires c κs = search needs

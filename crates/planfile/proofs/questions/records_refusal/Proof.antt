@@ -1,15 +1,12 @@
 use Rattle.planfile.specs.FileSteps.{records-at}
-use Rattle.plan.specs.QuestionLaws.{loop-starts, loop-stops, loop-goes-on, loop-ends}
+use Rattle.plan.specs.laws.Questions.{loop-starts, loop-stops, loop-goes-on, loop-ends}
 use Rattle.plan.specs.Questions.{at-each}
 use native.Mathlib.Omega.{arith}
 use Prim.Native.Nat.{_≤_, _-_}
-use mathlib.Core.Path.{_≡_, sym, _∙_}
+use mathlib.Core.Path.{_≡_}
 use borrow.Author.Needs.{needs}
 use Rattle.planfile.proofs.questions.records_refusal.Statement.{statement}
 use Rattle.planfile.proofs.questions.records_refusal.Tie as tie
-use Rattle.planfile.proofs.questions.records_refusal.Reads as reads
-use Rattle.planfile.proofs.questions.records_refusal.Lts as lts
-use Rattle.planfile.proofs.questions.record_refusal.Reads as record-refusal-reads
 
 abbrev Inv-loop : tie.InvT-loop
 Inv-loop form begin parents kinds widths depths sizes starts n c₀ c =

@@ -2,10 +2,7 @@ use Rattle.planfile.specs.Reading.{column, columns-of}
 use borrow.Author.Needs.{needs}
 use Rattle.planfile.proofs.questions.refused.Statement.{statement}
 use Rattle.planfile.proofs.questions.refused.Tie as tie
-use Rattle.planfile.proofs.questions.refused.Reads as reads
-use Rattle.planfile.proofs.questions.refused.Lts as lts
 
--- src/questions.rt:201:1
 returns : tie.Need-returns
 unfolding columns-of column
 returns c = search needs

@@ -1,13 +1,10 @@
-use Rattle.planfile.specs.FormatLaws.{Filled, filled-none, filled-more, filled-all}
-use Rattle.plan.specs.FormLaws.{record-inside}
+use Rattle.planfile.specs.laws.Format.{Filled, filled-none, filled-more, filled-all}
+use Rattle.plan.specs.laws.Form.{record-inside}
 use native.Mathlib.Omega.{arith}
 use Prim.Native.Nat.{_≤_, _-_}
 use borrow.Author.Needs.{needs}
 use Rattle.planfile.proofs.table.records.Statement.{statement}
 use Rattle.planfile.proofs.table.records.Tie as tie
-use Rattle.planfile.proofs.table.records.Reads as reads
-use Rattle.planfile.proofs.table.records.Lts as lts
-use Rattle.planfile.proofs.cursor.Cursor.entry.Reads as entry-reads
 
 abbrev Inv-loop : tie.InvT-loop
 Inv-loop file form begin n allowance parent₀ kind₀ width₀ depth₀ rank₀ label-length₀ label-start₀ cursor₀ c₀ parent kind width depth rank label-length label-start cursor c =

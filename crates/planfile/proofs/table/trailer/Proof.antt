@@ -1,33 +1,24 @@
 use mathlib.Core.Path.{refl}
-use Rattle.planfile.specs.FormatLaws.{read-trailer}
+use Rattle.planfile.specs.laws.Format.{read-trailer}
 use borrow.Author.Needs.{needs}
 use Rattle.planfile.proofs.table.trailer.Statement.{statement}
 use Rattle.planfile.proofs.table.trailer.Tie as tie
-use Rattle.planfile.proofs.table.trailer.Reads as reads
-use Rattle.planfile.proofs.table.trailer.Lts as lts
-use Rattle.planfile.proofs.cursor.Cursor.pair.Reads as pair-reads
 
--- src/table.rt:21:13
 sub-t11 : tie.Need-sub-t11
 sub-t11 c = search needs
 
--- src/table.rt:23:9
 pair-requires : tie.Need-pair-requires
 pair-requires c κs = search needs
 
--- src/table.rt:25:9
 pair-requires-2 : tie.Need-pair-requires-2
 pair-requires-2 c κs = search needs
 
--- src/table.rt:27:9
 pair-requires-3 : tie.Need-pair-requires-3
 pair-requires-3 c κs = search needs
 
--- src/table.rt:29:9
 pair-requires-4 : tie.Need-pair-requires-4
 pair-requires-4 c κs = search needs
 
--- src/table.rt:16:1
 returns : tie.Need-returns
 returns c = read-trailer _ _ _ _ _ _ _ _ _ refl (c .before .before .before .before .before .before .pair .ensures .0) (c .before .before .before .before .before .before .pair .ensures .1) (c .before .before .before .before .pair2 .ensures .0) (c .before .before .before .before .pair2 .ensures .1) (c .before .before .pair3 .ensures .0) (c .before .before .pair3 .ensures .1) (c .pair4 .ensures .0)
 

@@ -1,45 +1,32 @@
 use mathlib.Core.Path.{_∙_}
-use Rattle.planfile.specs.FormatLaws.{read-old}
+use Rattle.planfile.specs.laws.Format.{read-old}
 use borrow.Author.Needs.{needs}
 use Rattle.planfile.proofs.cursor.Cursor.old_entry.Statement.{statement}
 use Rattle.planfile.proofs.cursor.Cursor.old_entry.Tie as tie
-use Rattle.planfile.proofs.cursor.Cursor.old_entry.Reads as reads
-use Rattle.planfile.proofs.cursor.Cursor.old_entry.Lts as lts
-use Rattle.planfile.proofs.cursor.Cursor.byte.Reads as byte-reads
-use Rattle.planfile.proofs.cursor.Cursor.pair.Reads as pair-reads
-use Rattle.planfile.proofs.cursor.wide.Reads as wide-reads
 
--- src/cursor.rt:73:13
 pair-requires : tie.Need-pair-requires
 pair-requires c κs = search needs
 
--- src/cursor.rt:75:13
 byte-requires : tie.Need-byte-requires
 byte-requires c κs = search needs
 
--- src/cursor.rt:77:13
 byte-requires-2 : tie.Need-byte-requires-2
 byte-requires-2 c κs = search needs
 
--- src/cursor.rt:79:13
 byte-requires-3 : tie.Need-byte-requires-3
 byte-requires-3 c κs = search needs
 
--- src/cursor.rt:81:13
 byte-requires-4 : tie.Need-byte-requires-4
 byte-requires-4 c κs = search needs
 
--- src/cursor.rt:83:13
 pair-requires-2 : tie.Need-pair-requires-2
 pair-requires-2 c κs = search needs
 
--- src/cursor.rt:88:20
-wide-requires : tie.Need-wide-requires
-wide-requires c κs = search needs
+wide8to16-requires : tie.Need-wide8to16-requires
+wide8to16-requires c κs = search needs
 
--- src/cursor.rt:69:5
 returns : tie.Need-returns
-returns c = (read-old _ _ _ _ _ _ _ _ _ _ _ _ _ (c .before .before .before .before .before .before .before .before .before .before .before .before .pair .ensures .0) (c .before .before .before .before .before .before .before .before .before .before .before .before .pair .ensures .1) (c .before .before .before .before .before .before .before .before .before .before .byte .ensures .0) (c .before .before .before .before .before .before .before .before .before .before .byte .ensures .1) (c .wide .ensures ∙ c .before .before .before .before .before .before .before .before .byte2 .ensures .0) (c .before .before .before .before .before .before .before .before .byte2 .ensures .1) (c .before .before .before .before .before .before .byte3 .ensures .0) (c .before .before .before .before .before .before .byte3 .ensures .1) (c .before .before .before .before .byte4 .ensures .0) (c .before .before .before .before .byte4 .ensures .1) (c .before .before .pair2 .ensures .0), search needs)
+returns c = (read-old _ _ _ _ _ _ _ _ _ _ _ _ _ (c .before .before .before .before .before .before .before .before .before .before .before .before .pair .ensures .0) (c .before .before .before .before .before .before .before .before .before .before .before .before .pair .ensures .1) (c .before .before .before .before .before .before .before .before .before .before .byte .ensures .0) (c .before .before .before .before .before .before .before .before .before .before .byte .ensures .1) (c .wide8to16 .ensures ∙ c .before .before .before .before .before .before .before .before .byte2 .ensures .0) (c .before .before .before .before .before .before .before .before .byte2 .ensures .1) (c .before .before .before .before .before .before .byte3 .ensures .0) (c .before .before .before .before .before .before .byte3 .ensures .1) (c .before .before .before .before .byte4 .ensures .0) (c .before .before .before .before .byte4 .ensures .1) (c .before .before .pair2 .ensures .0), search needs)
 
 pub old-entry-spec : {M : Type 1} → statement M
 old-entry-spec =
@@ -51,5 +38,5 @@ old-entry-spec =
     byte-requires-3
     byte-requires-4
     pair-requires-2
-    wide-requires
+    wide8to16-requires
     returns)

@@ -1,43 +1,30 @@
 use native.Mathlib.Omega.{arith}
-use Rattle.planfile.specs.FormatLaws.{read-wide}
-use mathlib.Core.Path.{_∙_}
+use Rattle.planfile.specs.laws.Format.{read-wide}
 use borrow.Author.Needs.{needs}
 use Rattle.planfile.proofs.cursor.Cursor.wide_entry.Statement.{statement}
 use Rattle.planfile.proofs.cursor.Cursor.wide_entry.Tie as tie
-use Rattle.planfile.proofs.cursor.Cursor.wide_entry.Reads as reads
-use Rattle.planfile.proofs.cursor.Cursor.wide_entry.Lts as lts
-use Rattle.planfile.proofs.cursor.Cursor.byte.Reads as byte-reads
-use Rattle.planfile.proofs.cursor.Cursor.pair.Reads as pair-reads
 
--- src/cursor.rt:104:13
 pair-requires : tie.Need-pair-requires
 pair-requires c κs = search needs
 
--- src/cursor.rt:106:13
 byte-requires : tie.Need-byte-requires
 byte-requires c κs = search needs
 
--- src/cursor.rt:108:13
 byte-requires-2 : tie.Need-byte-requires-2
 byte-requires-2 c κs = search needs
 
--- src/cursor.rt:110:13
 pair-requires-2 : tie.Need-pair-requires-2
 pair-requires-2 c κs = search needs
 
--- src/cursor.rt:112:13
 byte-requires-3 : tie.Need-byte-requires-3
 byte-requires-3 c κs = search needs
 
--- src/cursor.rt:114:13
 byte-requires-4 : tie.Need-byte-requires-4
 byte-requires-4 c κs = search needs
 
--- src/cursor.rt:116:13
 pair-requires-3 : tie.Need-pair-requires-3
 pair-requires-3 c κs = search needs
 
--- src/cursor.rt:100:5
 returns : tie.Need-returns
 returns c = (read-wide _ _ _ _ _ _ _ _ _ _ _ _ _ _ _ (c .before .before .before .before .before .before .before .before .before .before .before .before .before .pair .ensures .0) (c .before .before .before .before .before .before .before .before .before .before .before .before .before .pair .ensures .1) (c .before .before .before .before .before .before .before .before .before .before .before .byte .ensures .0) (c .before .before .before .before .before .before .before .before .before .before .before .byte .ensures .1) (c .before .before .before .before .before .before .before .before .before .byte2 .ensures .0) (c .before .before .before .before .before .before .before .before .before .byte2 .ensures .1) (c .before .before .before .before .before .before .before .pair2 .ensures .0) (c .before .before .before .before .before .before .before .pair2 .ensures .1) (c .before .before .before .before .before .byte3 .ensures .0) (c .before .before .before .before .before .byte3 .ensures .1) (c .before .before .before .byte4 .ensures .0) (c .before .before .before .byte4 .ensures .1) (c .before .pair3 .ensures .0), omega (arith, c .before .before .before .before .before .before .before .before .before .before .before .before .before .pair .ensures .1, c .before .before .before .before .before .before .before .before .before .before .before .byte .ensures .1, c .before .before .before .before .before .before .before .before .before .byte2 .ensures .1, c .before .before .before .before .before .before .before .pair2 .ensures .1, c .before .before .before .before .before .byte3 .ensures .1, c .before .before .before .byte4 .ensures .1, c .before .pair3 .ensures .1))
 

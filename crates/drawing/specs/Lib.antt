@@ -1,4 +1,0 @@
-pub mod Laid
-pub mod LaidLaws
-pub mod Promised
-pub mod Walks

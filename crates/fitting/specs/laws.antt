@@ -1,0 +1,3 @@
+pub mod Fitted
+pub mod Promised
+pub mod Worked

@@ -1,0 +1,5 @@
+pub mod Fold
+pub mod Folded
+pub mod Held
+pub mod Join
+pub mod Lists

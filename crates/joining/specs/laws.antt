@@ -1,0 +1,5 @@
+pub mod Complete
+pub mod Joining
+pub mod Marks
+pub mod Numbers
+pub mod Settle

@@ -1,0 +1,4 @@
+pub mod Build
+pub mod Built
+pub mod Chain
+pub mod Linked

@@ -1,0 +1,37 @@
+-- The lines as the code writes them: a first field, then each with its space before it. Assumes nothing.
+use mathlib.Core.Path.{_≡_, refl}
+use mathlib.Core.List.{[], _∷_, _++_, append-assoc}
+use Prim.Native.Nat.{ℕ}
+use native.Mathlib.Omega.{arith}
+use lib.IntN.{ℤ}
+use lib.ListN.{length}
+use Rattle.listing.specs.Printed.{Bytes, space, line-feed, sheet-word, refused-word, decimal, signed, line, sheet-line, label-field, cell-line, refused-line}
+use Rattle.listing.specs.Line.{spaced}
+
+pub spaced-empty : (s : Bytes) → length s ≡ 0 → spaced s ≡ []
+unfolding spaced
+spaced-empty [] e = refl
+spaced-empty (b ∷ bs) e = absurd (omega arith)
+
+pub spaced-label : (s : Bytes) → ¬ (length s ≡ 0) → spaced s ≡ space ∷ s
+unfolding spaced
+spaced-label [] e = absurd (e refl)
+spaced-label (b ∷ bs) e = refl
+
+-- ---- the three lines
+pub sheet-line-is : (n al w h : ℕ) → sheet-word ++ (space ∷ decimal n) ++ (space ∷ decimal al) ++ (space ∷ decimal w) ++ (space ∷ decimal h) ++ (line-feed ∷ []) ≡ sheet-line n al w h
+unfolding sheet-line line
+sheet-line-is n al w h = simp append-assoc
+
+pub refused-line-is : (k c : ℕ) → refused-word ++ (space ∷ decimal k) ++ (space ∷ decimal c) ++ (line-feed ∷ []) ≡ refused-line k c
+unfolding refused-line line
+refused-line-is k c = simp append-assoc
+
+regroup : (a b c d e f g : Bytes) → a ++ b ++ c ++ d ++ e ++ f ++ g ≡ a ++ (b ++ (c ++ (d ++ (e ++ (f ++ g)))))
+regroup a b c d e f g = simp append-assoc
+
+pub cell-line-is : (c : ℕ) (x y : ℤ) (w d : ℕ) (l : Bytes)
+    → decimal c ++ (space ∷ signed x) ++ (space ∷ signed y) ++ (space ∷ decimal w) ++ (space ∷ decimal d) ++ spaced l ++ (line-feed ∷ []) ≡ cell-line c x y w d l
+unfolding cell-line line label-field spaced
+cell-line-is c x y w d [] = regroup (decimal c) (space ∷ signed x) (space ∷ signed y) (space ∷ decimal w) (space ∷ decimal d) [] _
+cell-line-is c x y w d (b ∷ l) = regroup (decimal c) (space ∷ signed x) (space ∷ signed y) (space ∷ decimal w) (space ∷ decimal d) (space ∷ b ∷ l) _

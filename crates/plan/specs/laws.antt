@@ -1,0 +1,16 @@
+pub mod Calls
+pub mod Columns
+pub mod Fit
+pub mod Form
+pub mod Kinds
+pub mod Lists
+pub mod Near
+pub mod Paths
+pub mod Plan
+pub mod Questions
+pub mod Siblings
+pub mod Sort
+pub mod Steps
+pub mod Sums
+pub mod Tables
+pub mod Trees

@@ -1,0 +1,3 @@
+pub mod Measured
+pub mod Raised
+pub mod Written

@@ -1,0 +1,3 @@
+pub mod Apart
+pub mod Crowded
+pub mod Together

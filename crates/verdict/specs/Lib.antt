@@ -1,6 +1,0 @@
-pub mod Passes
-pub mod Sees
-pub mod Spread
-pub mod Checked
-pub mod Meaning
-pub mod CheckedLaws

@@ -1,0 +1,9 @@
+pub mod Claim
+pub mod Falls
+pub mod Machine
+pub mod Shows
+pub mod Stretch
+pub mod Tree
+pub mod Turns
+pub mod Visits
+pub mod Walked

@@ -1,0 +1,4 @@
+pub mod Bias
+pub mod Range
+pub mod Says
+pub mod Whole

@@ -1,0 +1,101 @@
+#!/usr/bin/env python3
+"""What must be believed: the list in docs/PROOF.md, made from the sources.
+
+    tools/believed.py            print the list
+    tools/believed.py --write    put it into docs/PROOF.md, between its two marks
+    tools/believed.py --check    exit 1 where the page is out of date, or a file directly under specs/ holds a proof
+
+A file directly under a crate's specs/ holds definitions, and statements whose proof is one line (a name of specs/laws/, or a computation). What a
+reader must believe is each definition that is reached from what a user relies on: the contracts of `engine` and `capi`, and the statements. Reached
+means named there, or named in a definition that is reached. The walk's statements (E5) are listed apart: they reach the machine, which nothing else does.
+Lines are those of the file without comments, blank lines and `use` lines.
+"""
+import os
+import re
+import sys
+sys.path.insert(0, os.path.dirname(os.path.abspath(__file__)))
+from antt import Graph, indent, strip_comment
+
+ROOT = os.path.dirname(os.path.dirname(os.path.abspath(__file__)))
+PAGE = os.path.join(ROOT, 'docs', 'PROOF.md')
+OPEN, CLOSE = '<!-- made by tools/believed.py -->', '<!-- end of what tools/believed.py made -->'
+ENTRIES = {'engine', 'capi'}
+WALK = {'Visits', 'Walks'}             # the files of E5's statements
+
+
+def lines(f):
+    return sum(1 for l in open(f.path) if l.strip() and not re.match(r'\s*--|use |(?:unfoldable )?pub use ', l))
+
+
+def about(f):
+    """what the file says of itself: its first sentence"""
+    text = ' '.join(l.lstrip('- ').strip() for l in f.head)
+    text = re.sub(r'\s*Assumes nothing\.', '', text)
+    return re.split(r'(?<=[.])\s|:\s', text)[0].rstrip('.')
+
+
+def one_line(d):
+    """a statement whose proof is one line, an `unfolding` line aside"""
+    rest = d.lines[len(d.signature()):]
+    rest = [l for l in rest if strip_comment(l).strip() and not l.strip().startswith('unfolding ')]
+    return len(rest) <= 1
+
+
+def main():
+    g = Graph(ROOT)
+    plain = {k: f for k, f in g.files.items() if not k[1].startswith('laws.')}
+    stated, walk, proofs = set(), set(), []
+    for key, f in plain.items():
+        for d in f.decls():
+            if d.is_def:
+                continue
+            if not one_line(d):
+                proofs.append(f'{key[0]}/specs/{key[1]}.antt: {d.name}')
+            (walk if key[1] in WALK else stated).add(d)
+    first = g.closure(g.contract_roots(ENTRIES) | stated)
+    second = g.closure(walk) - first
+    rest = g.closure(g.contract_roots()) - first - second
+
+    def files(found):
+        return sorted({d.key for d in found if d.is_def or d in stated or d in walk})
+
+    misplaced = [f'{k[0]}/specs/laws/{k[1][5:]}.antt' for k in files(first | second) if k[1].startswith('laws.')]
+    main_, more = [k for k in files(first) if k in plain], []
+    more = [k for k in files(second) if k in plain and k not in main_]
+    inner = [k for k in sorted(plain) if k not in main_ and k not in more]
+
+    def table(keys):
+        out = ['| crate | file under its specs/ | lines | what it is |', '|---|---|---|---|']
+        for k in keys:
+            out.append(f'| `{k[0]}` | {k[1]} | {lines(g.files[k])} | {about(g.files[k])} |')
+        out.append(f'| | in all | {sum(lines(g.files[k]) for k in keys)} | |')
+        return out
+
+    text = [OPEN, 'For the calls and the demands:', ''] + table(main_)
+    text += ['', 'And for the walk, turn by turn (E5):', ''] + table(more)
+    names = {}
+    for c, m in inner:
+        names.setdefault(c, []).append(m)
+    text += ['', 'The other files directly under specs/ are named only by contracts of functions inside, which nobody outside relies on: '
+             + '; '.join(f'`{c}` {", ".join(ms)}' for c, ms in sorted(names.items())) + '.', CLOSE]
+    made = '\n'.join(text)
+    if '--write' in sys.argv or '--check' in sys.argv:
+        page = open(PAGE).read()
+        if OPEN not in page:
+            sys.exit(f'docs/PROOF.md has no mark {OPEN}')
+        new = page[:page.index(OPEN)] + made + page[page.index(CLOSE) + len(CLOSE):]
+        if '--write' in sys.argv:
+            open(PAGE, 'w').write(new)
+        elif new != page:
+            sys.exit('docs/PROOF.md: the list of what must be believed is out of date (tools/believed.py --write)')
+    else:
+        print(made)
+    for p in proofs:
+        print('a proof under specs/ outside laws/:', p, file=sys.stderr)
+    for m in misplaced:
+        print('to be believed, but under laws/:', m, file=sys.stderr)
+    return 1 if proofs or misplaced else 0
+
+
+if __name__ == '__main__':
+    sys.exit(main())
