@@ -56,7 +56,8 @@ pub sheet-accepted : (t : Table) (al scratch : ℕ) (ps : List ℤ) → refusal 
     → (refusal check (check-given t al ps) ≡ none) × (answer t (placed ps) al ≡ fine (width t (sheet t al)) (rows t (sheet t al)))
 sheet-accepted = laws.sheet-accepted
 
--- 8. The worked sheets ◆A to ◆J come out as document 01 has them, and so do five more, which S3 and S5 decide, and nine with choices (E6).
+-- 8. The worked sheets ◆A to ◆J come out as document 01 has them, and so do five more, which S3 and S5 decide,
+-- nine with choices (E6) and ten whose ranks decide the order of siblings (E13).
 pub worked : map computed sheets ≡ sheets
 worked = laws.worked
 

@@ -1,7 +1,5 @@
 // The questions put to a file, each as a refusal. A refusal of number 0 is none.
 use crate::Reading;
-use crate::cursor::Cursor;
-use crate::table::place;
 use crate::table::records;
 use crate::table::trailer;
 use plan::Columns;

@@ -3,7 +3,6 @@ use crate::Reading;
 use crate::Trailer;
 use crate::cursor::Cursor;
 use plan::Columns;
-use plan::Record;
 use plan::Refusal;
 use plan::forms::Form;
 use plan::forms::record_size;

@@ -31,10 +31,6 @@ by qs s = getD qs s 0
 abbrev line : List ℕ → List ℕ → ℕ → ℕ → ℕ → List ℕ
 line fs qs f d i = sort (by qs) (kin fs f d i)
 
--- a link that stands for no next sibling
-abbrev Aside : ℕ → Type 0
-Aside q = (x : ℕ) → q ≢ 4 * x + 1
-
 module _ (fs qs : List ℕ) where
   line-none : (f i : ℕ) → line fs qs f 0 i ≡ []
   unfolding keep from sort
