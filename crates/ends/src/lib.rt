@@ -1,10 +1,10 @@
 // Ends: where the connector from a parent to a child begins and ends.
+use asking::asked;
+use asking::lent_refusal;
+use asking::near_refusal;
 use plan::Columns;
 use plan::Refusal;
 use plan::limits::FARTHEST;
-use plan::questions::asked;
-use plan::questions::lent_refusal;
-use plan::questions::near_refusal;
 use spans::parent_of;
 use whole::difference;
 use whole::numbers::wide8to32;

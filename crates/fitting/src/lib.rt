@@ -1,4 +1,7 @@
 // FRAME (document 02, E2): the least allowance whose sheet is no wider than a frame of so many squares, by halving.
+use asking::asked;
+use asking::counted_refusal;
+use asking::tree::survey;
 use layout::clear;
 use layout::place;
 use plan::Columns;
@@ -6,9 +9,6 @@ use plan::Refusal;
 use plan::limits::MOST_ALLOWANCE;
 use plan::limits::MOST_CELLS;
 use plan::limits::SCRATCH_SIZE;
-use plan::questions::asked;
-use plan::questions::counted_refusal;
-use plan::tree::survey;
 use positions::sheet_width;
 ghost use mathlib.Core.Path.{_≡_};
 ghost use mathlib.Core.Bool.{cond};

@@ -1,14 +1,14 @@
 // LAYOUT: a table and an allowance to positions, width and rows.
+use asking::allowance_refusal;
+use asking::asked;
+use asking::lent_refusal;
+use asking::tree::survey;
 use marks::MARKS;
 use marks::marks_of;
 use plan::Columns;
 use plan::Refusal;
 use plan::limits::MOST_CELLS;
 use plan::limits::SCRATCH_SIZE;
-use plan::questions::allowance_refusal;
-use plan::questions::asked;
-use plan::questions::lent_refusal;
-use plan::tree::survey;
 use positions::raised;
 use positions::sheet_rows;
 use positions::sheet_width;

@@ -1,4 +1,4 @@
--- DEMAND 1: THE FIRST "NO" OF THE SEQUENCE (document 01: "The first "no" in this sequence gives the number", "the lowest cell at fault"). That a call's refusal is this one is stated in crate engine (Calls: `first-no`, `no-no`). Assumes nothing.
+-- DEMAND 1: THE FIRST "NO" OF THE SEQUENCE (document 01: "The first "no" in this sequence gives the number", "the lowest cell at fault"). That a call's refusal is this one is stated in crate demands (Calls: `first-no`, `no-no`). Assumes nothing.
 use mathlib.Core.Path.{_≡_}
 use mathlib.Core.List.{List, [], _∷_, _++_}
 use Prim.Native.Nat.{ℕ, _<_}

@@ -1,7 +1,9 @@
 pub mod Calls
 pub mod Columns
+pub mod Crowded
 pub mod Fit
 pub mod Form
+pub mod Kept
 pub mod Kinds
 pub mod Lists
 pub mod Near

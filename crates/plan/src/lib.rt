@@ -4,8 +4,6 @@ use crate::limits::MOST_CELLS;
 pub mod forms;
 pub mod kinds;
 pub mod limits;
-pub mod questions;
-pub mod tree;
 
 // Document 01: "a run of records, one for each cell". The root's parent is 65,535. The rank stands where a byte was unused.
 #[repr(C)]

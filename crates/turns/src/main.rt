@@ -1,5 +1,6 @@
 // Layout's walk, turn by turn, for the plan file on standard input: before each turn a line with the open cells from the root down and the child
 // that is opened next. The turns are crate walk's own.
+use asking::tree::survey;
 use io::print_decimal;
 use io::write_all;
 use layout::layout_refusal;
@@ -9,7 +10,6 @@ use marks::MARKS;
 use plan::Columns;
 use plan::limits::MOST_CELLS;
 use plan::limits::SCRATCH_SIZE;
-use plan::tree::survey;
 use walk::Chain;
 use walk::begin;
 use walk::turn;

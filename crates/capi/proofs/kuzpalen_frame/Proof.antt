@@ -19,18 +19,18 @@ use denote.Enum.Laws as EL
 use denote.Struct.Laws as LL
 use Rattle.plan.specs.Records.{cells-of}
 use Rattle.fitting.specs.Fitted.{Frames}
-use Rattle.capi.specs.Answers.{frame-answer, Framing}
+use Rattle.answers.specs.Answers.{frame-answer, Framing}
 use Rattle.plan.proofs.Record as T
 use Rattle.fitting.proofs.Fitted as B
 use Rattle.fitting.proofs.Fitted.Laws as B′
-use Rattle.capi.proofs.FrameAnswer as L
-use Rattle.capi.proofs.FrameAnswer.Laws as L′
+use Rattle.answers.proofs.FrameAnswer as L
+use Rattle.answers.proofs.FrameAnswer.Laws as L′
 use Rattle.engine.proofs.InTurn.{Told, Answered, Calling}
 use Rattle.capi.proofs.Told.{Passes, meets-told}
 use Rattle.engine.proofs.frame.Symbol as entry
 use Rattle.engine.proofs.frame.Met as entry-thm
-use Rattle.capi.proofs.told_frame.Symbol as told
-use Rattle.capi.proofs.told_frame.Met as told-thm
+use Rattle.answers.proofs.told_frame.Symbol as told
+use Rattle.answers.proofs.told_frame.Met as told-thm
 use Rattle.capi.proofs.kuzpalen_frame.Key as key
 use Rattle.capi.proofs.kuzpalen_frame as own
 use Rattle.capi.proofs.kuzpalen_frame.Statement as stated
@@ -59,7 +59,7 @@ module _ {M : Type 1} (𝓤 : URA M) (H : Heap 𝓤) (A : Atoms 𝓤) (W : Given
 pub kuzpalen-frame-spec : {M : Type 1} → stated.statement M
 unfolding code.routine
 kuzpalen-frame-spec 𝓤 H 𝓜 𝓖 𝓡 =
-    meets-told 𝓤 H 𝓜 𝓖 𝓡 code.env key.name entry.name told.name code.function (code.unfolded 𝓤 H 𝓜 𝓡) entry.routine told.routine code.calls-engine·frame code.calls-capi·told-frame B′.mir L′.mir B.the-row L.the-row frame-answer
+    meets-told 𝓤 H 𝓜 𝓖 𝓡 code.env key.name entry.name told.name code.function (code.unfolded 𝓤 H 𝓜 𝓡) entry.routine told.routine code.calls-engine·frame code.calls-answers·told-frame B′.mir L′.mir B.the-row L.the-row frame-answer
     (λ b v is. EL.lawful B.the-type B′.the-laws 𝓤 H (𝓖 .A) (givenOf 𝓤 H 𝓜 𝓖) tt .typed b _ is .0) (λ r u is. LL.lawful L.the-type L′.the-laws 𝓤 H (𝓖 .A) (givenOf 𝓤 H 𝓜 𝓖) .typed r _ is .0)
     2 (own.signature .params)
     (λ κs a e d. Frames (cells-of (a .0 .now)) (a .1 .0) (a .1 .1 .0 .now) (e .1 .1 .0 .now) d)

@@ -1,5 +1,5 @@
 -- Laws of the definitions in specs/Demanded.antt. Assumes nothing.
-use mathlib.Core.Path.{_≡_}
+use mathlib.Core.Path.{_≡_, refl}
 use mathlib.Core.List.{List, [], _∷_}
 use mathlib.Core.Bool.{Bool, true, false}
 use mathlib.Core.Logic.{_↔_}
@@ -12,17 +12,17 @@ use Rattle.whole.specs.Says.{Says}
 use Rattle.whole.specs.laws.Says.{that-is, both, says-le, says-eq, itself}
 use Rattle.whole.specs.laws.Range.{says-within}
 use Rattle.plan.specs.Lists.{mem, some}
-use Rattle.plan.specs.Limits.{between, most-cells, most-width, most-depth, most-allowance, scratch-size, farthest}
+use Rattle.plan.specs.Limits.{between, most-cells, most-width, most-depth, scratch-size, farthest}
 use Rattle.plan.specs.Plan.{Table, Is, parent, kind, W, D}
 use Rattle.plan.specs.Kinds.{about, known, allows}
 use Rattle.plan.specs.laws.Steps.{lower-read}
+use Rattle.plan.specs.laws.Kept.{put, with-each, kept}
 use Rattle.plan.specs.Questions as asked
-use Rattle.plan.specs.Questions.{Buffer, scratch, Lent, long, lent, Subject, nothing, Call, Given, cells-counted, parent-lower, kind-known, box-sized, label-inside, label-fits, coordinates-near, cell-named, layout, check, number, puts, sequence, roomy, all-roomy, enough, in-file, lower, sized, near, none, refusal, layout-given, check-given}
+use Rattle.plan.specs.Questions.{scratch, lent, Call, Given, cells-counted, parent-lower, kind-known, box-sized, children-allowed, level-low, rows-few, coordinates-near, layout, check, number, puts, sequence, roomy, all-roomy, enough, in-file, lower, sized, near, none, refusal, layout-given, check-given}
 use Rattle.plan.specs.declared.kinds.Lookup.{Lookup}
 use Rattle.plan.specs.declared.kinds.Lookup.the-variants.{Known, Unknown}
 use Rattle.rules.specs.Placement.{Inside}
-use Rattle.least.specs.Refusals.{Yes, YesSteps}
-use Rattle.least.specs.laws.Refusals.{refusal-none}
+use Rattle.least.specs.laws.Refusals.{All, AllSteps, refusal-all}
 use Rattle.least.specs.Demanded.{Asked, LayoutAsked, CheckAsked}
 
 -- ---- single questions
@@ -52,155 +52,102 @@ infixr 3 _and_
 _and_ : {P Q : Type 0} → P → Q → P × Q
 _and_ p q = (p, q)
 
--- a question answered yes, whether it is put or not
-answered : {P Q : Type 0} → Q → (P → Q) × Unit {0}
-answered q = (λ _. q, tt)
+module _ (call : Call) (g : Given) (l : g .source ≡ lent) where
+  abbrev t : Table
+  t = g .table
 
--- the questions that every call on a lent table puts
-record Lends (call : Call) : Type 0 where
-  one : T (mem 1 (puts call))
-  four : T (mem 4 (puts call))
-  six : T (mem 6 (puts call))
-  eight : T (mem 8 (puts call))
-  eleven : T (mem 11 (puts call))
-  twelve : T (mem 12 (puts call))
-  thirteen : T (mem 13 (puts call))
-
-module _ (call : Call) (t : Table) (al : ℕ) (bs : List Buffer) (p : Lent) (ps : List ℤ) (s : Subject) where
-  abbrev given : Given
-  given = record { source = lent; table = t; allowance = al; buffers = bs; positions = p; coordinates = ps; subject = s }
-
-  -- each of them answered yes, and those of the others that the call puts
-  record Granted : Type 0 where
-    table : Asked t
-    buffers : T (all-roomy bs)
-    positions : T (enough p (2 * length t))
-    framed : T (mem 19 (puts call)) → T (asked.framed s)
-    allowance : T (mem 14 (puts call)) → al ≤ most-allowance
-    near-all : T (mem 15 (puts call)) → (c : ℕ) → Is t c → Inside (getD ps (2 * c) (pos 0)) × Inside (getD ps (2 * c + 1) (pos 0))
-    named : T (mem 16 (puts call)) → T (asked.holds call given cell-named 0)
-
-  says-inside : (c : ℕ) → Says (asked.holds call given coordinates-near c) (Inside (getD ps (2 * c) (pos 0)) × Inside (getD ps (2 * c + 1) (pos 0)))
+  says-inside : (c : ℕ) → Says (asked.holds call g coordinates-near c) (Inside (getD (g .coordinates) (2 * c) (pos 0)) × Inside (getD (g .coordinates) (2 * c + 1) (pos 0)))
   unfolding asked.holds
   says-inside c = both (says-near _) (says-near _)
 
-  says-counted : Says (asked.holds call given cells-counted 0) ((1 ≤ length t) × (length t ≤ most-cells))
+  says-counted : Says (asked.holds call g cells-counted 0) ((1 ≤ length t) × (length t ≤ most-cells))
   unfolding asked.holds in-file
-  says-counted = that-is (both (says-between 1 most-cells (length t)) (itself true)) (λ h. h .0) (λ h. (h, tt))
+  says-counted = rw l (that-is (both (says-between 1 most-cells (length t)) (itself true)) (λ h. h .0) (λ h. (h, tt)))
 
-  says-sized : (c : ℕ) → Says (asked.holds call given box-sized c) (((1 ≤ W t c) × (W t c ≤ most-width)) × ((1 ≤ D t c) × (D t c ≤ most-depth)))
+  says-sized : (c : ℕ) → Says (asked.holds call g box-sized c) (((1 ≤ W t c) × (W t c ≤ most-width)) × ((1 ≤ D t c) × (D t c ≤ most-depth)))
   unfolding asked.holds asked.widest-in sized
-  says-sized c = both (says-between 1 most-width (W t c)) (says-between 1 most-depth (D t c))
+  says-sized c = rw l (both (says-between 1 most-width (W t c)) (says-between 1 most-depth (D t c)))
 
-  granted : Lends call → YesSteps call given sequence → Granted
-  unfolding sequence number asked.holds enough
-  granted l y =
-      let count = says-counted .read (y .1 .1 .1 .0 .0 (l .four)) in
-      let after = y .1 .1 .1 .1 in
-      let records = after .1 .1 .0 in
-      let more = after .1 .1 .1 in
+  -- 4, 6 to 8 and 11 to 13, each answered yes
+  record Fine : Type 0 where
+    count : T (asked.holds call g cells-counted 0)
+    records : (c : ℕ) → Is t c → All call g (parent-lower ∷ kind-known ∷ box-sized ∷ []) c
+    families : (c : ℕ) → Is t c → All call g (children-allowed ∷ []) c
+    levels : (c : ℕ) → Is t c → All call g (level-low ∷ []) c
+    rows : (c : ℕ) → Is t c → All call g (rows-few ∷ []) c
+
+  fine-read : Fine → Asked t
+  unfolding asked.holds
+  fine-read y =
+      let count = says-counted .read (y .count) in
       record {
-        table = record {
-          fit = record {
-            some-cell = count .0;
-            not-too-many = count .1;
-            sound = λ c h i. lower-read c (parent t c) h (records c i .0 (l .six));
-            wide = λ c i. says-sized c .read (records c i .1 .1 .0 (l .eight)) .0;
-            deep = λ c i. says-sized c .read (records c i .1 .1 .0 (l .eight)) .1;
-            family = λ c i. more .0 c i .0 (l .eleven);
-            not-too-low = λ c i. says-le _ _ .read (more .1 .0 c i .0 (l .twelve));
-            rows-few = λ c i. says-le _ _ .read (more .1 .1 .0 c i .0 (l .thirteen));
-          };
-          root = says-eq _ _ .read (unfold lower in records 0 (count .0) .0 (l .six));
+        fit = record {
+          some-cell = count .0;
+          not-too-many = count .1;
+          sound = λ c h i. lower-read c (parent t c) h (y .records c i .0);
+          wide = λ c i. says-sized c .read (y .records c i .1 .1 .0) .0;
+          deep = λ c i. says-sized c .read (y .records c i .1 .1 .0) .1;
+          family = λ c i. y .families c i .0;
+          not-too-low = λ c i. says-le _ _ .read (y .levels c i .0);
+          rows-few = λ c i. says-le _ _ .read (y .rows c i .0);
         };
-        buffers = y .0 .0 (l .one);
-        positions = after .0 .0 (l .one);
-        framed = λ h. more .1 .1 .1 .0 .0 h;
-        allowance = λ h. says-le _ _ .read (more .1 .1 .1 .1 .0 .0 h);
-        near-all = λ h c i. says-inside c .read (more .1 .1 .1 .1 .1 .0 c i .0 h);
-        named = λ h. more .1 .1 .1 .1 .1 .1 .0 .0 h;
+        root = says-eq _ _ .read (unfold lower in y .records 0 (count .0) .0);
       }
 
-  -- the questions about a file hold of a lent table
-  yes-record : Asked t → (c : ℕ) → Is t c → Yes call given (parent-lower ∷ kind-known ∷ box-sized ∷ label-inside ∷ label-fits ∷ []) c
-  unfolding asked.holds in-file
-  yes-record a c i =
-      (λ _. lower-show t a c i)
-      and (λ _. allows-known (kind t c) _ (a .fit .family c i))
-      and (λ _. says-sized c .show (a .fit .wide c i, a .fit .deep c i))
-      and (λ _. tt)
-      and answered tt
-
-  yes : Granted → YesSteps call given sequence
-  unfolding sequence number asked.holds enough in-file
-  yes g =
-      let f = g .table .fit in
-      let count = says-counted .show (f .some-cell, f .not-too-many) in
-      answered (g .buffers)
-      and answered tt
-      and answered tt
-      and answered count
-      and answered (g .positions)
-      and answered tt
-      and yes-record (g .table)
-      and (λ c i. answered (f .family c i))
-      and (λ c i. answered (says-le _ _ .show (f .not-too-low c i)))
-      and (λ c i. answered (says-le _ _ .show (f .rows-few c i)))
-      and (g .framed and tt)
-      and ((λ h. says-le _ _ .show (g .allowance h)) and tt)
-      and (λ c i. (λ h. says-inside c .show (g .near-all h c i)) and tt)
-      and (g .named and tt)
-      and tt
-
-  grants : Lends call → (refusal call given ≡ none) ↔ Granted
-  grants l = (λ e. granted l (refusal-none call given .0 e), λ g. refusal-none call given .1 (yes g))
-
-layout-lends : Lends layout
-unfolding puts mem some
-layout-lends = record { one = tt; four = tt; six = tt; eight = tt; eleven = tt; twelve = tt; thirteen = tt }
-
-check-lends : Lends check
-unfolding puts mem some
-check-lends = record { one = tt; four = tt; six = tt; eight = tt; eleven = tt; twelve = tt; thirteen = tt }
+  fine-show : Asked t → Fine
+  unfolding asked.holds
+  fine-show a =
+      let f = a .fit in
+      record {
+        count = says-counted .show (f .some-cell, f .not-too-many);
+        records = λ c i. lower-show t a c i and allows-known (kind t c) _ (f .family c i) and says-sized c .show (f .wide c i, f .deep c i) and tt;
+        families = λ c i. f .family c i and tt;
+        levels = λ c i. says-le _ _ .show (f .not-too-low c i) and tt;
+        rows = λ c i. says-le _ _ .show (f .rows-few c i) and tt;
+      }
 
 says-roomy : (s : ℕ) → Says (all-roomy (scratch s ∷ [])) (scratch-size ≤ s)
 unfolding all-roomy roomy
 says-roomy s = that-is (both (says-le scratch-size s) (itself true)) (λ h. h .0) (λ h. (h, tt))
 
 pub layout-asks : (t : Table) (al s p : ℕ) → (refusal layout (layout-given t al s p) ≡ none) ↔ LayoutAsked t al s p
-unfolding layout-given puts mem some enough asked.holds
-layout-asks t al s p = (λ e. there (grants layout t al (scratch s ∷ []) (long p) [] nothing layout-lends .0 e), λ a. grants layout t al (scratch s ∷ []) (long p) [] nothing layout-lends .1 (back a))
+unfolding layout-given kept put with-each sequence number puts mem some enough asked.holds
+layout-asks t al s p = (λ e. there (refusal-all layout g .0 e), λ a. refusal-all layout g .1 (back a))
   where
-    there : Granted layout t al (scratch s ∷ []) (long p) [] nothing → LayoutAsked t al s p
-    there g = record { table = g .table; allowance = g .allowance tt; scratch = says-roomy s .read (g .buffers); positions = says-le _ _ .read (g .positions) }
+    g : Given
+    g = layout-given t al s p
 
-    back : LayoutAsked t al s p → Granted layout t al (scratch s ∷ []) (long p) [] nothing
-    back a =
+    there : AllSteps layout g (kept layout sequence) → LayoutAsked t al s p
+    there (room, (count, (long, (records, (families, (levels, (rows, (allowance, end)))))))) =
         record {
-          table = a .table;
-          buffers = says-roomy s .show (a .scratch);
-          positions = says-le _ _ .show (a .positions);
-          framed = λ h. absurd h;
-          allowance = λ _. a .allowance;
-          near-all = λ h. absurd h;
-          named = λ h. absurd h;
+          table = fine-read layout g refl (record { count = count; records = records; families = families; levels = levels; rows = rows });
+          allowance = says-le _ _ .read allowance;
+          scratch = says-roomy s .read room;
+          positions = says-le _ _ .read long;
         }
+
+    back : LayoutAsked t al s p → AllSteps layout g (kept layout sequence)
+    back a =
+        let f = fine-show layout g refl (a .table) in
+        says-roomy s .show (a .scratch) and f .count and says-le _ _ .show (a .positions) and f .records and f .families and f .levels and f .rows and says-le _ _ .show (a .allowance) and tt
 
 pub check-asks : (t : Table) (al : ℕ) (ps : List ℤ) → (refusal check (check-given t al ps) ≡ none) ↔ CheckAsked t al ps
-unfolding check-given puts mem some all-roomy enough asked.holds
-check-asks t al ps = (λ e. there (grants check t al [] (long (length ps)) ps nothing check-lends .0 e), λ a. grants check t al [] (long (length ps)) ps nothing check-lends .1 (back a))
+unfolding check-given kept put with-each sequence number puts mem some all-roomy enough asked.holds
+check-asks t al ps = (λ e. there (refusal-all check g .0 e), λ a. refusal-all check g .1 (back a))
   where
-    there : Granted check t al [] (long (length ps)) ps nothing → CheckAsked t al ps
-    there g = record { table = g .table; allowance = g .allowance tt; positions = says-le _ _ .read (g .positions); near-all = g .near-all tt }
+    g : Given
+    g = check-given t al ps
 
-    back : CheckAsked t al ps → Granted check t al [] (long (length ps)) ps nothing
-    back a =
+    there : AllSteps check g (kept check sequence) → CheckAsked t al ps
+    there (room, (count, (long, (records, (families, (levels, (rows, (allowance, (near-all, end))))))))) =
         record {
-          table = a .table;
-          buffers = tt;
-          positions = says-le _ _ .show (a .positions);
-          framed = λ h. absurd h;
-          allowance = λ _. a .allowance;
-          near-all = λ _. a .near-all;
-          named = λ h. absurd h;
+          table = fine-read check g refl (record { count = count; records = records; families = families; levels = levels; rows = rows });
+          allowance = says-le _ _ .read allowance;
+          positions = says-le _ _ .read long;
+          near-all = λ c i. says-inside check g refl c .read (near-all c i .0);
         }
+
+    back : CheckAsked t al ps → AllSteps check g (kept check sequence)
+    back a =
+        let f = fine-show check g refl (a .table) in
+        tt and f .count and says-le _ _ .show (a .positions) and f .records and f .families and f .levels and f .rows and says-le _ _ .show (a .allowance) and (λ c i. says-inside check g refl c .show (a .near-all c i) and tt) and tt

@@ -14,7 +14,7 @@ use Rattle.plan.specs.Lists.{mem}
 use Rattle.plan.specs.Questions as asked
 use Rattle.plan.specs.Questions.{Call, Given, Question, Step, once, each, number, puts, sequence, none, or-else, at-each, ask, ask-all, take-step, take-steps, refusal}
 use Rattle.plan.specs.laws.Questions.{first-none, first-some}
-use Rattle.plan.specs.laws.Calls.{none-first}
+use Rattle.plan.specs.laws.Kept.{none-first}
 use Rattle.plan.specs.declared.Refusal.{Refusal}
 use Rattle.least.specs.Refusals.{Put, Yes, YesSteps}
 use Rattle.least.specs.laws.Refusals.{not-zero, ask-show, all-read, all-show, step-read, step-show, refusal-none}

@@ -8,10 +8,11 @@ use lib.ListN.{length}
 use lib.Dec.{T}
 use Rattle.whole.specs.laws.Says.{itself, is-true}
 use Rattle.plan.specs.Lists.{mem, some, from}
+use Rattle.plan.specs.Plan.{Is}
 use Rattle.plan.specs.Questions as asked
 use Rattle.plan.specs.Questions.{Call, Given, Question, Step, once, each, layout, check, number, puts, sequence, none, or-else, ask, ask-all, take-step, take-steps, refusal}
 use Rattle.plan.specs.laws.Questions.{both-none, each-none, each-same}
-use Rattle.plan.specs.laws.Calls.{none-first, each-nothing}
+use Rattle.plan.specs.laws.Kept.{none-first, each-nothing, put, with-each, kept}
 use Rattle.plan.specs.declared.Refusal.{Refusal}
 use Rattle.least.specs.Refusals.{Put, Yes, YesStep, YesSteps}
 
@@ -84,3 +85,66 @@ module _ (call : Call) (g : Given) where
   pub refusal-none : (refusal call g ≡ none) ↔ YesSteps call g sequence
   unfolding refusal
   refusal-none = (λ e. steps-read sequence (ap (λ (r : Refusal). r .number) e), steps-show sequence)
+
+  -- ---- of what the call puts alone
+  abbrev pub All : List Question → ℕ → Type 0
+  All [] c = Unit {0}
+  All (q ∷ qs) c = T (asked.holds call g q c) × All qs c
+
+  abbrev pub AllSteps : List Step → Type 0
+  AllSteps [] = Unit {0}
+  AllSteps (once q ∷ ss) = T (asked.holds call g q 0) × AllSteps ss
+  AllSteps (each qs ∷ ss) = ((c : ℕ) → Is (g .table) c → All qs c) × AllSteps ss
+
+  put-read : (qs : List Question) (c : ℕ) → Yes call g qs c → All (put call qs) c
+  unfolding put
+  put-read [] c y = tt
+  put-read (q ∷ qs) c y = go (mem (number q) (puts call)) refl (put-read qs c (y .1))
+    where
+      go : (v : Bool) → mem (number q) (puts call) ≡ v → All (put call qs) c → All (cond v (q ∷ put call qs) (put call qs)) c
+      go true e r = (y .0 (rw e tt), r)
+      go false e r = r
+
+  put-show : (qs : List Question) (c : ℕ) → All (put call qs) c → Yes call g qs c
+  unfolding put
+  put-show [] c y = tt
+  put-show (q ∷ qs) c y = go (mem (number q) (puts call)) refl y (put-show qs c)
+    where
+      go : (v : Bool) → mem (number q) (puts call) ≡ v → All (cond v (q ∷ put call qs) (put call qs)) c → (All (put call qs) c → Yes call g qs c) → Yes call g (q ∷ qs) c
+      go true e y r = (λ _. y .0, r (y .1))
+      go false e y r = (λ m. absurd (rw e at m), r y)
+
+  each-read : (qs : List Question) (ss : List Step) → ((c : ℕ) → Is (g .table) c → All qs c) → AllSteps ss → AllSteps (with-each qs ss)
+  unfolding with-each
+  each-read [] ss a y = y
+  each-read (q ∷ qs) ss a y = (a, y)
+
+  each-show : (qs : List Question) (ss : List Step) → AllSteps (with-each qs ss) → ((c : ℕ) → Is (g .table) c → All qs c) × AllSteps ss
+  unfolding with-each
+  each-show [] ss y = (λ c i. tt, y)
+  each-show (q ∷ qs) ss y = (y .0, y .1)
+
+  kept-read : (ss : List Step) → YesSteps call g ss → AllSteps (kept call ss)
+  unfolding kept
+  kept-read [] y = tt
+  kept-read (once q ∷ ss) y = go (mem (number q) (puts call)) refl (kept-read ss (y .1))
+    where
+      go : (v : Bool) → mem (number q) (puts call) ≡ v → AllSteps (kept call ss) → AllSteps (cond v (once q ∷ kept call ss) (kept call ss))
+      go true e r = (y .0 .0 (rw e tt), r)
+      go false e r = r
+  kept-read (each qs ∷ ss) y = each-read (put call qs) (kept call ss) (λ c i. put-read qs c (y .0 c i)) (kept-read ss (y .1))
+
+  kept-show : (ss : List Step) → AllSteps (kept call ss) → YesSteps call g ss
+  unfolding kept
+  kept-show [] y = tt
+  kept-show (once q ∷ ss) y = go (mem (number q) (puts call)) refl y (kept-show ss)
+    where
+      go : (v : Bool) → mem (number q) (puts call) ≡ v → AllSteps (cond v (once q ∷ kept call ss) (kept call ss)) → (AllSteps (kept call ss) → YesSteps call g ss) → YesSteps call g (once q ∷ ss)
+      go true e y r = ((λ _. y .0, tt), r (y .1))
+      go false e y r = ((λ m. absurd (rw e at m), tt), r y)
+  kept-show (each qs ∷ ss) y =
+      let (a, r) = each-show (put call qs) (kept call ss) y in
+      (λ c i. put-show qs c (a c i), kept-show ss r)
+
+  pub refusal-all : (refusal call g ≡ none) ↔ AllSteps (kept call sequence)
+  refusal-all = (λ e. kept-read sequence (refusal-none .0 e), λ y. refusal-none .1 (kept-show sequence y))

@@ -18,7 +18,8 @@ use Rattle.plan.specs.Questions.{to-fill, nothing, none, asked, or-else, at-eac
 use Rattle.plan.specs.laws.Questions.{first-none, both-none, asked-yes, each-none, each-same}
 use Rattle.plan.specs.Steps.{cell-refusal, cells-refusal, children-refusal, levels-refusal, rows-refusal, tree-refusal, table-refusal, lent-refusal}
 use Rattle.plan.specs.laws.Steps.{Passed, cell-passed, sized-within}
-use Rattle.plan.specs.laws.Calls.{none-first, each-nothing, layout-refusal}
+use Rattle.plan.specs.laws.Kept.{none-first, each-nothing}
+use Rattle.plan.specs.laws.Calls.{layout-refusal}
 use Rattle.plan.specs.declared.Refusal.{Refusal}
 use Rattle.planfile.specs.Format.{trailer-of, form, entry, records-of, file-given}
 use Rattle.planfile.specs.Reading.{label-refusal, label-part}

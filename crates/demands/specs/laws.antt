@@ -1,0 +1,6 @@
+pub mod Check
+pub mod Demand
+pub mod Layout
+pub mod List
+pub mod ReadThen
+pub mod WorkedCalls
