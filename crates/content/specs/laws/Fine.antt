@@ -153,6 +153,21 @@ items-fine form letters c (r ∷ rs) p e =
     let (a, b) = both-none (row-refusal form (length letters) c r) _ e in
     (item-fine form letters c r p a, items-fine form letters (suc c) rs p b)
 
+-- records that pass in a form pass in the wide one
+row-widen : (form : Form) (room c p k w d l s : ℕ) → record-refusal form room c p k w d l s .number ≡ 0 → record-refusal Wide room c p k w d l s .number ≡ 0
+unfolding record-refusal
+row-widen form room c p k w d l s e =
+    let (a, b) = both-none (cell-refusal (widest form) c p k w d) _ e in
+    let q : Passed (widest Wide) c p k w d = unfold widest in passed-wide form c p k w d (cell-passed (widest form) c p k w d a) in
+    zero-none (cell-refusal (widest Wide) c p k w d) _ (cell-zero (widest Wide) c p k w d q) b
+
+pub rows-widen : (form : Form) (room c : ℕ) (rs : List Record) → rows-refusal form room c rs .number ≡ 0 → rows-refusal Wide room c rs .number ≡ 0
+unfolding rows-refusal
+rows-widen form room c [] e = refl
+rows-widen form room c (r ∷ rs) e =
+    let (a, b) = both-none (row-refusal form room c r) _ e in
+    zero-none (row-refusal Wide room c r) _ (row-widen form room c _ _ _ _ _ _ a) (rows-widen form room (suc c) rs b)
+
 -- ---- and what makes them pass: in the form that the items take
 Taken : Form → Item → Type 0
 Taken Old i = i .cell .width ≤ old-width

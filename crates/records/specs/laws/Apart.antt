@@ -86,8 +86,16 @@ pub apart-records : (t : List Record) → length t ≤ most-cells → records-in
 unfolding records-in lettering columns clipped
 apart-records t h =
     rw (le-ltb most-cells (length t) h) (rows-same _ 0 t (λ c l.
-    rw (zero-add, column-at (λ c. lent-at t c .parent) _ c h l, column-at (λ c. lent-at t c .kind) _ c h l, column-at (λ c. lent-at t c .width) _ c h l, column-at (λ c. lent-at t c .depth) _ c h l, column-at (λ c. lent-at t c .rank) _ c h l,
-    column-at (λ c. lent-at t c .«label_length») _ c h l, column-at (λ c. lent-at t c .«label_start») _ c h l)))
+    rw (
+      zero-add,
+      column-at (λ c. lent-at t c .parent) _ c h l,
+      column-at (λ c. lent-at t c .kind) _ c h l,
+      column-at (λ c. lent-at t c .width) _ c h l,
+      column-at (λ c. lent-at t c .depth) _ c h l,
+      column-at (λ c. lent-at t c .rank) _ c h l,
+      column-at (λ c. lent-at t c .«label_length») _ c h l,
+      column-at (λ c. lent-at t c .«label_start») _ c h l,
+    )))
 
 pub records-length : (l : Lettered) → length (records-in l) ≡ l .columns .count
 unfolding records-in
