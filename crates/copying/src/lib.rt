@@ -239,11 +239,7 @@ fn narrow(width: u16, rank: u8) -> bool
 }
 
 // The form that a plan takes.
-fn form_for<'a>(
-    widths: &'a [u16; MOST_CELLS],
-    ranks: &'a [u8; MOST_CELLS],
-    n: usize,
-) -> Form
+fn form_for<'a>(widths: &'a [u16; MOST_CELLS], ranks: &'a [u8; MOST_CELLS], n: usize) -> Form
     requires { ⌜ n ≤ most-cells ⌝ }
     ensures { λ r. ⌜ r ≡ form-to (now (widths .entry)) (now (ranks .entry)) n ⌝ }
 {

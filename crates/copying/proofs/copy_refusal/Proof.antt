@@ -65,7 +65,6 @@ returns-6 : tie.Need-returns-6
 unfolding lettered-steps
 returns-6 c = goes-on _ _ _ _ (c .before .before .before .before .before .before .before .before .before .before .before .before .before .before .before .before .before .before .before .before .before .before .before .before .before .before .before .before .asked .ensures) (c .before .before .before .before .before .before .before .before .before .before .before .before .before .before .before .before .before .before .before .before .before .before .before .before .before .before .if1 .left) (goes-on _ _ _ _ (c .before .before .before .before .before .before .before .before .before .before .before .before .before .before .before .before .before .before .before .before .before .before .before .before .asked2 .ensures ∙ ap (λ x. asked 4 x 0) (c .before .before .before .before .before .before .before .before .before .before .before .before .before .before .before .before .before .before .before .before .before .before .before .before .before .counted .ensures)) (c .before .before .before .before .before .before .before .before .before .before .before .before .before .before .before .before .before .before .before .before .before .before .if2 .left) (goes-on _ _ _ _ (c .before .before .before .before .before .before .before .before .before .before .before .before .before .before .before .before .before .before .before .before .asked3 .ensures ∙ ap (λ x. asked 5 x 0) (c .before .before .before .before .before .before .before .before .before .before .before .before .before .before .before .before .before .before .before .before .before .letters-printable .ensures)) (c .before .before .before .before .before .before .before .before .before .before .before .before .before .before .before .before .before .before .if3 .left) (goes-on _ _ _ _ (c .before .before .before .before .before .before .before .before .before .before .records-refusal .ensures) (c .before .before .before .before .before .before .before .before .if4 .left) (goes-on _ _ _ _ (c .before .before .before .tree-refusal .ensures _ _) (c .before .if5 .left) (c .allowance-refusal .ensures)))))
 
-
 pub copy-refusal-spec : {M : Type 1} → statement M
 copy-refusal-spec =
     tie.close

@@ -47,7 +47,6 @@ returns-2 c =
     let e : c .before .before .loop .c ≡ c .before .before .before .args .n = omega arith in
     form-ends _ _ _ _ _ _ (c .before .before .loop .inv .1) e (rw (c .if1 .left) refl)
 
-
 pub form-for-spec : {M : Type 1} → statement M
 form-for-spec =
     tie.close

@@ -29,7 +29,6 @@ same-length-2 c = search needs
 returns-2 : tie.Need-returns-2
 returns-2 c = rw (c .before .before .before .before .enum-told2 .given .1, record-wide _) (c .before .before .put-wide .ensures)
 
-
 pub put-record-spec : {M : Type 1} → statement M
 put-record-spec =
     tie.close

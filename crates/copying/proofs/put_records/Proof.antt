@@ -65,7 +65,6 @@ returns c =
     let e : c .before .loop .c ≡ c .before .before .before .args .n = omega arith in
     rowed-all _ _ _ _ _ _ _ _ _ _ _ _ _ _ (c .before .loop .inv .1) e
 
-
 pub put-records-spec : {M : Type 1} → statement M
 put-records-spec =
     tie.close

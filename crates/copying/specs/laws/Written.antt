@@ -175,15 +175,21 @@ module _ (l : Lettered) (letters : List ℕ) where
         let k : length (map item (from 0 n)) ≡ n = length-from item 0 n in
         rw (items-of, k, labels-are n, form-is, records-are form n (omega arith)) (ap (λ (x : List ℕ). labels-to ls ss letters n ++ (records-to form ps ks ws ds qs ls n ++ x)) (trailer-long _))
 
-    pub rows-ready : Rows (form-to ws qs n) ws ls n
-    rows-ready = record { few = h .few; held = λ c k. form-holds ws qs n c k; short = h .short }
+    rows-hold : Rows form ws ls n
+    rows-hold = record { few = h .few; held = λ c k. form-holds ws qs n c k; short = h .short }
+
+    -- the form as the code has found it
+    pub rows-ready : (f : Form) → f ≡ form-to ws qs n → Rows f ws ls n
+    rows-ready f e = rw e rows-hold
 
     -- three parts put one after the other
-    pub parts-put : (al : ℕ) (a b d e : List ℕ) (i j k m : ℕ) → Put a 0 (labels-to ls ss letters n) b i → Put b i (records-to (form-to ws qs n) ps ks ws ds qs ls n) d j → m ≡ mark-of (form-to ws qs n)
+    pub parts-put : (f : Form) → f ≡ form-to ws qs n → (al : ℕ) (a b d e : List ℕ) (i j k m : ℕ) → Put a 0 (labels-to ls ss letters n) b i → Put b i (records-to f ps ks ws ds qs ls n) d j → m ≡ mark-of f
         → Put d j (two i (two n (two al (two m [])))) e k → Put a 0 (copy (records-in l) letters al) e k
-    parts-put al a b d e i j k m p q f s =
+    parts-put f w al a b d e i j k m p q g s =
         let z : i ≡ length (labels-to ls ss letters n) = omega (arith, p .place) in
-        rw (copy-is al) (then p (then q (rw (f, z) at s)))
+        let v : m ≡ mark-of form = g ∙ ap mark-of w in
+        let u : Put b i (records-to form ps ks ws ds qs ls n) d j = rw w at q in
+        rw (copy-is al) (then p (then u (rw (v, z) at s)))
 
     labels-low : length (labels-to ls ss letters n) ≤ most-label * n
     labels-low = let a = sum-long n (omega arith) in let b = sum-low n (omega arith) in omega (arith, a, b)
@@ -201,8 +207,11 @@ module _ (l : Lettered) (letters : List ℕ) where
         entries-count : length (entries 0 (map item (from 0 n))) ≡ n
         entries-count = entries-length 0 (map item (from 0 n)) ∙ length-from item 0 n
 
-    pub trailer-room : (a b d : List ℕ) (i j : ℕ) → Put a 0 (labels-to ls ss letters n) b i → Put b i (records-to (form-to ws qs n) ps ks ws ds qs ls n) d j → most-file ≤ length a → j + 8 ≤ length d
-    trailer-room a b d i j p q k = let m = labels-low in let r = records-long in omega (arith, p .place, p .as-long, q .place, q .as-long, h .few)
+    pub trailer-room : (f : Form) → f ≡ form-to ws qs n → (a b d : List ℕ) (i j : ℕ) → Put a 0 (labels-to ls ss letters n) b i → Put b i (records-to f ps ks ws ds qs ls n) d j → most-file ≤ length a → j + 8 ≤ length d
+    trailer-room f w a b d i j p q k =
+        let m = labels-low in
+        let r : length (records-to f ps ks ws ds qs ls n) ≤ 10 * n = rw w records-long in
+        omega (arith, p .place, p .as-long, q .place, q .as-long, h .few)
 
   -- ---- the questions
   table-is : cells-of (records-in l) ≡ table-of (l .columns)
