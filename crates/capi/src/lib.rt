@@ -1,5 +1,6 @@
 // The calls for programs in C and Rust: include/kuzpalen.h documents each. A lent buffer is a pointer and a length; an answer is a struct of numbers.
 use answers::CheckAnswer;
+use answers::CopyAnswer;
 use answers::EndsAnswer;
 use answers::FrameAnswer;
 use answers::LabelAnswer;
@@ -8,6 +9,7 @@ use answers::LayoutAnswer;
 use answers::ListAnswer;
 use answers::ReadAnswer;
 use answers::told_check;
+use answers::told_copy;
 use answers::told_ends;
 use answers::told_frame;
 use answers::told_layout;
@@ -19,7 +21,7 @@ ghost use Rattle.plan.specs.Records.{«cells-of»};
 ghost use Rattle.planfile.specs.Reading.{«label-refusal», «label-part»};
 ghost use Rattle.checker.specs.Checked.{«checked-of»};
 ghost use Rattle.ends.specs.Ended.{«ended-of»};
-ghost use Rattle.answers.specs.Answers.{«check-answer», «ends-answer», Filling, Laying, ListFilling, Framing};
+ghost use Rattle.answers.specs.Answers.{«check-answer», «ends-answer», Filling, Laying, ListFilling, Framing, CopyFilling};
 
 #[no_mangle]
 pub extern "C" fn kuzpalen_read(file: &[u8], table: &mut [Record]) -> ReadAnswer
@@ -95,4 +97,17 @@ pub extern "C" fn kuzpalen_frame(table: &[Record], squares: u32, scratch: &mut [
 {
     let answer = engine::frame(table, squares, scratch);
     told_frame(answer)
+}
+
+#[no_mangle]
+pub extern "C" fn kuzpalen_copy(
+    table: &[Record],
+    labels: &[u8],
+    allowance: u32,
+    out: &mut [u8],
+) -> CopyAnswer
+    ensures { λ r. ⌜ CopyFilling (now (table .entry)) (now (labels .entry)) allowance (now (out .entry)) (now (out .exit)) r ⌝ }
+{
+    let answer = engine::copy(table, labels, allowance, out);
+    told_copy(answer)
 }
