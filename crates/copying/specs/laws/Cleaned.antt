@@ -1,27 +1,27 @@
 -- The clean copy of a plan file, as the code comes to it. Assumes nothing.
 use mathlib.Core.Path.{_≡_, refl, sym, ap, _∙_}
 use mathlib.Core.List.{List, [], _∷_, _++_, map}
-use Prim.Native.Nat.{ℕ, zero, suc, _+_, _*_, _≤_, _<_}
+use Prim.Native.Nat.{ℕ, zero, suc, _+_, _≤_, _<_}
 use native.Mathlib.Omega.{arith}
 use native.Mathlib.Decide.{ℕ-discrete}
 use borrow.Author.Tests.{eq-eqb, ne-eqb}
-use lib.ListN.{length, take, drop, getD}
+use lib.ListN.{length, take, drop}
 use Rattle.plan.specs.Limits.{most-cells, most-file, trailer-size}
 use Rattle.plan.specs.Lists.{from}
-use Rattle.plan.specs.Questions.{to-fill, nothing, none, read, refusal, asked}
+use Rattle.plan.specs.Questions.{to-fill, nothing, none, read, refusal}
 use Rattle.plan.specs.laws.Questions.{both-none}
 use Rattle.plan.specs.declared.Record.{Record}
 use Rattle.plan.specs.declared.Lettered.{Lettered}
 use Rattle.plan.specs.declared.Refusal.{Refusal}
 use Rattle.planfile.specs.declared.Reading.{Reading}
-use Rattle.planfile.specs.Format.{trailer-of, form, entry, records-of, file-given}
+use Rattle.planfile.specs.Format.{trailer-of, entry, records-of, file-given}
 use Rattle.planfile.specs.Reading.{columns-of, reading-of}
 use Rattle.planfile.specs.FileSteps.{header-refusal, body-refusal, file-refusal}
 use Rattle.planfile.specs.laws.File.{read-refusal}
 use Rattle.planfile.specs.laws.Examined.{Headed, header-read, column-at}
 use Rattle.records.specs.Apart.{row-at, records-in}
-use Rattle.content.specs.Content.{content, letters-of, file-content}
-use Rattle.content.specs.Clean.{clean, copy, file-copy, copy-refusal}
+use Rattle.content.specs.Content.{letters-of, file-content}
+use Rattle.content.specs.Clean.{copy, file-copy, copy-refusal}
 use Rattle.content.specs.Promised.{read-copied}
 use Rattle.content.specs.laws.Promised.{copy-passed, copy-small}
 use Rattle.copying.specs.declared.Copied.{Copied}
