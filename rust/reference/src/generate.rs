@@ -152,6 +152,29 @@ pub fn labels(rng: &mut Rng, cells: &mut [Cell]) -> Vec<u8> {
     bytes
 }
 
+/// The same label texts in other label bytes: in any order, shared where one is a part of what is there already, with bytes that no label uses.
+pub fn rearrange(rng: &mut Rng, letters: &[u8], cells: &mut [Cell]) -> Vec<u8> {
+    let mut bytes: Vec<u8> = (0..rng.index(9)).map(|_| rng.between(32, 126) as u8).collect();
+    let mut order: Vec<usize> = (0..cells.len()).collect();
+    for i in (1..order.len()).rev() {
+        order.swap(i, rng.index(i + 1));
+    }
+    for i in order {
+        let c = &mut cells[i];
+        let text = &letters[c.label_start as usize..][..c.label_len as usize];
+        let found = if text.is_empty() { Some(rng.index(bytes.len() + 1)) } else { bytes.windows(text.len()).position(|w| w == text) };
+        c.label_start = match found {
+            Some(at) if rng.once_in(2) || text.is_empty() => at as u16,
+            _ => {
+                bytes.extend((0..rng.index(3)).map(|_| b'~'));
+                bytes.extend(text);
+                (bytes.len() - text.len()) as u16
+            }
+        };
+    }
+    bytes
+}
+
 /// Makes a table such as a form of the file can hold: its widths, and in the old form no ranks.
 pub fn fit(form: Form, cells: &mut [Cell]) {
     for c in cells {

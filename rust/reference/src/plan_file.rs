@@ -74,6 +74,25 @@ fn record(file: &[u8], at: usize, form: Form) -> Cell {
     }
 }
 
+/// Question 5.
+pub fn ask_letters(letters: &[u8]) -> Result<(), Refusal> {
+    if letters.iter().any(|b| !(32..=126).contains(b)) {
+        return refuse(5, 0);
+    }
+    Ok(())
+}
+
+/// Questions 9 and 10 of record number i, with so many label bytes.
+pub fn ask_label(i: usize, c: &Cell, letters: usize) -> Result<(), Refusal> {
+    if c.label_len > 40 || c.label_start as usize + c.label_len as usize > letters {
+        return refuse(9, i);
+    }
+    if (c.width as u32) < c.label_len as u32 + border(c.kind).unwrap_or(0) {
+        return refuse(10, i);
+    }
+    Ok(())
+}
+
 /// Questions 2 to 14 of a file, in their order.
 fn parse(file: &[u8]) -> Result<Parsed, Refusal> {
     let len = file.len();
@@ -89,19 +108,12 @@ fn parse(file: &[u8]) -> Result<Parsed, Refusal> {
     if n < 1 || n > MAX_CELLS || begin + form.size() * n + 8 != len {
         return refuse(4, 0);
     }
-    if file[..begin].iter().any(|b| !(32..=126).contains(b)) {
-        return refuse(5, 0);
-    }
+    ask_letters(&file[..begin])?;
     let mut cells = Vec::new();
     for i in 0..n {
         let c = record(file, begin + form.size() * i, form);
         ask_record(i, &c, form.max_width())?;
-        if c.label_len > 40 || c.label_start as usize + c.label_len as usize > begin {
-            return refuse(9, i);
-        }
-        if (c.width as u32) < c.label_len as u32 + border(c.kind).unwrap_or(0) {
-            return refuse(10, i);
-        }
+        ask_label(i, &c, begin)?;
         cells.push(c);
     }
     ask_tree(&cells)?;
