@@ -11,18 +11,18 @@ use Rattle.content.specs.Content.{text-of, item-of, content, letters-of,
 use Rattle.content.specs.Clean.{narrow, all-narrow, form-for, mark-of, labels, record-of, entries, record-bytes, records-bytes, trailer-bytes, clean-end, clean, file-copy}
 
 -- a run and two steps: the bytes of the labels; of each cell the label's length and start; the place where the records begin
-pub plan : (letters : List ℕ) (l a m b n c begin : ℕ) → List ℕ
+unfoldable pub plan : (letters : List ℕ) (l a m b n c begin : ℕ) → List ℕ
 plan letters l a m b n c begin =
     letters
     ++ (255 ∷ 255 ∷ 2 ∷ 4 ∷ 1 ∷ l ∷ a ∷ 0 ∷ 0 ∷ 0 ∷ 1 ∷ 3 ∷ 1 ∷ m ∷ b ∷ 0 ∷ 0 ∷ 0 ∷ 1 ∷ 5 ∷ 1 ∷ n ∷ c ∷ 0 ∷ begin ∷ 0 ∷ 3 ∷ 0 ∷ 0 ∷ 0 ∷ 0x53 ∷ 0x54 ∷ [])
 
 -- the same of the wide form, the root of a width of two bytes and a rank
-pub wide : (low high rank : ℕ) → List ℕ
+unfoldable pub wide : (low high rank : ℕ) → List ℕ
 wide low high q =
     255 ∷ 255 ∷ 1 ∷ 1 ∷ low ∷ high ∷ 0 ∷ q ∷ 0 ∷ 0 ∷ 0 ∷ 0 ∷ 1 ∷ 0 ∷ 0 ∷ 0 ∷ 0x53 ∷ 0x55 ∷ []
 
 -- document 01's 38 bytes: UpARun
-pub printed : List ℕ
+unfoldable pub printed : List ℕ
 printed = plan (85 ∷ 112 ∷ 65 ∷ 82 ∷ 117 ∷ 110 ∷ []) 2 0 1 2 3 3 6
 
 pub printed-is-clean : file-copy printed ≡ printed
