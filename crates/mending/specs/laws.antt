@@ -1,0 +1,4 @@
+pub mod Boxes
+pub mod Bytes
+pub mod Mended
+pub mod Promised
