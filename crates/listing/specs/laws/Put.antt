@@ -45,6 +45,10 @@ module _ {a b : List ℕ} (s : List ℕ) {i n : ℕ} (p : Put a i (take n s) b (
   pub put-all : length s ≤ n → Put a i s b (i + n)
   put-all h = rw (take-all n s h) at p
 
+-- a text of which all is written
+pub put-done : {a b : List ℕ} (s : List ℕ) {at i n k : ℕ} → Put a at (take i s) b k → i ≤ n → n ≤ i → Put a at (take n s) b k
+put-done s {i = i} {n = n} p g h = let e : i ≡ n = omega arith in rw e at p
+
 -- the digits of a number, the last one last
 pub decimal-digit : {a b : List ℕ} {i k n d : ℕ} → n < 10 → d ≡ 48 + n → Put a i (d ∷ []) b k → Put a i (decimal n) b k
 decimal-digit {n = n} l e p = rw (decimal-one n l, ← e) p
