@@ -1,7 +1,7 @@
 // The plan file: Read, Label and Label's refusal.
-mod cursor;
+pub mod cursor;
 pub mod questions;
-mod table;
+pub mod table;
 
 use crate::cursor::Cursor;
 use crate::questions::examined;
