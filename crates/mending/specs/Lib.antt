@@ -1,5 +1,6 @@
-pub mod Fields
 pub mod Boxes
 pub mod Mended
 pub mod Promised
+pub mod Mending
+pub mod Steps
 pub mod laws

@@ -13,17 +13,20 @@ use Rattle.plan.specs.Questions.{to-fill, nothing, read, refusal}
 use Rattle.plan.specs.declared.Record.{Record}
 use Rattle.plan.specs.declared.Refusal.{Refusal}
 use Rattle.plan.specs.declared.forms.Form.{Form}
-use Rattle.plan.specs.declared.forms.Form.the-variants.{Old, Wide}
+use Rattle.planfile.specs.Fields.{Place, nowhere, byte, two, set-number, width-place, depth-place}
 use Rattle.planfile.specs.Format.{trailer-of, form, place, entry, file-given}
-use Rattle.mending.specs.Fields.{put-width, put-depth}
 use Rattle.mending.specs.Boxes.{least-width, narrow, flat, new-width, new-depth, changed}
 
 -- ---- the bytes
--- one record, r, whose bytes begin at a place: "raises each such width to label length plus border and each depth 0 to 1"
+-- a record r whose bytes begin at a place: "raises each such width to label length plus border and each depth 0 to 1"
+unfoldable pub raise-width : Form → (at : ℕ) → Record → List ℕ → List ℕ
+raise-width form at r b = cond (narrow r) (set-number (width-place form) b at (least-width (r .kind) (r .«label_length»))) b
+
+unfoldable pub raise-depth : Form → (at : ℕ) → Record → List ℕ → List ℕ
+raise-depth form at r b = cond (flat r) (set-number (depth-place form) b at 1) b
+
 unfoldable pub mend-record : Form → (at : ℕ) → Record → List ℕ → List ℕ
-mend-record form at r b =
-    let w = cond (narrow r) (put-width form at (least-width (r .kind) (r .«label_length»)) b) b in
-    cond (flat r) (put-depth form at 1 w) w
+mend-record form at r b = raise-depth form at r (raise-width form at r b)
 
 -- the first n records from begin on, e of them
 unfoldable pub mend-records : Form → (begin : ℕ) → (ℕ → Record) → List ℕ → ℕ → List ℕ
@@ -62,10 +65,16 @@ unfoldable pub altered : List ℕ → List Alteration
 altered f = map (λ c. alteration c (entry f c)) (altered-cells f)
 
 -- ---- another file g that "differs only in width and depth bytes" from f
--- byte i is no width or depth byte of the record at a place
-abbrev pub Off : Form → (at i : ℕ) → Type 0
-Off Old at i = (i ≢ at + 3) × (i ≢ at + 4)
-Off Wide at i = (i ≢ at + 3) × (i ≢ at + 4) × (i ≢ at + 5)
+-- byte i is no byte of a number at a place, from `at` on
+abbrev pub Beside : Place → (at i : ℕ) → Type 0
+Beside nowhere at i = ⊤
+Beside (byte k) at i = i ≢ at + k
+Beside (two k) at i = (i ≢ at + k) × (i ≢ at + k + 1)
+
+-- nor a width or depth byte of the record at `at`
+pub record Off (form : Form) (at i : ℕ) : Type 0 where
+  pub width : Beside (width-place form) at i
+  pub depth : Beside (depth-place form) at i
 
 pub record OnlyBoxes (f g : List ℕ) : Type 0 where
   pub as-long : length g ≡ length f

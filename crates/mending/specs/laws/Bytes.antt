@@ -12,33 +12,52 @@ use Rattle.plan.specs.Forms.{record-size}
 use Rattle.plan.specs.declared.Record.{Record}
 use Rattle.plan.specs.declared.forms.Form.{Form}
 use Rattle.plan.specs.declared.forms.Form.the-variants.{Old, Wide}
-use Rattle.planfile.specs.Format.{pair, record-at}
-use Rattle.mending.specs.Fields.{put-width, put-depth}
+use Rattle.planfile.specs.Fields.{Place, nowhere, byte, two, pair, set-pair, number-at, set-number, parent-place, kind-place, width-place, depth-place, length-place, rank-place, start-place}
+use Rattle.planfile.specs.Format.{record-at}
 use Rattle.mending.specs.Boxes.{least-width, narrow, flat, new-width, new-depth, changed}
-use Rattle.mending.specs.Mended.{mend-record, mend-records, Off}
+use Rattle.mending.specs.Mended.{raise-width, raise-depth, mend-record, mend-records, Beside, Off}
 use Rattle.mending.specs.laws.Boxes.{Sound, mended-record}
 
--- ---- one store of a width or of a depth
-pub width-length : (form : Form) (at w : ℕ) (b : List ℕ) → length (put-width form at w b) ≡ length b
-unfolding put-width
-width-length Old at w b = length-set b (at + 3) w
-width-length Wide at w b = simp length-set
+-- ---- one number set
+set-length : (p : Place) (b : List ℕ) (at v : ℕ) → length (set-number p b at v) ≡ length b
+unfolding set-number set-pair
+set-length nowhere b at v = refl
+set-length (byte k) b at v = length-set b (at + k) v
+set-length (two k) b at v = simp length-set
 
-pub depth-length : (form : Form) (at d : ℕ) (b : List ℕ) → length (put-depth form at d b) ≡ length b
-unfolding put-depth
-depth-length Old at d b = length-set b (at + 4) d
-depth-length Wide at d b = length-set b (at + 3) d
+set-beside : (p : Place) (b : List ℕ) (at v i : ℕ) → Beside p at i → getD (set-number p b at v) i 0 ≡ getD b i 0
+unfolding set-number set-pair
+set-beside nowhere b at v i h = refl
+set-beside (byte k) b at v i h = getD-set-other b (at + k) i v 0 h
+set-beside (two k) b at v i h = getD-set-other (set b (at + k) (v % 256)) (at + k + 1) i (v / 256) 0 (h .1) ∙ getD-set-other b (at + k) i (v % 256) 0 (h .0)
 
-width-off : (form : Form) (at w i : ℕ) (b : List ℕ) → Off form at i → getD (put-width form at w b) i 0 ≡ getD b i 0
-unfolding put-width
-width-off Old at w i b o = getD-set-other b (at + 3) i w 0 (o .0)
-width-off Wide at w i b o =
-    getD-set-other (set b (at + 4) (w % 256)) (at + 4 + 1) i (w / 256) 0 (omega (arith, o .2)) ∙ getD-set-other b (at + 4) i (w % 256) 0 (o .1)
+-- bytes up to its end; read back, and another number read
+unfoldable Ends : Place → ℕ
+Ends nowhere = 0
+Ends (byte k) = k + 1
+Ends (two k) = k + 2
 
-depth-off : (form : Form) (at d i : ℕ) (b : List ℕ) → Off form at i → getD (put-depth form at d b) i 0 ≡ getD b i 0
-unfolding put-depth
-depth-off Old at d i b o = getD-set-other b (at + 4) i d 0 (o .1)
-depth-off Wide at d i b o = getD-set-other b (at + 3) i d 0 (o .0)
+set-read : (p : Place) (b : List ℕ) (at v : ℕ) → 1 ≤ Ends p → at + Ends p ≤ length b → number-at p (set-number p b at v) at ≡ v
+unfolding set-number set-pair number-at pair Ends
+set-read nowhere b at v s h = absurd (omega arith)
+set-read (byte k) b at v s h = getD-set-same b (at + k) v 0 (omega arith)
+set-read (two k) b at v s h =
+    let low = set b (at + k) (v % 256) in
+    let a : getD (set low (at + k + 1) (v / 256)) (at + k) 0 ≡ v % 256 = getD-set-other low (at + k + 1) (at + k) (v / 256) 0 (omega arith) ∙ getD-set-same b (at + k) (v % 256) 0 (omega arith) in
+    let c : getD (set low (at + k + 1) (v / 256)) (at + k + 1) 0 ≡ v / 256 = getD-set-same low (at + k + 1) (v / 256) 0 (simp length-set (omega arith)) in
+    rw (a, c) (omega arith)
+
+-- a number none of whose bytes is another's
+abbrev Clear : Place → Place → Type 0
+Clear p nowhere = ⊤
+Clear p (byte k) = (at : ℕ) → Beside p at (at + k)
+Clear p (two k) = (at : ℕ) → Beside p at (at + k) × Beside p at (at + k + 1)
+
+set-clear : (p q : Place) (b : List ℕ) (at v : ℕ) → Clear p q → number-at q (set-number p b at v) at ≡ number-at q b at
+unfolding number-at pair
+set-clear p nowhere b at v h = refl
+set-clear p (byte k) b at v h = set-beside p b at v (at + k) (h at)
+set-clear p (two k) b at v h = rw (set-beside p b at v (at + k) (h at .0), set-beside p b at v (at + k + 1) (h at .1)) refl
 
 -- the record with another width, and with another depth
 abbrev widened : Record → ℕ → Record
@@ -47,120 +66,128 @@ widened r w = record { parent = r .parent; kind = r .kind; width = w; depth = r 
 abbrev deepened : Record → ℕ → Record
 deepened r d = record { parent = r .parent; kind = r .kind; width = r .width; depth = d; rank = r .rank; «label_length» = r .«label_length»; «label_start» = r .«label_start» }
 
-width-read : (form : Form) (at w : ℕ) (b : List ℕ) → at + record-size form ≤ length b → record-at form (put-width form at w b) at ≡ widened (record-at form b at) w
-unfolding put-width record-at pair record-size
+width-read : (form : Form) (at w : ℕ) (b : List ℕ) → at + record-size form ≤ length b → record-at form (set-number (width-place form) b at w) at ≡ widened (record-at form b at) w
+unfolding record-at record-size parent-place kind-place width-place depth-place length-place rank-place start-place Ends
 width-read Old at w b h =
-    let s = getD-set-same b (at + 3) w 0 (omega arith) in
-    let o0 = getD-set-other b (at + 3) at w 0 (omega arith) in
-    let o1 = getD-set-other b (at + 3) (at + 1) w 0 (omega arith) in
-    let o2 = getD-set-other b (at + 3) (at + 2) w 0 (omega arith) in
-    let o4 = getD-set-other b (at + 3) (at + 4) w 0 (omega arith) in
-    let o5 = getD-set-other b (at + 3) (at + 5) w 0 (omega arith) in
-    let o6 = getD-set-other b (at + 3) (at + 6) w 0 (omega arith) in
-    let o7 = getD-set-other b (at + 3) (at + 6 + 1) w 0 (omega arith) in
-    rw (s, o0, o1, o2, o4, o5, o6, o7) refl
+    let p : Place = byte 3 in
+    rw (set-read p b at w (omega arith) (omega arith), set-clear p (two 0) b at w (λ at. (omega arith, omega arith)), set-clear p (byte 2) b at w (λ at. omega arith), set-clear p (byte 4) b at w (λ at. omega arith), set-clear p nowhere b at w tt, set-clear p (byte 5) b at w (λ at. omega arith), set-clear p (two 6) b at w (λ at. (omega arith, omega arith))) refl
 width-read Wide at w b h =
-    let low = set b (at + 4) (w % 256) in
-    let both : (i : ℕ) → i ≢ at + 4 → i ≢ at + 4 + 1 → getD (set low (at + 4 + 1) (w / 256)) i 0 ≡ getD b i 0 = λ i p q. getD-set-other low (at + 4 + 1) i (w / 256) 0 q ∙ getD-set-other b (at + 4) i (w % 256) 0 p in
-    let s4 : getD (set low (at + 4 + 1) (w / 256)) (at + 4) 0 ≡ w % 256 = getD-set-other low (at + 4 + 1) (at + 4) (w / 256) 0 (omega arith) ∙ getD-set-same b (at + 4) (w % 256) 0 (omega arith) in
-    let s5 : getD (set low (at + 4 + 1) (w / 256)) (at + 4 + 1) 0 ≡ w / 256 = getD-set-same low (at + 4 + 1) (w / 256) 0 (simp length-set (omega arith)) in
-    let whole : w % 256 + 256 * (w / 256) ≡ w = omega arith in
-    rw (s4, s5, whole, both at (omega arith) (omega arith), both (at + 1) (omega arith) (omega arith), both (at + 2) (omega arith) (omega arith), both (at + 3) (omega arith) (omega arith), both (at + 6) (omega arith) (omega arith), both (at + 7) (omega arith) (omega arith), both (at + 8) (omega arith) (omega arith), both (at + 8 + 1) (omega arith) (omega arith)) refl
+    let p : Place = two 4 in
+    rw (set-read p b at w (omega arith) (omega arith), set-clear p (two 0) b at w (λ at. ((omega arith, omega arith), (omega arith, omega arith))), set-clear p (byte 2) b at w (λ at. (omega arith, omega arith)), set-clear p (byte 3) b at w (λ at. (omega arith, omega arith)), set-clear p (byte 7) b at w (λ at. (omega arith, omega arith)), set-clear p (byte 6) b at w (λ at. (omega arith, omega arith)), set-clear p (two 8) b at w (λ at. ((omega arith, omega arith), (omega arith, omega arith)))) refl
 
-depth-read : (form : Form) (at d : ℕ) (b : List ℕ) → at + record-size form ≤ length b → record-at form (put-depth form at d b) at ≡ deepened (record-at form b at) d
-unfolding put-depth record-at pair record-size
+depth-read : (form : Form) (at d : ℕ) (b : List ℕ) → at + record-size form ≤ length b → record-at form (set-number (depth-place form) b at d) at ≡ deepened (record-at form b at) d
+unfolding record-at record-size parent-place kind-place width-place depth-place length-place rank-place start-place Ends
 depth-read Old at d b h =
-    let other : (i : ℕ) → i ≢ at + 4 → getD (set b (at + 4) d) i 0 ≡ getD b i 0 = λ i p. getD-set-other b (at + 4) i d 0 p in
-    rw (getD-set-same b (at + 4) d 0 (omega arith), other at (omega arith), other (at + 1) (omega arith), other (at + 2) (omega arith), other (at + 3) (omega arith), other (at + 5) (omega arith), other (at + 6) (omega arith), other (at + 6 + 1) (omega arith)) refl
+    let p : Place = byte 4 in
+    rw (set-read p b at d (omega arith) (omega arith), set-clear p (two 0) b at d (λ at. (omega arith, omega arith)), set-clear p (byte 2) b at d (λ at. omega arith), set-clear p (byte 3) b at d (λ at. omega arith), set-clear p nowhere b at d tt, set-clear p (byte 5) b at d (λ at. omega arith), set-clear p (two 6) b at d (λ at. (omega arith, omega arith))) refl
 depth-read Wide at d b h =
-    let other : (i : ℕ) → i ≢ at + 3 → getD (set b (at + 3) d) i 0 ≡ getD b i 0 = λ i p. getD-set-other b (at + 3) i d 0 p in
-    rw (getD-set-same b (at + 3) d 0 (omega arith), other at (omega arith), other (at + 1) (omega arith), other (at + 2) (omega arith), other (at + 4) (omega arith), other (at + 4 + 1) (omega arith), other (at + 6) (omega arith), other (at + 7) (omega arith), other (at + 8) (omega arith), other (at + 8 + 1) (omega arith)) refl
+    let p : Place = byte 3 in
+    rw (set-read p b at d (omega arith) (omega arith), set-clear p (two 0) b at d (λ at. (omega arith, omega arith)), set-clear p (byte 2) b at d (λ at. omega arith), set-clear p (two 4) b at d (λ at. (omega arith, omega arith)), set-clear p (byte 7) b at d (λ at. omega arith), set-clear p (byte 6) b at d (λ at. omega arith), set-clear p (two 8) b at d (λ at. (omega arith, omega arith))) refl
 
 -- ---- one record mended
 module _ (form : Form) (at : ℕ) (r : Record) (b : List ℕ) where
-  raised : Bool → List ℕ
-  raised n = cond n (put-width form at (least-width (r .kind) (r .«label_length»)) b) b
-
-  raised-length : (n : Bool) → length (raised n) ≡ length b
-  unfolding raised
-  raised-length true = width-length form at _ b
-  raised-length false = refl
-
-  pub mend-length : length (mend-record form at r b) ≡ length b
-  unfolding mend-record raised
-  mend-length = go (flat r)
+  raise-width-length : length (raise-width form at r b) ≡ length b
+  unfolding raise-width
+  raise-width-length = go (narrow r)
     where
-      go : (d : Bool) → length (cond d (put-depth form at 1 (raised (narrow r))) (raised (narrow r))) ≡ length b
-      go true = depth-length form at 1 (raised (narrow r)) ∙ raised-length (narrow r)
-      go false = raised-length (narrow r)
+      go : (n : Bool) → length (cond n (set-number (width-place form) b at (least-width (r .kind) (r .«label_length»))) b) ≡ length b
+      go true = set-length (width-place form) b at _
+      go false = refl
 
-  raised-off : (n : Bool) (i : ℕ) → Off form at i → getD (raised n) i 0 ≡ getD b i 0
-  unfolding raised
-  raised-off true i o = width-off form at _ i b o
-  raised-off false i o = refl
+  raise-depth-length : length (raise-depth form at r b) ≡ length b
+  unfolding raise-depth
+  raise-depth-length = go (flat r)
+    where
+      go : (n : Bool) → length (cond n (set-number (depth-place form) b at 1) b) ≡ length b
+      go true = set-length (depth-place form) b at 1
+      go false = refl
+
+  raise-width-off : (i : ℕ) → Off form at i → getD (raise-width form at r b) i 0 ≡ getD b i 0
+  unfolding raise-width
+  raise-width-off i o = go (narrow r)
+    where
+      go : (n : Bool) → getD (cond n (set-number (width-place form) b at (least-width (r .kind) (r .«label_length»))) b) i 0 ≡ getD b i 0
+      go true = set-beside (width-place form) b at _ i (o .width)
+      go false = refl
+
+  raise-depth-off : (i : ℕ) → Off form at i → getD (raise-depth form at r b) i 0 ≡ getD b i 0
+  unfolding raise-depth
+  raise-depth-off i o = go (flat r)
+    where
+      go : (n : Bool) → getD (cond n (set-number (depth-place form) b at 1) b) i 0 ≡ getD b i 0
+      go true = set-beside (depth-place form) b at 1 i (o .depth)
+      go false = refl
+
+module _ (form : Form) (at : ℕ) (r : Record) (b : List ℕ) where
+  pub mend-length : length (mend-record form at r b) ≡ length b
+  unfolding mend-record
+  mend-length = raise-depth-length form at r (raise-width form at r b) ∙ raise-width-length form at r b
 
   pub mend-off : (i : ℕ) → Off form at i → getD (mend-record form at r b) i 0 ≡ getD b i 0
-  unfolding mend-record raised
-  mend-off i o = go (flat r)
-    where
-      go : (d : Bool) → getD (cond d (put-depth form at 1 (raised (narrow r))) (raised (narrow r))) i 0 ≡ getD b i 0
-      go true = depth-off form at 1 i (raised (narrow r)) o ∙ raised-off (narrow r) i o
-      go false = raised-off (narrow r) i o
+  unfolding mend-record
+  mend-off i o = raise-depth-off form at r (raise-width form at r b) i o ∙ raise-width-off form at r b i o
 
   pub mend-sound : Sound r → mend-record form at r b ≡ b
-  unfolding mend-record
+  unfolding mend-record raise-width raise-depth
   mend-sound s = rw (s .wide, s .deep) refl
 
   module _ (room : at + record-size form ≤ length b) (is : record-at form b at ≡ r) where
-    raised-read : (n : Bool) → record-at form (raised n) at ≡ widened r (cond n (least-width (r .kind) (r .«label_length»)) (r .width))
-    unfolding raised
-    raised-read true = width-read form at _ b room ∙ ap (λ (x : Record). widened x (least-width (r .kind) (r .«label_length»))) is
-    raised-read false = is
+    raised-read : record-at form (raise-width form at r b) at ≡ widened r (new-width r)
+    unfolding raise-width new-width
+    raised-read = go (narrow r)
+      where
+        go : (n : Bool) → record-at form (cond n (set-number (width-place form) b at (least-width (r .kind) (r .«label_length»))) b) at ≡ widened r (cond n (least-width (r .kind) (r .«label_length»)) (r .width))
+        go true = width-read form at _ b room ∙ ap (λ (x : Record). widened x (least-width (r .kind) (r .«label_length»))) is
+        go false = is
 
     pub mend-read : record-at form (mend-record form at r b) at ≡ mended-record r
-    unfolding mend-record raised new-width new-depth
+    unfolding mend-record raise-depth new-depth
     mend-read = go (flat r)
       where
-        go : (d : Bool) → record-at form (cond d (put-depth form at 1 (raised (narrow r))) (raised (narrow r))) at
-            ≡ record { parent = r .parent; kind = r .kind; width = cond (narrow r) (least-width (r .kind) (r .«label_length»)) (r .width); depth = cond d 1 (r .depth); rank = r .rank; «label_length» = r .«label_length»; «label_start» = r .«label_start» }
-        go true = depth-read form at 1 (raised (narrow r)) (rw (raised-length (narrow r)) room) ∙ ap (λ (x : Record). deepened x 1) (raised-read (narrow r))
-        go false = raised-read (narrow r)
+        go : (n : Bool) → record-at form (cond n (set-number (depth-place form) (raise-width form at r b) at 1) (raise-width form at r b)) at
+            ≡ record { parent = r .parent; kind = r .kind; width = new-width r; depth = cond n 1 (r .depth); rank = r .rank; «label_length» = r .«label_length»; «label_start» = r .«label_start» }
+        go true = depth-read form at 1 (raise-width form at r b) (rw (raise-width-length form at r b) room) ∙ ap (λ (x : Record). deepened x 1) raised-read
+        go false = raised-read
 
 -- ---- the records of two lists of bytes
 -- as many bytes as a record has, the same
 pub record-same : (form : Form) (at : ℕ) (f g : List ℕ) → ((k : ℕ) → k < record-size form → getD g (at + k) 0 ≡ getD f (at + k) 0) → record-at form g at ≡ record-at form f at
-unfolding record-at pair record-size
+unfolding record-at number-at pair record-size parent-place kind-place width-place depth-place length-place rank-place start-place
 record-same Old at f g h =
-    let z : at + 0 ≡ at = omega arith in
     let z7 : at + 7 ≡ at + 6 + 1 = omega arith in
-    let h0 : getD g at 0 ≡ getD f at 0 = rw z at (h 0 (omega arith)) in
+    let z1 : at + 1 ≡ at + 0 + 1 = omega arith in
+    let h1 : getD g (at + 0 + 1) 0 ≡ getD f (at + 0 + 1) 0 = rw z1 at (h 1 (omega arith)) in
     let h7 : getD g (at + 6 + 1) 0 ≡ getD f (at + 6 + 1) 0 = rw z7 at (h 7 (omega arith)) in
-    rw (h0, h 1 (omega arith), h 2 (omega arith), h 3 (omega arith), h 4 (omega arith), h 5 (omega arith), h 6 (omega arith), h7) refl
+    rw (h 0 (omega arith), h1, h 2 (omega arith), h 3 (omega arith), h 4 (omega arith), h 5 (omega arith), h 6 (omega arith), h7) refl
 record-same Wide at f g h =
-    let z : at + 0 ≡ at = omega arith in
     let z5 : at + 5 ≡ at + 4 + 1 = omega arith in
     let z9 : at + 9 ≡ at + 8 + 1 = omega arith in
-    let h0 : getD g at 0 ≡ getD f at 0 = rw z at (h 0 (omega arith)) in
+    let z1 : at + 1 ≡ at + 0 + 1 = omega arith in
+    let h1 : getD g (at + 0 + 1) 0 ≡ getD f (at + 0 + 1) 0 = rw z1 at (h 1 (omega arith)) in
     let h5 : getD g (at + 4 + 1) 0 ≡ getD f (at + 4 + 1) 0 = rw z5 at (h 5 (omega arith)) in
     let h9 : getD g (at + 8 + 1) 0 ≡ getD f (at + 8 + 1) 0 = rw z9 at (h 9 (omega arith)) in
-    rw (h0, h 1 (omega arith), h 2 (omega arith), h 3 (omega arith), h 4 (omega arith), h5, h 6 (omega arith), h 7 (omega arith), h 8 (omega arith), h9) refl
+    rw (h 0 (omega arith), h1, h 2 (omega arith), h 3 (omega arith), h 4 (omega arith), h5, h 6 (omega arith), h 7 (omega arith), h 8 (omega arith), h9) refl
 
 -- a byte of record c is no box byte of another
 pub apart : (form : Form) (begin b c k : ℕ) → b ≢ c → k < record-size form → Off form (begin + record-size form * b) (begin + record-size form * c + k)
-unfolding record-size
-apart Old begin b c k n h = (omega arith, omega arith)
-apart Wide begin b c k n h = (omega arith, omega arith, omega arith)
+unfolding record-size width-place depth-place
+apart Old begin b c k n h = record { width = omega arith; depth = omega arith }
+apart Wide begin b c k n h = record { width = (omega arith, omega arith); depth = omega arith }
 
--- nor is one before the records or after them
+-- nor is one after the records
 pub after : (form : Form) (begin b n i : ℕ) → b < n → begin + record-size form * n ≤ i → Off form (begin + record-size form * b) i
-unfolding record-size
-after Old begin b n i l h = (omega arith, omega arith)
-after Wide begin b n i l h = (omega arith, omega arith, omega arith)
+unfolding record-size width-place depth-place
+after Old begin b n i l h = record { width = omega arith; depth = omega arith }
+after Wide begin b n i l h = record { width = (omega arith, omega arith); depth = omega arith }
 
-pub ahead : (form : Form) (begin b i : ℕ) → i < begin → Off form (begin + record-size form * b) i
-unfolding record-size
-ahead Old begin b i l = (omega arith, omega arith)
-ahead Wide begin b i l = (omega arith, omega arith, omega arith)
+-- a byte of a record that is none of its width or depth is none of another's
+beside-old : (begin b c k : ℕ) → k < 8 → k ≢ 3 → k ≢ 4 → Off Old (begin + record-size Old * b) (begin + record-size Old * c + k)
+unfolding record-size width-place depth-place
+beside-old begin b c k l p q = record { width = omega arith; depth = omega arith }
+
+beside-wide : (begin b c k : ℕ) → k < 10 → k ≢ 3 → k ≢ 4 → k ≢ 5 → Off Wide (begin + record-size Wide * b) (begin + record-size Wide * c + k)
+unfolding record-size width-place depth-place
+beside-wide begin b c k l p q r = record { width = (omega arith, omega arith); depth = omega arith }
 
 -- all of a record but its width and its depth
 pub record-boxed : (form : Form) (begin c : ℕ) (f g : List ℕ)
@@ -168,22 +195,21 @@ pub record-boxed : (form : Form) (begin c : ℕ) (f g : List ℕ)
     → record-at form g (begin + record-size form * c) .width ≡ record-at form f (begin + record-size form * c) .width
     → record-at form g (begin + record-size form * c) .depth ≡ record-at form f (begin + record-size form * c) .depth
     → record-at form g (begin + record-size form * c) ≡ record-at form f (begin + record-size form * c)
-unfolding record-at pair record-size
+unfolding record-at number-at pair record-size parent-place kind-place width-place depth-place length-place rank-place start-place
 record-boxed Old begin c f g h w d =
-    let at : ℕ = begin + 8 * c in
-    let off : (k : ℕ) → k < 8 → k ≢ 3 → k ≢ 4 → getD g (begin + 8 * c + k) 0 ≡ getD f (begin + 8 * c + k) 0 = λ k l p q. h (begin + 8 * c + k) (λ b. (omega arith, omega arith)) in
-    let z : begin + 8 * c + 0 ≡ begin + 8 * c = omega arith in
+    let off : (k : ℕ) → k < 8 → k ≢ 3 → k ≢ 4 → getD g (begin + 8 * c + k) 0 ≡ getD f (begin + 8 * c + k) 0 = λ k l p q. h (begin + 8 * c + k) (λ b. beside-old begin b c k l p q) in
+    let z1 : begin + 8 * c + 1 ≡ begin + 8 * c + 0 + 1 = omega arith in
     let z7 : begin + 8 * c + 7 ≡ begin + 8 * c + 6 + 1 = omega arith in
-    let h0 : getD g (begin + 8 * c) 0 ≡ getD f (begin + 8 * c) 0 = rw z at (off 0 (omega arith) (omega arith) (omega arith)) in
+    let h1 : getD g (begin + 8 * c + 0 + 1) 0 ≡ getD f (begin + 8 * c + 0 + 1) 0 = rw z1 at (off 1 (omega arith) (omega arith) (omega arith)) in
     let h7 : getD g (begin + 8 * c + 6 + 1) 0 ≡ getD f (begin + 8 * c + 6 + 1) 0 = rw z7 at (off 7 (omega arith) (omega arith) (omega arith)) in
-    rw (h0, off 1 (omega arith) (omega arith) (omega arith), off 2 (omega arith) (omega arith) (omega arith), w, d, off 5 (omega arith) (omega arith) (omega arith), off 6 (omega arith) (omega arith) (omega arith), h7) refl
+    rw (off 0 (omega arith) (omega arith) (omega arith), h1, off 2 (omega arith) (omega arith) (omega arith), w, d, off 5 (omega arith) (omega arith) (omega arith), off 6 (omega arith) (omega arith) (omega arith), h7) refl
 record-boxed Wide begin c f g h w d =
-    let off : (k : ℕ) → k < 10 → k ≢ 3 → k ≢ 4 → k ≢ 5 → getD g (begin + 10 * c + k) 0 ≡ getD f (begin + 10 * c + k) 0 = λ k l p q r. h (begin + 10 * c + k) (λ b. (omega arith, omega arith, omega arith)) in
-    let z : begin + 10 * c + 0 ≡ begin + 10 * c = omega arith in
+    let off : (k : ℕ) → k < 10 → k ≢ 3 → k ≢ 4 → k ≢ 5 → getD g (begin + 10 * c + k) 0 ≡ getD f (begin + 10 * c + k) 0 = λ k l p q r. h (begin + 10 * c + k) (λ b. beside-wide begin b c k l p q r) in
+    let z1 : begin + 10 * c + 1 ≡ begin + 10 * c + 0 + 1 = omega arith in
     let z9 : begin + 10 * c + 9 ≡ begin + 10 * c + 8 + 1 = omega arith in
-    let h0 : getD g (begin + 10 * c) 0 ≡ getD f (begin + 10 * c) 0 = rw z at (off 0 (omega arith) (omega arith) (omega arith) (omega arith)) in
+    let h1 : getD g (begin + 10 * c + 0 + 1) 0 ≡ getD f (begin + 10 * c + 0 + 1) 0 = rw z1 at (off 1 (omega arith) (omega arith) (omega arith) (omega arith)) in
     let h9 : getD g (begin + 10 * c + 8 + 1) 0 ≡ getD f (begin + 10 * c + 8 + 1) 0 = rw z9 at (off 9 (omega arith) (omega arith) (omega arith) (omega arith)) in
-    rw (h0, off 1 (omega arith) (omega arith) (omega arith) (omega arith), off 2 (omega arith) (omega arith) (omega arith) (omega arith), w, d, off 6 (omega arith) (omega arith) (omega arith) (omega arith), off 7 (omega arith) (omega arith) (omega arith) (omega arith), off 8 (omega arith) (omega arith) (omega arith) (omega arith), h9) refl
+    rw (off 0 (omega arith) (omega arith) (omega arith) (omega arith), h1, off 2 (omega arith) (omega arith) (omega arith) (omega arith), w, d, off 6 (omega arith) (omega arith) (omega arith) (omega arith), off 7 (omega arith) (omega arith) (omega arith) (omega arith), off 8 (omega arith) (omega arith) (omega arith) (omega arith), h9) refl
 
 -- ---- n records mended
 module _ (form : Form) (begin : ℕ) (e : ℕ → Record) (f : List ℕ) where

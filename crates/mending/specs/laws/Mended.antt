@@ -23,7 +23,8 @@ use Rattle.plan.specs.declared.Record.{Record}
 use Rattle.plan.specs.declared.Refusal.{Refusal}
 use Rattle.plan.specs.declared.forms.Form.{Form}
 use Rattle.planfile.specs.declared.Trailer.{Trailer}
-use Rattle.planfile.specs.Format.{pair, trailer-of, form, place, record-at, entry}
+use Rattle.planfile.specs.Fields.{pair, number-at, begin-place, count-place, allowance-place, mark-place}
+use Rattle.planfile.specs.Format.{trailer-of, form, place, record-at, entry}
 use Rattle.planfile.specs.FileSteps.{counted, record-refusal, entry-refusal, header-refusal, body-refusal, file-refusal}
 use Rattle.planfile.specs.laws.File.{read-refusal}
 use Rattle.planfile.specs.laws.Examined.{Full, full-read}
@@ -197,18 +198,12 @@ module _ (f g : List ℕ) (only : OnlyBoxes f g) (z : framed f ≡ true) where
 
   -- its trailer is the same
   pub trailer-same : trailer-of g ≡ trailer-of f
-  unfolding trailer-of pair
+  unfolding trailer-of number-at pair begin-place count-place allowance-place mark-place
   trailer-same =
       let n = full f z .exact in
-      let a0 : getD g (length f - trailer-size) 0 ≡ getD f (length f - trailer-size) 0 = behind _ (omega (arith, n)) in
-      let a1 : getD g (length f - trailer-size + 1) 0 ≡ getD f (length f - trailer-size + 1) 0 = behind _ (omega (arith, n)) in
-      let a2 : getD g (length f - trailer-size + 2) 0 ≡ getD f (length f - trailer-size + 2) 0 = behind _ (omega (arith, n)) in
-      let a3 : getD g (length f - trailer-size + 2 + 1) 0 ≡ getD f (length f - trailer-size + 2 + 1) 0 = behind _ (omega (arith, n)) in
-      let a4 : getD g (length f - trailer-size + 4) 0 ≡ getD f (length f - trailer-size + 4) 0 = behind _ (omega (arith, n)) in
-      let a5 : getD g (length f - trailer-size + 4 + 1) 0 ≡ getD f (length f - trailer-size + 4 + 1) 0 = behind _ (omega (arith, n)) in
-      let a6 : getD g (length f - trailer-size + 6) 0 ≡ getD f (length f - trailer-size + 6) 0 = behind _ (omega (arith, n)) in
-      let a7 : getD g (length f - trailer-size + 6 + 1) 0 ≡ getD f (length f - trailer-size + 6 + 1) 0 = behind _ (omega (arith, n)) in
-      rw (only .as-long, a0, a1, a2, a3, a4, a5, a6, a7) refl
+      let a : (k : ℕ) → getD g (length f - trailer-size + k) 0 ≡ getD f (length f - trailer-size + k) 0 = λ k. behind _ (omega (arith, n)) in
+      let b : (k : ℕ) → getD g (length f - trailer-size + k + 1) 0 ≡ getD f (length f - trailer-size + k + 1) 0 = λ k. behind _ (omega (arith, n)) in
+      rw (only .as-long, a 0, b 0, a 2, b 2, a 4, b 4, a 6, b 6) refl
 
   -- so are 2 to 4's answers
   pub framed-same : framed g ≡ framed f
