@@ -67,7 +67,7 @@ altered f = map (λ c. alteration c (entry f c)) (altered-cells f)
 -- ---- another file g that "differs only in width and depth bytes" from f
 -- byte i is no byte of a number at a place, from `at` on
 abbrev pub Beside : Place → (at i : ℕ) → Type 0
-Beside nowhere at i = ⊤
+Beside nowhere at i = Unit {0}
 Beside (byte k) at i = i ≢ at + k
 Beside (two k) at i = (i ≢ at + k) × (i ≢ at + k + 1)
 

@@ -49,7 +49,7 @@ set-read (two k) b at v s h =
 
 -- a number none of whose bytes is another's
 abbrev Clear : Place → Place → Type 0
-Clear p nowhere = ⊤
+Clear p nowhere = Unit {0}
 Clear p (byte k) = (at : ℕ) → Beside p at (at + k)
 Clear p (two k) = (at : ℕ) → Beside p at (at + k) × Beside p at (at + k + 1)
 
