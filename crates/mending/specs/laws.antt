@@ -1,4 +1,5 @@
 pub mod Boxes
 pub mod Bytes
+pub mod Code
 pub mod Mended
 pub mod Promised

@@ -57,7 +57,7 @@ pub decimal-last : {a b c : List ℕ} {i j k n d : ℕ} → 10 ≤ n → Put a i
 decimal-last {n = n} l p e q = rw (decimal-more n l, ← e) (then p q)
 
 -- a text written at the beginning of a line's buffer
-drop-zeros : (k n : ℕ) → drop k (replicate {A = ℕ} n 0) ≡ replicate (n - k) 0
+pub drop-zeros : (k n : ℕ) → drop k (replicate {A = ℕ} n 0) ≡ replicate (n - k) 0
 drop-zeros zero n = let e : n - 0 ≡ n = omega arith in rw e
 drop-zeros (suc k) zero = let e : 0 - suc k ≡ 0 = omega arith in rw e
 drop-zeros (suc k) (suc n) = let e : suc n - suc k ≡ n - k = omega arith in rw e (drop-zeros k n)

@@ -1,46 +1,43 @@
+use Prim.Native.Nat.{_+_, _-_, _*_, _≤_}
+use mathlib.Core.Path.{_≡_, refl, sym, ap, _∙_}
+use native.Mathlib.Omega.{arith}
+use lib.ListN.{length, take, length-set}
+use Rattle.listing.specs.Put.{Put}
+use Rattle.listing.specs.laws.Put.{put-start, put-all}
+use Rattle.mending.specs.laws.Code.{put-next, put-whole}
 use borrow.Author.Needs.{needs}
 use Rattle.mending.proofs.copy.Statement.{statement}
 use Rattle.mending.proofs.copy.Tie as tie
-use Rattle.mending.proofs.copy.Reads as reads
-use Rattle.mending.proofs.copy.Lts as lts
 
 abbrev Inv-loop : tie.InvT-loop
-Inv-loop file out₀ i₀ out i = ?
+Inv-loop file out₀ i₀ out i = (i ≤ length file) × (length out ≡ length out₀) × Put out₀ 0 (take i file) out (0 + i)
 
 abbrev μ-loop : tie.MeasureT-loop
-μ-loop file out₀ i₀ out i = ?
+μ-loop file out₀ i₀ out i = length file - i
 
--- src/lib.rt:75:5
 loop-holds : tie.Need-loop-holds Inv-loop μ-loop
-loop-holds c = search needs
+loop-holds c = (omega arith, refl, put-start _ _)
 
--- src/lib.rt:76:18
 shared-slice-read-out : tie.Need-shared-slice-read-out Inv-loop μ-loop
-shared-slice-read-out c = search needs
+shared-slice-read-out c = omega arith
 
--- src/lib.rt:76:9
 slice-write-out : tie.Need-slice-write-out Inv-loop μ-loop
-slice-write-out c = search needs
+slice-write-out c = omega (arith, c .before .before .loop .inv .1, (c .before .before .before) .pre)
 
--- src/lib.rt:77:9
 add-i : tie.Need-add-i Inv-loop μ-loop
-add-i c = search needs
+add-i c = omega arith
 
--- src/lib.rt:75:5
 loop-less : tie.Need-loop-less Inv-loop μ-loop
-loop-less c = search needs
+loop-less c = omega arith
 
--- src/lib.rt:75:5
 loop-again : tie.Need-loop-again Inv-loop μ-loop
-loop-again c = search needs
+loop-again c = (omega arith, simp length-set (c .before .before .loop .inv .1), put-next _ (c .before .before .loop .inv .2) (c .before .loop-test .taken))
 
--- src/lib.rt:70:1
 same-length : tie.Need-same-length Inv-loop μ-loop
-same-length c = search needs
+same-length c = c .before .loop .inv .1
 
--- src/lib.rt:70:1
 returns : tie.Need-returns Inv-loop μ-loop
-returns c = search needs
+returns c = put-whole _ (put-all _ (c .before .loop .inv .2) (c .loop-test .left)) ((c .before .before) .pre)
 
 pub copy-spec : {M : Type 1} → statement M
 copy-spec =

@@ -1,22 +1,23 @@
+use mathlib.Core.Path.{_≡_, refl, sym, ap, _∙_}
+use native.Mathlib.Omega.{arith}
+use Rattle.planfile.specs.Format.{record-at}
 use borrow.Author.Needs.{needs}
 use Rattle.mending.proofs.record_of.Statement.{statement}
 use Rattle.mending.proofs.record_of.Tie as tie
-use Rattle.mending.proofs.record_of.Reads as reads
-use Rattle.mending.proofs.record_of.Lts as lts
-use Rattle.planfile.proofs.cursor.Cursor.entry.Reads as entry-reads
-use Rattle.planfile.proofs.table.place.Reads as place-reads
 
--- src/lib.rt:112:13
 place-requires : tie.Need-place-requires
-place-requires c κs = search needs
+place-requires c κs = let s = (c .before) in (s .pre .0, omega (arith, s .pre .1, s .good))
 
--- src/lib.rt:114:9
 entry-requires : tie.Need-entry-requires
-entry-requires c κs = search needs
+entry-requires c κs = rw (c .place .ensures) ((c .before .before) .pre .1)
 
--- src/lib.rt:107:1
 returns : tie.Need-returns
-returns c = search needs
+returns c = let s = (c .before .before .before .before) in c .before .entry .ensures .0 ∙ ap (record-at (s .args .form) (s .args .file .now)) (c .before .before .place .ensures)
 
 pub record-of-spec : {M : Type 1} → statement M
-record-of-spec = tie.close (tie.spec place-requires entry-requires returns)
+record-of-spec =
+    tie.close
+    (tie.spec
+    place-requires
+    entry-requires
+    returns)

@@ -83,7 +83,7 @@ in-turn true true false d e h = refl
 in-turn true true true d e h = h
 
 -- refused by 2 to 4: one of the three says no
-refused-framed : (f : List ℕ) → between 2 4 (would-get f .number) ≡ not (framed f)
+pub refused-framed : (f : List ℕ) → between 2 4 (would-get f .number) ≡ not (framed f)
 unfolding file-refusal header-refusal
 refused-framed f =
     ap (λ (r : Refusal). between 2 4 (r .number)) (would-get-is f)

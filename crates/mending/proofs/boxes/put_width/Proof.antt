@@ -1,54 +1,45 @@
+use mathlib.Core.Path.{_≡_, refl, sym, ap, _∙_}
+use native.Mathlib.Omega.{arith}
+use Rattle.planfile.specs.Fields.{set-pair, set-number, width-place, depth-place}
+use Rattle.mending.specs.laws.Code.{old-room, wide-room}
 use borrow.Author.Needs.{needs}
 use Rattle.mending.proofs.boxes.put_width.Statement.{statement}
 use Rattle.mending.proofs.boxes.put_width.Tie as tie
-use Rattle.mending.proofs.boxes.put_width.Reads as reads
-use Rattle.mending.proofs.boxes.put_width.Lts as lts
-use Rattle.mending.proofs.boxes.put.Reads as put-reads
-use Rattle.mending.proofs.boxes.put_pair.Reads as put-pair-reads
 
--- src/boxes.rt:89:26
 enum-told : tie.Need-enum-told
 enum-told c = search needs
 
--- src/boxes.rt:89:31
 add-put : tie.Need-add-put
 add-put c = search needs
 
--- src/boxes.rt:89:39
 cast-put : tie.Need-cast-put
 cast-put c = search needs
 
--- src/boxes.rt:89:22
 put-requires : tie.Need-put-requires
-put-requires c κs = search needs
+put-requires c κs = let h = old-room _ (c .before .enum-told .given .1) ((c .before .before .before .before) .pre .1) in omega (arith, h)
 
--- src/boxes.rt:90:32
 enum-told-2 : tie.Need-enum-told-2
 enum-told-2 c = search needs
 
--- src/boxes.rt:90:37
 add-put-pair : tie.Need-add-put-pair
 add-put-pair c = search needs
 
--- src/boxes.rt:90:23
 put-pair-requires : tie.Need-put-pair-requires
-put-pair-requires c κs = search needs
+put-pair-requires c κs = let h = wide-room _ (c .before .enum-told2 .given .1) ((c .before .before .before .before) .pre .1) in omega (arith, h)
 
--- src/boxes.rt:84:1
 same-length : tie.Need-same-length
 same-length c = search needs
 
--- src/boxes.rt:84:1
 returns : tie.Need-returns
-returns c = search needs
+unfolding set-number width-place
+returns c = rw (c .before .before .before .before .enum-told .given .1) (c .before .before .put .ensures)
 
--- src/boxes.rt:84:1
 same-length-2 : tie.Need-same-length-2
 same-length-2 c = search needs
 
--- src/boxes.rt:84:1
 returns-2 : tie.Need-returns-2
-returns-2 c = search needs
+unfolding set-number width-place
+returns-2 c = rw (c .before .before .before .before .enum-told2 .given .1) (c .before .before .put-pair .ensures)
 
 pub put-width-spec : {M : Type 1} → statement M
 put-width-spec =

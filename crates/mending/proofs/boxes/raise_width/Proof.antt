@@ -1,35 +1,26 @@
+use mathlib.Core.Path.{_≡_, refl, sym, ap, _∙_}
+use Rattle.mending.specs.laws.Code.{least-byte, width-put, width-kept}
 use borrow.Author.Needs.{needs}
 use Rattle.mending.proofs.boxes.raise_width.Statement.{statement}
 use Rattle.mending.proofs.boxes.raise_width.Tie as tie
-use Rattle.mending.proofs.boxes.raise_width.Reads as reads
-use Rattle.mending.proofs.boxes.raise_width.Lts as lts
-use Rattle.mending.proofs.boxes.cramped.Reads as cramped-reads
-use Rattle.mending.proofs.boxes.least_width.Reads as least-width-reads
-use Rattle.mending.proofs.boxes.put_width.Reads as put-width-reads
 
--- src/boxes.rt:110:8
 cramped-requires : tie.Need-cramped-requires
 cramped-requires c κs = search needs
 
--- src/boxes.rt:111:34
 least-width-requires : tie.Need-least-width-requires
 least-width-requires c κs = search needs
 
--- src/boxes.rt:111:9
 put-width-requires : tie.Need-put-width-requires
-put-width-requires c κs = search needs
+put-width-requires c κs = (least-byte ((c .before .before .before .before .before) .args .r) (sym (c .before .before .before .cramped .ensures) ∙ c .before .before .if1 .taken) (c .least-width .ensures), (c .before .before .before .before .before) .pre)
 
--- src/boxes.rt:112:9
 same-length : tie.Need-same-length
 same-length c = search needs
 
--- src/boxes.rt:112:9
 returns : tie.Need-returns
-returns c = search needs
+returns c = width-put _ _ _ _ (sym (c .before .before .before .before .before .before .cramped .ensures) ∙ c .before .before .before .before .before .if1 .taken) (c .before .before .before .least-width .ensures) (c .before .before .put-width .ensures)
 
--- src/boxes.rt:106:1
 returns-2 : tie.Need-returns-2
-returns-2 c = search needs
+returns-2 c = width-kept _ _ _ _ (sym (c .before .cramped .ensures) ∙ c .if1 .left)
 
 pub raise-width-spec : {M : Type 1} → statement M
 raise-width-spec =
