@@ -1,15 +1,15 @@
 use mathlib.Core.Path.{_≡_, refl, sym, ap, _∙_}
-use native.Mathlib.Omega.{arith}
+use lib.ListN.{length}
 use Rattle.mending.specs.laws.Code.{refused-short, refused-early, short-output, short-lines, let-on}
 use borrow.Author.Needs.{needs}
 use Rattle.mending.proofs.mend.Statement.{statement}
 use Rattle.mending.proofs.mend.Tie as tie
 
 returns : tie.Need-returns
-returns c = refused-short _ _ _ (short-output _ _ (c .if1 .taken))
+returns c = let a = (c .before .before .before .before) .args in refused-short (a .file .now) (a .out .now) (a .lines .now) (short-output (length (a .out .now)) (length (a .lines .now)) (c .if1 .taken))
 
 returns-2 : tie.Need-returns-2
-returns-2 c = refused-short _ _ _ (short-lines _ _ (c .if2 .taken))
+returns-2 c = let a = (c .before .before .before .before .before) .args in refused-short (a .file .now) (a .out .now) (a .lines .now) (short-lines (length (a .out .now)) (length (a .lines .now)) (c .if2 .taken))
 
 read-requires : tie.Need-read-requires
 read-requires c κs = search needs

@@ -1,7 +1,7 @@
 -- From what each function has to what it promises: for the code. Nothing that a reader must believe stands here. Assumes nothing.
 use mathlib.Core.Path.{_≡_, refl, sym, ap, _∙_}
 use mathlib.Core.Logic.{_⊎_, inl, inr}
-use mathlib.Core.Bool.{Bool, true, false, _&&_, cond}
+use mathlib.Core.Bool.{Bool, true, false, _&&_, not, cond}
 use mathlib.Core.List.{List, [], _∷_, _++_, map, append-nil}
 use Prim.Native.Nat.{ℕ, zero, suc, _+_, _-_, _*_, _^_, _≤_, _<_}
 use native.Mathlib.Omega.{arith}
@@ -54,7 +54,7 @@ use Rattle.mending.specs.laws.Mended.{would-get-is, framed, refused-fram
 -- ---- one box
 pub least-known : (k n : ℕ) (l : Lookup) (r : Kind) → l ≡ about k → l ≡ Known r → n + r .border ≡ least-width k n
 unfolding least-width
-least-known k n l r e q = rw (← e, q) refl
+least-known k n l r e q = let d : about k ≡ Known r = sym e ∙ q in rw (d, least-width)
 
 module _ (r : Record) where
   pub new-width-raised : {w : ℕ} → narrow r ≡ true → w ≡ least-width (r .kind) (r .«label_length») → w ≡ new-width r
@@ -155,8 +155,8 @@ module _ (c : ℕ) (r : Record) {w d v e : ℕ} (hw : (w ≡ r .width) × (w < 6
     pub line-put : changed r ≡ true → {a b : List ℕ} {at k : ℕ} → Put a at (text l) b k → Put a at (alteration-text c r) b k × (k ≤ at + line-room)
     unfolding alteration-text alteration-line
     line-put ch {a} {b} {at} {k} p =
-        let t : text l ≡ mended-line c (r .width) (r .depth) (new-width r) (new-depth r) = rw q (line-text (mended-line c w d v e)) ∙ rw (hw .0, hd .0, hv .0, he .0) refl in
         let s : text l ≡ mended-line c w d v e = rw q (line-text (mended-line c w d v e)) in
+        let t : text l ≡ mended-line c (r .width) (r .depth) (new-width r) (new-depth r) = rw (hw .0, hd .0, hv .0, he .0) at s in
         (rw (ch, ← t) p, omega (arith, p .place, ap length s, line-short h))
 
 pub no-line-put : (c : ℕ) (r : Record) → changed r ≡ false → (a : List ℕ) (at : ℕ) → Put a at (alteration-text c r) a at × (at ≤ at + line-room)
@@ -227,7 +227,7 @@ module _ (f : List ℕ) (z : between 2 4 (would-get f .number) ≡ false) where
   pub has-frame : framed f ≡ true
   has-frame = go (framed f) (sym (refused-framed f) ∙ z)
     where
-      go : (b : Bool) → cond b false true ≡ false → b ≡ true
+      go : (b : Bool) → not b ≡ false → b ≡ true
       go true q = refl
       go false q = sym q
 
@@ -303,7 +303,7 @@ module _ (f out lines : List ℕ) where
 
   refused-is : (k c : ℕ) → why ≡ record { number = suc k; cell = c } → Mends f out out lines lines (Refused (suc k) c)
   unfolding mended-of file-after lines-after file-size lines-length
-  refused-is k c e = record { answers = rw e refl; bytes = refl; told = refl; suffices = (omega arith, omega arith) }
+  refused-is k c e = record { answers = rw (e, ne-eqb (suc k) 0 (omega arith)) refl; bytes = refl; told = refl; suffices = (omega arith, omega arith) }
 
   -- an output is too short
   pub refused-short : leb most-file (length out) && leb lines-size (length lines) ≡ false → Mends f out out lines lines (Refused 1 0)
