@@ -1,11 +1,13 @@
 // The answers of the calls for C and Rust, as structs of numbers: number and cell of a refusal first, and 0 for all that a case does not have.
 use checker::Checked;
+use copying::Copied;
 use ends::Ended;
 use fitting::Fitted;
 use layout::Laid;
+use mending::Mended;
 use printing::Listed;
 ghost use mathlib.Core.Path.{_≡_};
-ghost use Rattle.answers.specs.Answers.{«read-answer», «laid-answer», «check-answer», «ends-answer», «list-answer», «frame-answer»};
+ghost use Rattle.answers.specs.Answers.{«read-answer», «laid-answer», «check-answer», «ends-answer», «list-answer», «frame-answer», «copy-answer», «mend-answer»};
 
 // Number and cell of the refusal, or 0 and 0; the number of cells and the allowance.
 #[repr(C)]
@@ -77,6 +79,15 @@ pub struct FrameAnswer {
     pub cell: u16,
     pub outcome: u8,
     pub allowance: u32,
+}
+
+// Number and cell of the refusal, or 0 and 0; the lengths of the mended file and of its lines.
+#[repr(C)]
+pub struct MendAnswer {
+    pub number: u8,
+    pub cell: u16,
+    pub length: usize,
+    pub lines: usize,
 }
 
 // The answer of Read as a struct.
@@ -218,6 +229,52 @@ pub fn told_frame(answer: Fitted) -> FrameAnswer
             cell,
             outcome: 0,
             allowance: 0,
+        },
+    }
+}
+
+// Number and cell of the refusal, or 0 and 0; the length of the clean copy.
+#[repr(C)]
+pub struct CopyAnswer {
+    pub number: u8,
+    pub cell: u16,
+    pub length: usize,
+}
+
+// The answer of Copy as a struct.
+pub fn told_copy(answer: Copied) -> CopyAnswer
+    ensures { λ r. ⌜ r ≡ copy-answer answer ⌝ }
+{
+    match answer {
+        Copied::Written(length) => CopyAnswer {
+            number: 0,
+            cell: 0,
+            length,
+        },
+        Copied::Refused(number, cell) => CopyAnswer {
+            number,
+            cell,
+            length: 0,
+        },
+    }
+}
+
+// The answer of Mend as a struct.
+pub fn told_mend(answer: Mended) -> MendAnswer
+    ensures { λ r. ⌜ r ≡ mend-answer answer ⌝ }
+{
+    match answer {
+        Mended::Written(length, lines) => MendAnswer {
+            number: 0,
+            cell: 0,
+            length,
+            lines,
+        },
+        Mended::Refused(number, cell) => MendAnswer {
+            number,
+            cell,
+            length: 0,
+            lines: 0,
         },
     }
 }

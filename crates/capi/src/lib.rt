@@ -1,17 +1,21 @@
 // The calls for programs in C and Rust: include/kuzpalen.h documents each. A lent buffer is a pointer and a length; an answer is a struct of numbers.
 use answers::CheckAnswer;
+use answers::CopyAnswer;
 use answers::EndsAnswer;
 use answers::FrameAnswer;
 use answers::LabelAnswer;
 use answers::LabelPart;
 use answers::LayoutAnswer;
 use answers::ListAnswer;
+use answers::MendAnswer;
 use answers::ReadAnswer;
 use answers::told_check;
+use answers::told_copy;
 use answers::told_ends;
 use answers::told_frame;
 use answers::told_layout;
 use answers::told_list;
+use answers::told_mend;
 use answers::told_read;
 use plan::Record;
 ghost use mathlib.Core.Path.{_≡_};
@@ -19,7 +23,7 @@ ghost use Rattle.plan.specs.Records.{«cells-of»};
 ghost use Rattle.planfile.specs.Reading.{«label-refusal», «label-part»};
 ghost use Rattle.checker.specs.Checked.{«checked-of»};
 ghost use Rattle.ends.specs.Ended.{«ended-of»};
-ghost use Rattle.answers.specs.Answers.{«check-answer», «ends-answer», Filling, Laying, ListFilling, Framing};
+ghost use Rattle.answers.specs.Answers.{«check-answer», «ends-answer», Filling, Laying, ListFilling, Framing, CopyFilling, MendFilling};
 
 #[no_mangle]
 pub extern "C" fn kuzpalen_read(file: &[u8], table: &mut [Record]) -> ReadAnswer
@@ -95,4 +99,25 @@ pub extern "C" fn kuzpalen_frame(table: &[Record], squares: u32, scratch: &mut [
 {
     let answer = engine::frame(table, squares, scratch);
     told_frame(answer)
+}
+
+#[no_mangle]
+pub extern "C" fn kuzpalen_copy(
+    table: &[Record],
+    labels: &[u8],
+    allowance: u32,
+    out: &mut [u8],
+) -> CopyAnswer
+    ensures { λ r. ⌜ CopyFilling (now (table .entry)) (now (labels .entry)) allowance (now (out .entry)) (now (out .exit)) r ⌝ }
+{
+    let answer = engine::copy(table, labels, allowance, out);
+    told_copy(answer)
+}
+
+#[no_mangle]
+pub extern "C" fn kuzpalen_mend(file: &[u8], out: &mut [u8], lines: &mut [u8]) -> MendAnswer
+    ensures { λ r. ⌜ MendFilling (now (file .entry)) (now (out .entry)) (now (out .exit)) (now (lines .entry)) (now (lines .exit)) r ⌝ }
+{
+    let answer = engine::mend(file, out, lines);
+    told_mend(answer)
 }

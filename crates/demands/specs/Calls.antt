@@ -1,5 +1,5 @@
 -- THE THREE DEMANDS AT THE CALLS: statements only; each proof is one name. A reader needs the definitions of crate plan (sequence, puts, holds), of crate
--- rules (placement, S1 to S5, verdict), `sheet`, what each call answers (Reads, Lays, checked-of, ended-of, label-of and label-refusal, Lists, Frames) and Outcomes. Every call's
+-- rules (placement, S1 to S5, verdict), `sheet`, what each call answers (Reads, Lays, checked-of, ended-of, label-of and label-refusal, Lists, Frames, Copies) and Outcomes. Every call's
 -- contract is one of those, so what is said of them is said of what the call answers and leaves in the lent buffers. Assumes nothing.
 use mathlib.Core.Path.{_≡_}
 use mathlib.Core.List.{List, [], _∷_, _++_, map}
@@ -8,7 +8,7 @@ use Prim.Native.Nat.{ℕ, _*_, _≤_, _<_}
 use lib.ListN.{length, getD, take, drop, replicate}
 use lib.IntN.{ℤ, pos, _-ℤ_}
 use lib.Signed.{_≤ℤ_, _<ℤ_}
-use Rattle.plan.specs.Limits.{scratch-size, most-allowance}
+use Rattle.plan.specs.Limits.{most-cells, scratch-size, most-file, most-allowance}
 use Rattle.plan.specs.Plan.{Table, Is}
 use Rattle.plan.specs.Records.{cells-of}
 use Rattle.plan.specs.Questions.{Call, Given, layout, check, ends, list, frame, none, sequence, refusal, layout-given, check-given, ends-given, list-given, frame-given}
@@ -50,7 +50,13 @@ use Rattle.engine.specs.declared.ReadAnswer.the-variants.{Plan, Refused}
 use Rattle.engine.specs.Read.{read-refusal, Reads}
 use Rattle.engine.specs.Label.{label-of}
 use Rattle.demands.specs.Outcomes.{Gives, Judged, Listing}
+use Rattle.content.specs.Content.{content, letters-of}
+use Rattle.content.specs.Clean.{copy, copy-refusal}
+use Rattle.copying.specs.Copied.{Copies}
+use Rattle.copying.specs.declared.Copied.{Copied}
+use Rattle.copying.specs.declared.Copied.the-variants as copied
 use Rattle.demands.specs.laws.Check as checking
+use Rattle.demands.specs.laws.Copy as copying
 use Rattle.demands.specs.laws.Layout as laying
 use Rattle.demands.specs.laws.List as listing
 use Rattle.demands.specs.laws.ReadThen as then
@@ -181,3 +187,38 @@ frame-least = fitting.allowance-least
 -- ◆E and ◆F in frames, the questions included.
 pub frame-worked : frames.Rows
 frame-worked = frames-laws.worked
+
+-- ==== THE CLEAN COPY of a table with its label bytes, at an allowance (document 02, E4)
+-- A refusal is answered by its number and cell, and leaves the output as it was.
+pub copy-refuses : (rs : List Record) (letters : List ℕ) (al : ℕ) (out out′ : List ℕ) (r : Copied) → Copies rs letters al out out′ r → ¬ (copy-refusal rs letters al (length out) .number ≡ 0)
+    → (r ≡ copied.Refused (copy-refusal rs letters al (length out) .number) (copy-refusal rs letters al (length out) .cell)) × (out′ ≡ out)
+copy-refuses = copying.unchanged
+
+-- Else the length of the clean copy is answered; the output begins with it, and is as it was beyond.
+pub copy-gives : (rs : List Record) (letters : List ℕ) (al : ℕ) (out out′ : List ℕ) (r : Copied) → Copies rs letters al out out′ r → copy-refusal rs letters al (length out) ≡ none
+    → (r ≡ copied.Written (length (copy rs letters al))) × (out′ ≡ copy rs letters al ++ drop (length (copy rs letters al)) out)
+copy-gives = copying.written
+
+-- What Read gives, Copy does not refuse, with the file's label bytes and a long enough output.
+pub read-then-copy : (f : List ℕ) (t t′ : List Record) (n al : ℕ) → Reads f t t′ (Plan n al) → (room : ℕ) → most-file ≤ room → copy-refusal (take n t′) (letters-of f) al room .number ≡ 0
+read-then-copy = copying.then-copy
+
+-- What Copy writes, Read does not refuse, into a table of 256 records or more,
+pub copy-then-read : (rs : List Record) (letters : List ℕ) (al : ℕ) (out out′ : List ℕ) (k : ℕ) → Copies rs letters al out out′ (copied.Written k) → (room : ℕ) → most-cells ≤ room
+    → read-refusal (take k out′) room ≡ none
+copy-then-read = copying.then-accepted
+
+-- and reads with the same fathers, kinds, widths, depths, ranks, label texts and allowance.
+pub copy-then-content : (rs : List Record) (letters : List ℕ) (al : ℕ) (out out′ : List ℕ) (k : ℕ) → Copies rs letters al out out′ (copied.Written k)
+    → (t t′ : List Record) (n al′ : ℕ) → Reads (take k out′) t t′ (Plan n al′) → content (take n t′) (letters-of (take k out′)) al′ ≡ content rs letters al
+copy-then-content = copying.then-content
+
+-- Equal content gives equal files.
+pub copy-same : (rs rs′ : List Record) (letters letters′ : List ℕ) (al al′ : ℕ) (out out′ o o′ : List ℕ) (k m : ℕ) → Copies rs letters al out out′ (copied.Written k) → Copies rs′ letters′ al′ o o′ (copied.Written m)
+    → content rs letters al ≡ content rs′ letters′ al′ → (k ≡ m) × (take k out′ ≡ take m o′)
+copy-same = copying.same-copies
+
+-- A clean copy, read and copied again, gives itself.
+pub copy-again : (rs : List Record) (letters : List ℕ) (al : ℕ) (out out′ : List ℕ) (k : ℕ) → Copies rs letters al out out′ (copied.Written k) → (t t′ : List Record) (n al′ : ℕ) → Reads (take k out′) t t′ (Plan n al′)
+    → (o o′ : List ℕ) (m : ℕ) → Copies (take n t′) (letters-of (take k out′)) al′ o o′ (copied.Written m) → take m o′ ≡ take k out′
+copy-again = copying.again

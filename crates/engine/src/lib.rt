@@ -1,14 +1,17 @@
 // THE CALLS, over lent records: no call asks anything of its caller.
 use checker::Checked;
+use copying::Copied;
 use ends::Ended;
 use fitting::Fitted;
 use layout::Laid;
+use mending::Mended;
 use plan::Record;
 use plan::Refusal;
 use planfile::Reading;
 use printing::Listed;
 use records::columns_of;
 use records::fill;
+use records::lettered_of;
 ghost use mathlib.Core.Path.{_≡_};
 ghost use Rattle.plan.specs.Records.{«cells-of»};
 ghost use Rattle.planfile.specs.Reading.{«label-refusal»};
@@ -17,6 +20,8 @@ ghost use Rattle.fitting.specs.Fitted.{Frames};
 ghost use Rattle.checker.specs.Checked.{«checked-of»};
 ghost use Rattle.ends.specs.Ended.{«ended-of»};
 ghost use Rattle.printing.specs.Printing.{Lists};
+ghost use Rattle.mending.specs.Mending.{Mends};
+ghost use Rattle.copying.specs.Copied.{Copies};
 ghost use Rattle.engine.specs.Read.{Reads, «read-of»};
 ghost use Rattle.engine.specs.Label.{«label-of»};
 
@@ -111,4 +116,19 @@ pub fn frame(table: &[Record], squares: u32, scratch: &mut [u32]) -> Fitted
 {
     let t = columns_of(table);
     fitting::frame(t, squares, scratch)
+}
+
+// Copy: the clean copy of a table with its label bytes, at an allowance, is written into the output; its length, or the refusal.
+pub fn copy(table: &[Record], labels: &[u8], allowance: u32, out: &mut [u8]) -> Copied
+    ensures { λ r. ⌜ Copies (now (table .entry)) (now (labels .entry)) allowance (now (out .entry)) (now (out .exit)) r ⌝ }
+{
+    let t = lettered_of(table);
+    copying::copy(t, labels, allowance, out)
+}
+
+// Mend: a plan file with its cramped boxes mended, and the line of each cell altered, are written into the two outputs; their lengths, or the refusal.
+pub fn mend(file: &[u8], out: &mut [u8], lines: &mut [u8]) -> Mended
+    ensures { λ r. ⌜ Mends (now (file .entry)) (now (out .entry)) (now (out .exit)) (now (lines .entry)) (now (lines .exit)) r ⌝ }
+{
+    mending::mend(file, out, lines)
 }

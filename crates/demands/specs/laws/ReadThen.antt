@@ -52,7 +52,7 @@ accepted f n al r e = go (ℕ-discrete (r .number) 0)
     go (no z) = let q = rw (ne-eqb (r .number) 0 z) at e in let w : _≡_ {A = ℕ} 0 1 = cc in absurd (omega arith)
 
 module _ (f : List ℕ) (t t′ : List Record) (n al : ℕ) (l : Reads f t t′ (Plan n al)) where
-  told : (read-refusal f (length t) .number ≡ 0) × (n ≡ trailer-of f .count) × (al ≡ trailer-of f .allowance)
+  pub told : (read-refusal f (length t) .number ≡ 0) × (n ≡ trailer-of f .count) × (al ≡ trailer-of f .allowance)
   told = accepted f n al (read-refusal f (length t)) (l .answers)
 
   passes : file-refusal f .number ≡ 0

@@ -99,9 +99,15 @@ lengths : (t : Lettered) → IsLettered t
     → (length (t .columns .parent) ≡ most-cells) × (length (t .columns .kind) ≡ most-cells) × (length (t .columns .width) ≡ most-cells) × (length (t .columns .depth) ≡ most-cells) × (length (t .columns .rank) ≡ most-cells)
     × (length (t .«label_length») ≡ most-cells) × (length (t .«label_start») ≡ most-cells)
 lengths t is =
-    let o = LL.owed B.the-type B′.the-laws t _ is in let p = LL.owed D.the-type D′.the-laws (t .columns) _ (o .0) in
-    (numbers-length w16 most-cells (t .columns .parent) (p .1 .0), numbers-length w8 most-cells (t .columns .kind) (p .1 .1 .0), numbers-length w16 most-cells (t .columns .width) (p .1 .1 .1 .0), numbers-length w8 most-cells (t .columns .depth) (p .1 .1 .1 .1 .0), numbers-length w8 most-cells (t .columns .rank) (p .1 .1 .1 .1 .1 .0),
-    numbers-length w8 most-cells (t .«label_length») (o .1 .0), numbers-length w16 most-cells (t .«label_start») (o .1 .1 .0))
+    let o = LL.owed B.the-type B′.the-laws t _ is in let p = LL.owed D.the-type D′.the-laws (t .columns) _ (o .0) in (
+      numbers-length w16 most-cells (t .columns .parent) (p .1 .0),
+      numbers-length w8 most-cells (t .columns .kind) (p .1 .1 .0),
+      numbers-length w16 most-cells (t .columns .width) (p .1 .1 .1 .0),
+      numbers-length w8 most-cells (t .columns .depth) (p .1 .1 .1 .1 .0),
+      numbers-length w8 most-cells (t .columns .rank) (p .1 .1 .1 .1 .1 .0),
+      numbers-length w8 most-cells (t .«label_length») (o .1 .0),
+      numbers-length w16 most-cells (t .«label_start») (o .1 .1 .0),
+    )
 
 fits : (r : Record) (vs : List Val) → Is T.the-row r vs → (r .parent < 2 ^ 16) × (r .kind < 2 ^ 8) × (r .width < 2 ^ 16) × (r .depth < 2 ^ 8) × (r .rank < 2 ^ 8) × (r .«label_length» < 2 ^ 8) × (r .«label_start» < 2 ^ 16)
 fits r vs is = let p = LL.owed T.the-type T′.the-laws r vs is in (p .0 .1, p .1 .0 .1, p .1 .1 .1 .0 .1, p .1 .1 .1 .1 .0 .1, p .1 .1 .0 .1, p .1 .1 .1 .1 .1 .0 .1, p .1 .1 .1 .1 .1 .1 .0 .1)

@@ -1,0 +1,4 @@
+pub mod Clean
+pub mod Asked
+pub mod Fine
+pub mod Promised
