@@ -6,11 +6,11 @@ use Prim.Native.Nat.{ℕ, _≤_}
 use lib.Dec.{eqb}
 use lib.ListN.{length, drop}
 use Rattle.plan.specs.Limits.{most-file, lines-size}
-use Rattle.plan.specs.Questions.{copy-output, lines-output, nothing, Given, mend, refusal}
+use Rattle.plan.specs.Questions.{copy-output, lines-output, nothing, none, Given, mend, refusal}
 use Rattle.plan.specs.declared.Refusal.{Refusal}
 use Rattle.planfile.specs.Format.{file-given}
 use Rattle.listing.specs.Printed.{Bytes, mended-line, lines-joined}
-use Rattle.mending.specs.Mended.{mended, Alteration, altered}
+use Rattle.mending.specs.Mended.{would-get, mended, Alteration, altered}
 use Rattle.mending.specs.declared.Mended.{Mended}
 use Rattle.mending.specs.declared.Mended.the-variants.{Written, Refused}
 
@@ -57,3 +57,10 @@ pub record Mends (f out out′ lines lines′ : Bytes) (r : Mended) : Type 0 whe
   pub bytes : out′ ≡ file-after r f out
   pub told : lines′ ≡ lines-after r f lines
   pub suffices : (file-size r ≤ most-file) × (lines-length r ≤ lines-size)
+
+-- ---- where no question refuses: Read accepts the mended file, and every byte of it and of its lines is there, the rest of the outputs as it was
+pub record MendGives (f out out′ lines lines′ : Bytes) (r : Mended) : Type 0 where
+  pub answers : r ≡ Written (length f) (length (lines-of f))
+  pub bytes : out′ ≡ mended f ++ drop (length f) out
+  pub told : lines′ ≡ lines-of f ++ drop (length (lines-of f)) lines
+  pub accepted : would-get (mended f) ≡ none
