@@ -4,3 +4,4 @@ pub mod Bytes
 pub mod Code
 pub mod Mended
 pub mod Promised
+pub mod Worked
