@@ -36,43 +36,92 @@ fn filled(fd: i32, bytes: &[u8]) -> bool {
     closed == 0
 }
 
-// The bytes under another name beside the file's, which then takes the file's name: the file is there whole, or as it was.
+// Byte i of the name of the file beside: the name, a point, and letters that are replaced.
+fn letter(name: &[u8], i: usize) -> u8 {
+    if i < name.len() {
+        return name[i];
+    }
+    if i == name.len() {
+        return 46;
+    }
+    88
+}
+
+fn spell(name: &[u8], beside: &mut [u8]) {
+    let mut i = 0;
+    while i < beside.len() {
+        beside[i] = letter(name, i);
+        i += 1;
+    }
+}
+
+// The bytes into a new file, which takes the file's name: the file is there whole, or as it was.
+fn renamed(fd: i32, beside: &[u8], name: &[u8], bytes: &[u8]) -> bool {
+    if !filled(fd, bytes) {
+        os::unlink(beside);
+        return false;
+    }
+    if os::rename(beside, name) != 0 {
+        os::unlink(beside);
+        return false;
+    }
+    true
+}
+
+// The first bytes of a buffer; all of them where it is shorter.
+fn first(buffer: &[u8], n: usize) -> &[u8] {
+    if n > buffer.len() {
+        return buffer;
+    }
+    &buffer[..n]
+}
+
+// A new file under a name of k bytes that ends in the letters, which are replaced.
+fn created(beside: &mut [u8], k: usize) -> i32 {
+    if k > beside.len() {
+        return -1;
+    }
+    os::create_temp(&mut beside[..k])
+}
+
+// The bytes under another name beside the file's, which then takes the file's name.
 fn save(name: &[u8], bytes: &[u8]) -> bool {
     let n = name.len();
     if n > NAME_SIZE {
         return false;
     }
-    let mut beside = io::buffer();
-    let mut i = 0;
-    while i < n {
-        beside[i] = name[i];
-        i += 1;
-    }
-    beside[n] = b'.';
-    let mut k = 1;
-    while k < SUFFIX {
-        beside[n + k] = b'X';
-        k += 1;
-    }
-    let fd = os::create_temp(&mut beside[..n + SUFFIX]);
+    let k = n + SUFFIX;
+    let mut space = io::buffer();
+    let beside: &mut [u8] = &mut space;
+    spell(name, beside);
+    let fd = created(beside, k);
     if fd < 0 {
         return false;
     }
-    if !filled(fd, bytes) {
-        os::unlink(&beside[..n + SUFFIX]);
-        return false;
-    }
-    if os::rename(&beside[..n + SUFFIX], name) != 0 {
-        os::unlink(&beside[..n + SUFFIX]);
-        return false;
-    }
-    true
+    renamed(fd, first(beside, k), name, bytes)
 }
 
 fn print(text: &[u8]) {
     if !io::write_all(STDOUT_FILENO, text) {
         trouble(b"mend: the lines could not be written whole\n");
     }
+}
+
+// The line of a refusal.
+fn refuse(number: u8, cell: u16) {
+    let line = refused_line(number as u32, cell as u32);
+    let bytes = line.bytes;
+    let k = line.length;
+    print(first(&bytes, k));
+}
+
+// The file, and then the lines.
+fn hand_over(name: &[u8], file: &[u8], length: usize, lines: &[u8], told: usize) {
+    if !save(name, first(file, length)) {
+        trouble(b"mend: the file could not be written\n");
+        return;
+    }
+    print(first(lines, told));
 }
 
 fn main() {
@@ -91,16 +140,7 @@ fn main() {
     let mut out = [0u8; MOST_FILE];
     let mut lines = [0u8; LINES_SIZE];
     match mending::mend(&file[..size], &mut out, &mut lines) {
-        Mended::Refused(number, cell) => {
-            let line = refused_line(number as u32, cell as u32);
-            print(&line.bytes[..line.length]);
-        }
-        Mended::Written(length, told) => {
-            if save(&argument[..n], &out[..length]) {
-                print(&lines[..told]);
-            } else {
-                trouble(b"mend: the file could not be written\n");
-            }
-        }
+        Mended::Refused(number, cell) => refuse(number, cell),
+        Mended::Written(length, told) => hand_over(&argument[..n], &out, length, &lines, told),
     }
 }
