@@ -1,9 +1,9 @@
 -- The writer as the code does it: the questions put to columns, the parts of the file that its loops make, what its functions ask of each other. Nothing that a reader must believe stands here.
 -- Assumes nothing.
 use mathlib.Core.Path.{_≡_}
-use mathlib.Core.List.{List, [], _∷_, _++_}
+use mathlib.Core.List.{List, [], _++_}
 use mathlib.Core.Bool.{Bool, true, _&&_, cond}
-use Prim.Native.Nat.{ℕ, zero, suc, _+_, _*_, _≤_, _<_}
+use Prim.Native.Nat.{ℕ, zero, suc, _+_, _≤_, _<_}
 use lib.Dec.{T, eqb, leb}
 use lib.ListN.{length, take, drop, getD}
 use lib.Seq.{sets}

@@ -13,10 +13,11 @@ use plan::limits::OLD_WIDTH;
 use plan::limits::WIDE_MARK;
 use planfile::questions::letters_printable;
 use planfile::questions::records_refusal;
+use planfile::table::trailer;
 ghost use mathlib.Core.Path.{_≡_};
-ghost use mathlib.Core.List.{List, _∷_, []};
-ghost use mathlib.Core.Bool.{Bool, _&&_};
-ghost use Prim.Native.Nat.{ℕ, _+_, _*_, _≤_, _<_, _^_};
+ghost use mathlib.Core.List.{_∷_, []};
+ghost use mathlib.Core.Bool.{_&&_};
+ghost use Prim.Native.Nat.{_+_, _*_, _≤_, _<_};
 ghost use lib.Dec.{leb, eqb};
 ghost use lib.ListN.{length, take, drop};
 ghost use Rattle.plan.specs.Limits.{between, «most-cells», «most-file», «most-label», «old-width»};
@@ -24,7 +25,7 @@ ghost use Rattle.plan.specs.Forms.{«record-size»};
 ghost use Rattle.records.specs.Apart.{«records-in»};
 ghost use Rattle.content.specs.Clean.{«mark-of», «record-bytes», copy};
 ghost use Rattle.content.specs.laws.Clean.{two};
-ghost use Rattle.copying.specs.Copied.{Copies};
+ghost use Rattle.copying.specs.Copied.{Copies, Cleans};
 ghost use Rattle.copying.specs.Steps.{Put, Holds, Rows, Texts, Ready, «form-to», «labels-to», «records-to», «lettered-steps»};
 
 // The length of the file; or the refusal's number and cell.
@@ -345,4 +346,27 @@ pub fn copy(t: Lettered, letters: &[u8], allowance: u32, out: &mut [u8]) -> Copi
         return Copied::Refused(r.number, r.cell);
     }
     Copied::Written(write(t, letters, allowance, out))
+}
+
+// The clean copy of a plan file, into an output that is long enough: its length, or the refusal that Read gives.
+pub fn clean(file: &[u8], out: &mut [u8]) -> Copied
+    requires { ⌜ most-file ≤ length (now out) ⌝ }
+    ensures { λ r. ⌜ Cleans (now (file .entry)) (now (out .entry)) (now (out .exit)) r ⌝ }
+{
+    let plan = planfile::read(file, MOST_CELLS);
+    let refusal = plan.refusal;
+    if refusal.number != 0 {
+        return Copied::Refused(refusal.number, refusal.cell);
+    }
+    let end = trailer(file);
+    let begin = end.begin as usize;
+    let columns = plan.columns;
+    let label_length = plan.label_length;
+    let label_start = plan.label_start;
+    let t = Lettered {
+        columns,
+        label_length,
+        label_start,
+    };
+    copy(t, &file[..begin], plan.allowance as u32, out)
 }

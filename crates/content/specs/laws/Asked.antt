@@ -11,7 +11,7 @@ use Rattle.plan.specs.Forms.{widest}
 use Rattle.plan.specs.Lists.{from, some, mem}
 use Rattle.plan.specs.Plan.{Cell, Table, blank, parent, kind, W, D}
 use Rattle.plan.specs.Records.{bare, cells-of}
-use Rattle.plan.specs.Questions.{Given, no-label, parent-lower, kind-known, box-sized, label-inside, label-fits, children-allowed, level-low, rows-few, Step, each, sequence, puts, number, enough, roomy, all-roomy, in-file, on-labels, widest-in, every, holds, none, asked, or-else, at-each, ask, refusal, copy-given}
+use Rattle.plan.specs.Questions.{Given, no-label, parent-lower, kind-known, box-sized, label-inside, label-fits, children-allowed, level-low, rows-few, Step, each, sequence, puts, number, enough, roomy, all-roomy, in-file, on-labels, widest-in, every, holds, none, asked, or-else, at-each, ask, copy-given}
 use Rattle.plan.specs.Questions as calls
 use Rattle.plan.specs.Steps.{cell-refusal, tree-refusal}
 use Rattle.plan.specs.laws.Questions.{each-same}

@@ -2,11 +2,11 @@
 use mathlib.Core.Path.{_≡_, refl, sym, ap, _∙_}
 use mathlib.Core.List.{List, [], _∷_, _++_, map}
 use mathlib.Core.Bool.{Bool, true, false, _&&_, cond}
-use Prim.Native.Nat.{ℕ, zero, suc, _+_, _-_, _*_, _/_, _%_, _≤_, _<_}
+use Prim.Native.Nat.{ℕ, suc, _+_, _-_, _*_, _/_, _%_}
 use native.Mathlib.Omega.{arith}
 use native.Mathlib.Nat.{div-add-mod'}
-use lib.Dec.{T, eqb, leb, eqb→eq, leb→le}
-use lib.ListN.{length, getD, set, take, drop, replicate, length-append}
+use lib.Dec.{T, eqb, leb, eqb→eq}
+use lib.ListN.{length, getD, take, drop, length-append}
 use lib.Seq.{getD-append-add, take-append-seam, drop-at}
 use Rattle.plan.specs.Limits.{old-width, trailer-size}
 use Rattle.plan.specs.Forms.{form-of, record-size}
@@ -130,7 +130,7 @@ records-bytes-length form (r ∷ rs) = length-append (record-bytes form r) (reco
 pub entries-length : (s : ℕ) (is : List Item) → length (entries s is) ≡ length is
 unfolding entries
 entries-length s [] = refl
-entries-length s (i ∷ is) = ap suc (entries-length (s + length (i .text)) is)
+entries-length s (i ∷ is) = ap suc (entries-length _ is)
 
 -- ---- the form
 pub mark-form : (form : Form) → form-of (mark-of form) ≡ form
@@ -142,8 +142,8 @@ narrow-ranked : (s : ℕ) (is : List Item) → T (all-narrow is) → AllRanked O
 unfolding all-narrow narrow entries AllRanked Ranked record-of
 narrow-ranked s [] h = tt
 narrow-ranked s (i ∷ is) h =
-    let n = and-left (leb (i .cell .width) old-width && eqb (i .cell .rank) 0) _ h in
-    (eqb→eq (i .cell .rank) 0 (and-right (leb (i .cell .width) old-width) _ n), narrow-ranked (s + length (i .text)) is (and-right (leb (i .cell .width) old-width && eqb (i .cell .rank) 0) _ h))
+    let n : T (narrow i) = and-left (narrow i) (all-narrow is) h in
+    (eqb→eq (i .cell .rank) 0 (and-right (leb (i .cell .width) old-width) (eqb (i .cell .rank) 0) n), narrow-ranked _ is (and-right (narrow i) (all-narrow is) h))
 
 wide-ranked : (rs : List Record) → AllRanked Wide rs
 unfolding AllRanked Ranked
@@ -186,13 +186,12 @@ items-here letters pre post (i ∷ is) s e q =
     this : item-of letters (record-of i s) ≡ i
     this =
         let d : drop s letters ≡ i .text ++ (labels is ++ post) = rw e (drop-at pre _ s (sym q)) ∙ append-assoc (i .text) (labels is) post in
-        let t : take (length (i .text)) (drop s letters) ≡ i .text = rw d (take-append-seam (i .text) (labels is ++ post)) in
-        rw t refl
+        ap (λ (x : List ℕ). record { cell = i .cell; text = x }) (ap (take (length (i .text))) d ∙ take-append-seam (i .text) (labels is ++ post))
 
 pub bare-entries : (s : ℕ) (is : List Item) → cells-of (entries s is) ≡ map (λ (i : Item). i .cell) is
 unfolding entries cells-of record-of bare
 bare-entries s [] = refl
-bare-entries s (i ∷ is) = ap (λ (x : List Cell). i .cell ∷ x) (bare-entries (s + length (i .text)) is)
+bare-entries s (i ∷ is) = ap (λ (x : List Cell). i .cell ∷ x) (bare-entries _ is)
 
 -- ---- the clean copy
 module _ (c : Content) where

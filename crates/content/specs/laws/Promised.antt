@@ -1,20 +1,18 @@
 -- What the writer promises of the files that it writes. Assumes nothing.
 use mathlib.Core.Path.{_≡_, refl, sym, ap, _∙_}
-use mathlib.Core.List.{List, [], _∷_, _++_, map}
-use mathlib.Core.Bool.{Bool, true, false, _&&_, _||_}
-use Prim.Native.Nat.{ℕ, zero, suc, _+_, _-_, _*_, _≤_, _<_}
+use mathlib.Core.List.{List, [], _∷_, map}
+use Prim.Native.Nat.{ℕ, _+_, _*_, _≤_}
 use native.Mathlib.Omega.{arith}
-use lib.Dec.{T, eqb, leb, leb→le, le→leb, eqb-refl}
+use lib.Dec.{T, leb, leb→le, le→leb, eqb-refl}
 use lib.ListN.{length, take, length-map}
 use lib.Seq.{length-take-le}
-use Rattle.plan.specs.Limits.{between, most-cells, most-label, most-allowance, least-file, most-file, wide-size, trailer-size, first-letter, last-letter}
-use Rattle.plan.specs.Forms.{marked, form-of, record-size}
+use Rattle.plan.specs.Limits.{between, most-cells, most-label, most-allowance, least-file, most-file, wide-size, trailer-size}
+use Rattle.plan.specs.Forms.{marked, record-size}
 use Rattle.plan.specs.Lists.{from}
-use Rattle.plan.specs.Plan.{Cell, Table}
+use Rattle.plan.specs.Plan.{Table}
 use Rattle.plan.specs.Records.{bare, cells-of}
-use Rattle.plan.specs.Questions.{to-fill, nothing, none, read, refusal, asked, or-else, at-each, every}
+use Rattle.plan.specs.Questions.{to-fill, nothing, none, read, refusal, asked, at-each, every}
 use Rattle.plan.specs.Steps.{tree-refusal}
-use Rattle.plan.specs.laws.Form.{records-short}
 use Rattle.plan.specs.laws.Questions.{first-none, both-none, asked-yes}
 use Rattle.plan.specs.laws.Steps.{and-left, and-right}
 use Rattle.plan.specs.declared.Record.{Record}
@@ -25,10 +23,10 @@ use Rattle.planfile.specs.declared.Trailer.{Trailer}
 use Rattle.planfile.specs.Format.{trailer-of, form, entry, records-of, file-given}
 use Rattle.planfile.specs.FileSteps.{counted, header-refusal, body-refusal, file-refusal}
 use Rattle.planfile.specs.laws.File.{records-length, read-refusal}
-use Rattle.planfile.specs.laws.Examined.{Headed, Full, header-read}
-use Rattle.content.specs.Content.{Item, Content, item-of, content, letters-of, file-content}
-use Rattle.content.specs.Clean.{form-for, mark-of, labels, entries, clean, copy, file-copy, copy-refusal}
-use Rattle.content.specs.laws.Clean.{mark-form, clean-trailer, clean-length, clean-form, clean-records, clean-letters, clean-content, bare-entries}
+use Rattle.planfile.specs.laws.Examined.{header-read}
+use Rattle.content.specs.Content.{Item, Content, item-of, content, letters-of}
+use Rattle.content.specs.Clean.{form-for, mark-of, labels, entries, copy, copy-refusal}
+use Rattle.content.specs.laws.Clean.{clean-trailer, clean-length, clean-form, clean-records, clean-letters, bare-entries}
 use Rattle.content.specs.laws.Asked.{row-refusal, rows-refusal, copy-steps, copy-asks, each-row}
 use Rattle.content.specs.laws.Fine.{letter, AllFine, zero-none, asked-no, asked-zero, and-both, items-fine, entries-fine, labels-short, labels-printable, rows-widen}
 

@@ -1,5 +1,4 @@
 use borrow.Author.Tests.{lt-leb, le-leb}
-use borrow.Author.Needs.{needs}
 use Rattle.copying.proofs.counted.Statement.{statement}
 use Rattle.copying.proofs.counted.Tie as tie
 

@@ -1,6 +1,5 @@
-use Prim.Native.Nat.{_+_, _-_, _≤_}
+use Prim.Native.Nat.{_-_, _≤_}
 use native.Mathlib.Omega.{arith}
-use lib.ListN.{length, take, drop}
 use mathlib.Core.Path.{_≡_}
 use Rattle.copying.specs.laws.Put.{Laid, laid-start, laid-room, laid-more, laid-all}
 use borrow.Author.Needs.{needs}

@@ -11,7 +11,7 @@ use lib.ListN.{length, take, drop, getD, set, length-append, length-drop}
 use lib.Seq.{sets, take-suc, length-sets, getD-drop, length-take-le}
 use Rattle.plan.specs.Limits.{most-cells, most-label, old-width}
 use Rattle.plan.specs.Forms.{record-size}
-use Rattle.plan.specs.laws.Form.{next-record, no-records, records-short}
+use Rattle.plan.specs.laws.Form.{next-record, no-records}
 use Rattle.plan.specs.laws.Steps.{and-left, and-right}
 use Rattle.plan.specs.declared.forms.Form.{Form}
 use Rattle.plan.specs.declared.forms.Form.the-variants.{Old, Wide}

@@ -2,43 +2,40 @@
 use mathlib.Core.Path.{_≡_, refl, sym, ap, _∙_}
 use mathlib.Core.List.{List, [], _∷_, _++_, map}
 use mathlib.Core.Bool.{Bool, true, false, _&&_, cond}
-use Prim.Native.Nat.{ℕ, zero, suc, _+_, _-_, _*_, _≤_, _<_}
+use Prim.Native.Nat.{ℕ, zero, suc, _+_, _*_, _≤_, _<_}
 use native.Mathlib.Omega.{arith}
-use native.Mathlib.Nat.{zero-add}
-use lib.Dec.{T, eqb, leb, leb→le}
+use lib.Dec.{leb, leb→le}
 use lib.ListN.{length, take, drop, getD, length-append}
 use lib.Seq.{sets-eq, take-length}
 use borrow.Author.Tests.{eq-eqb, ne-eqb}
-use Rattle.plan.specs.Limits.{between, most-cells, most-label, most-allowance, most-file, old-width, trailer-size, first-letter, last-letter}
+use Rattle.plan.specs.Limits.{between, most-cells, most-label, most-allowance, most-file, first-letter, last-letter}
 use Rattle.plan.specs.Forms.{record-size}
 use Rattle.plan.specs.Lists.{from}
 use Rattle.plan.specs.Records.{bare, cells-of}
 use Rattle.plan.specs.Columns.{table, table-of}
 use Rattle.plan.specs.laws.Columns.{length-from}
 use Rattle.plan.specs.laws.Form.{records-short}
-use Rattle.plan.specs.Questions.{asked, or-else, at-each, every}
+use Rattle.plan.specs.Questions.{asked, at-each, every}
 use Rattle.plan.specs.Steps.{tree-refusal}
 use Rattle.plan.specs.laws.Questions.{both-none, asked-yes, each-none}
-use Rattle.plan.specs.laws.Steps.{and-left, and-right}
+use Rattle.plan.specs.laws.Steps.{and-right}
 use Rattle.plan.specs.declared.Record.{Record}
 use Rattle.plan.specs.declared.Lettered.{Lettered}
 use Rattle.plan.specs.declared.Refusal.{Refusal}
 use Rattle.plan.specs.declared.forms.Form.{Form}
 use Rattle.plan.specs.declared.forms.Form.the-variants.{Old, Wide}
-use Rattle.planfile.specs.declared.Trailer.{Trailer}
 use Rattle.planfile.specs.FileSteps.{records-at}
 use Rattle.records.specs.Apart.{row-at, records-in}
 use Rattle.records.specs.laws.Apart.{records-length}
-use Rattle.content.specs.Content.{Item, Content, text-of, item-of, content}
-use Rattle.content.specs.Clean.{narrow, all-narrow, form-for, mark-of, labels, record-of, entries, record-bytes, records-bytes, trailer-bytes, clean-end, clean, copy, copy-refusal}
-use Rattle.content.specs.laws.Clean.{two, append-assoc, append-nil, trailer-long, record-length, records-bytes-length, entries-length}
+use Rattle.content.specs.Content.{Item, text-of, item-of, content}
+use Rattle.content.specs.Clean.{narrow, all-narrow, form-for, mark-of, labels, record-of, entries, record-bytes, records-bytes, clean-end, clean, copy, copy-refusal}
+use Rattle.content.specs.laws.Clean.{two, append-assoc, append-nil, trailer-long, records-bytes-length, entries-length}
 use Rattle.content.specs.laws.Asked.{rows-refusal, copy-steps, copy-asks, each-row}
 use Rattle.content.specs.laws.Fine.{row-sound}
 use Rattle.content.specs.laws.Promised.{copy-passed, copy-small}
-use Rattle.copying.specs.declared.Copied.{Copied}
 use Rattle.copying.specs.declared.Copied.the-variants.{Written, Refused}
 use Rattle.copying.specs.Copied.{copied-of, output-after, Copies}
-use Rattle.copying.specs.Steps.{Put, narrow-to, form-to, text-at, labels-to, sum-to, row-from, records-to, Texts, Rows, Ready, lettered-steps}
+use Rattle.copying.specs.Steps.{Put, narrow-to, form-to, text-at, labels-to, sum-to, row-from, records-to, Rows, Ready, lettered-steps}
 use Rattle.copying.specs.laws.Put.{then, text-long, form-holds}
 
 -- ---- lists that grow at the end
