@@ -1,153 +1,161 @@
 #!/usr/bin/env bash
-# The program `mend` from outside: the second file, the lines, the refusals, the trouble; and that a kill at any moment leaves the
-# second file absent, as it was, or whole. Needs target/bin/mend. The gate runs it after `rt ci`.
+# The program `mend` from outside: what it prints, where, which file it writes and what it leaves behind; and that whenever it is killed,
+# the second file is absent, as it was, or whole. Needs target/bin/mend and target/bin/sheet. The gate runs it after `rt ci`.
 set -u
 cd "$(dirname "$0")/.."
 mend="$PWD/target/bin/mend"
+sheet="$PWD/target/bin/sheet"
 work="$(mktemp -d)"
 trap 'rm -rf "$work"' EXIT
 checks=0
 
-fail() {
-    printf 'tests/mend.sh: %s\n' "$1"
-    exit 1
-}
-
-# same WHAT EXPECTED GOT
 same() {
     checks=$((checks + 1))
-    [ "$2" = "$3" ] || fail "$1
-  expected: $2
-  got:      $3"
+    [ "$2" = "$3" ] && return
+    printf 'tests/mend.sh: %s\n  expected: %s\n  got:      %s\n' "$1" "$2" "$3"
+    exit 1
 }
-
-[ -x "$mend" ] || fail "$mend is not built: rt check mend"
-mkdir "$work/in" "$work/out"
+for program in "$mend" "$sheet"; do
+    [ -x "$program" ] || { echo "tests/mend.sh: $program is not built: rt check"; exit 1; }
+done
 : > "$work/empty"
 
-# ---- plans. plan W D KIND LABELS LENGTH START MARK: a run W 4 `Up`, a cell of that width, depth, kind and label, a step W 5 `Run`
-# (in octal, as printf reads it); the allowance is 0
-plan() {
-    printf 'UpARun\377\377\2\4\1\2\0\0\0\0%b%b%b%b%b\0\0\0\1\5\1\3\3\0\6\0\3\0\0\0\123%b' "$3" "$1" "$2" "$4" "$5" "$6"
+# old ROOT ONE TWO: document 01's printed example with kind, W, D and label length of each cell
+old() {
+    printf 'UpARun\377\377%b\0\0\0\0%b\2\0\0\0%b\3\0\6\0\3\0\0\0\123\124' "$1" "$2" "$3"
 }
-plan '\3' '\1' '\1' '\1' '\2' '\124' > "$work/in/accepted"
-plan '\2' '\1' '\1' '\1' '\2' '\124' > "$work/in/narrow"
-plan '\3' '\0' '\1' '\1' '\2' '\124' > "$work/in/flat"
-plan '\0' '\0' '\1' '\1' '\2' '\124' > "$work/in/both"
-plan '\3' '\20' '\1' '\1' '\2' '\124' > "$work/in/deep"
-plan '\0' '\0' '\6' '\1' '\2' '\124' > "$work/in/kind"
-plan '\3' '\1' '\1' '\51' '\2' '\124' > "$work/in/label"
-plan '\2' '\0' '\1' '\1' '\144' '\124' > "$work/in/start"
-plan '\2' '\0' '\1' '\1' '\2' '\126' > "$work/in/mark"
-head -c 15 "$work/in/accepted" > "$work/in/short"
-head -c 16385 /dev/zero > "$work/in/long"
-{ cat "$work/in/narrow"; printf 'x'; } | tail -c 38 > "$work/in/shifted"
-{ printf 'x'; cat "$work/in/narrow"; } > "$work/in/longer"
-# the wide form: the root W 4, a step of W 2 and depth 0 with rank 9, a step W 5
-printf 'UpARun\377\377\2\1\4\0\2\0\0\0\0\0\1\0\2\0\1\11\2\0\0\0\1\1\5\0\3\0\3\0\6\0\3\0\0\0\123\125' > "$work/in/wide"
-printf 'UpARun\377\377\2\1\4\0\2\0\0\0\0\0\1\1\3\0\1\11\2\0\0\0\1\1\5\0\3\0\3\0\6\0\3\0\0\0\123\125' > "$work/in/widened"
-# 16 repeats one below the other and a step W 0, all of depth 15: mended, but of 272 rows
-chain() {
-    local n=$1 i
-    printf '\377\377\3\4%b\0\0\0' "$2"
-    for ((i = 1; i < n - 1; i++)); do printf "\\$(printf %o $((i - 1)))\0\3\4%b\0\0\0" "$2"; done
-    printf "\\$(printf %o $((n - 2)))\0\1\0%b\0\0\0" "$2"
-    printf "\0\0\\$(printf %o "$n")\0\0\0\123\124"
+# wide ROOT ONE TWO: the same in the wide form: kind, D, W (two bytes), label length and rank of each
+wide() {
+    printf 'UpARun\377\377%b\0\0\0\0%b\2\0\0\0%b\3\0\6\0\3\0\0\0\123\125' "$1" "$2" "$3"
 }
-chain 17 '\17' > "$work/in/rows"
-
-# gives NAME FILE LINES: the mended file and the lines
-gives() {
-    rm -f "$work/out/"*
-    "$mend" "$work/out/file" < "$work/in/$1" > "$work/said" 2> "$work/err"
-    same "status of $1" 0 $?
-    checks=$((checks + 1))
-    cmp -s "$work/in/$2" "$work/out/file" || fail "the second file of $1"
-    same "the lines of $1" "$3" "$(cat "$work/said")"
-    same "standard error of $1" "" "$(cat "$work/err")"
-    same "files of $1" file "$(ls -A "$work/out")"
+# mends WHAT PLAN EXPECTED LINES: the program makes of PLAN the file EXPECTED, and prints LINES
+mends() {
+    rm -rf "$work/there"
+    mkdir "$work/there"
+    for before in absent there; do
+        [ "$before" = absent ] || printf 'what stood here' > "$work/there/second"
+        "$mend" "$work/there/second" < "$2" > "$work/out" 2> "$work/err"
+        same "lines, $1, second file $before" "$4" "$(cat "$work/out")"
+        same "standard error, $1" "" "$(cat "$work/err")"
+        cmp -s "$3" "$work/there/second"
+        same "the second file, $1, $before" 0 $?
+        same "what is in the folder, $1" "second" "$(ls -A "$work/there")"
+    done
 }
-gives accepted accepted ""
-gives narrow accepted "1 2 1 3 1"
-gives flat accepted "1 3 0 3 1"
-gives both accepted "1 0 0 3 1"
-gives wide widened "1 2 0 3 1"
-
-# refuses NAME NUMBER CELL: only the refusal, no second file
+# refuses WHAT PLAN NUMBER CELL: only the refusal, and the second file as it was, or absent
 refuses() {
-    rm -f "$work/out/"*
-    "$mend" "$work/out/file" < "$work/in/$1" > "$work/said" 2> "$work/err"
-    same "the refusal of $1" "refused $2 $3" "$(cat "$work/said")"
-    same "standard error of $1" "" "$(cat "$work/err")"
-    same "files of $1" "" "$(ls -A "$work/out")"
-    echo before > "$work/out/file"
-    "$mend" "$work/out/file" < "$work/in/$1" > "$work/said" 2> "$work/err"
-    same "the second file, refused $1" before "$(cat "$work/out/file")"
+    rm -rf "$work/there"
+    mkdir "$work/there"
+    for before in absent there; do
+        [ "$before" = absent ] || printf 'what stood here' > "$work/there/second"
+        "$mend" "$work/there/second" < "$2" > "$work/out" 2> "$work/err"
+        same "output, $1" "refused $3 $4" "$(cat "$work/out")"
+        same "standard error, $1" "" "$(cat "$work/err")"
+        [ "$before" = absent ] && same "the folder, $1" "" "$(ls -A "$work/there")"
+        [ "$before" = there ] && same "the second file, $1" "what stood here" "$(cat "$work/there/second")"
+    done
 }
-refuses deep 8 1
-refuses kind 7 1
-refuses label 9 1
-refuses start 9 1
-refuses rows 13 16
-refuses mark 3 0
-refuses short 2 0
-refuses long 2 0
-refuses longer 4 0
 
-# ---- a file that exists already is replaced whole
-printf 'as it was, and longer than the plan is, by many bytes' > "$work/out/file"
-"$mend" "$work/out/file" < "$work/in/narrow" > "$work/said"
-checks=$((checks + 1))
-cmp -s "$work/in/accepted" "$work/out/file" || fail "a file that existed already"
+old '\2\4\1\2' '\1\3\1\1' '\1\5\1\3' > "$work/good"
+cmp -s "$work/good" plans/printed.plan
+same "the printed example" 0 $?
+mends "accepted" "$work/good" "$work/good" ""
+for plan in plans/*.plan; do
+    mends "$plan" "$plan" "$plan" ""
+done
+old '\2\4\1\2' '\1\2\1\1' '\1\4\1\3' > "$work/narrow"
+mends "narrow boxes" "$work/narrow" "$work/good" "1 2 1 3 1
+2 4 1 5 1"
+old '\2\4\0\2' '\1\3\0\1' '\1\5\1\3' > "$work/flat"
+mends "depth 0" "$work/flat" "$work/good" "0 4 0 4 1
+1 3 0 3 1"
+old '\2\0\0\2' '\1\3\1\1' '\1\4\0\3' > "$work/both"
+mends "both" "$work/both" "$work/good" "0 0 0 4 1
+2 4 0 5 1"
+wide '\2\1\4\0\2\0' '\1\1\3\0\1\0' '\1\1\5\0\3\11' > "$work/wide-good"
+wide '\2\1\4\0\2\0' '\1\0\2\0\1\0' '\1\1\4\0\3\11' > "$work/wide-both"
+mends "the wide form" "$work/wide-both" "$work/wide-good" "1 2 0 3 1
+2 4 1 5 1"
+wide '\2\1\377\3\2\0' '\1\1\3\0\1\0' '\1\0\377\3\3\11' > "$work/wide-flat"
+wide '\2\1\377\3\2\0' '\1\1\3\0\1\0' '\1\1\377\3\3\11' > "$work/wide-1023"
+mends "a wide box of depth 0" "$work/wide-flat" "$work/wide-1023" "2 1023 0 1023 1"
+
+old '\2\4\1\2' '\1\2\20\1' '\1\5\1\3' > "$work/deep"
+refuses "depth 16" "$work/deep" 8 1
+old '\2\4\1\2' '\6\0\0\1' '\1\4\1\3' > "$work/kind"
+refuses "an unknown kind" "$work/kind" 7 1
+old '\2\4\1\2' '\1\377\1\51' '\1\4\1\3' > "$work/label"
+refuses "a label of 41" "$work/label" 9 1
+# seventeen cells in a chain, each of depth 15 but the last, of depth 0: 241 + 15 rows, and one more
+{
+    for i in $(seq 0 16); do
+        parent='\377\377'
+        [ "$i" -eq 0 ] || parent="$(printf '\\%o\\0' $((i - 1)))"
+        rest='\2\2\17\0\0\0'
+        [ "$i" -lt 16 ] || rest='\1\2\0\0\0\0'
+        printf '%b' "$parent$rest"
+    done
+    printf '\0\0\21\0\0\0\123\124'
+} > "$work/rows"
+refuses "mended, but then too many rows" "$work/rows" 13 16
+head -c 15 "$work/narrow" > "$work/two"
+refuses "15 bytes" "$work/two" 2 0
+{ cat "$work/narrow"; head -c 16347 /dev/zero; } > "$work/long"
+same "bytes of the long file" 16385 "$(wc -c < "$work/long")"
+refuses "16,385 bytes" "$work/long" 2 0
+{ head -c 36 "$work/narrow"; printf '\0\0'; } > "$work/three"
+refuses "no mark" "$work/three" 3 0
+{ head -c 32 "$work/narrow"; printf '\4'; tail -c 5 "$work/narrow"; } > "$work/four"
+refuses "four cells" "$work/four" 4 0
 
 # ---- trouble: one line on standard error, nothing on standard output, nothing left behind
-trouble() {
-    same "standard output, $1" "" "$(cat "$work/said")"
-    same "lines on standard error, $1" 1 "$(wc -l < "$work/err")"
-    same "files, $1" "" "$(ls -A "$work/out")"
+# troubles WHAT WORDS...
+troubles() {
+    what=$1
+    shift
+    rm -rf "$work/there"
+    mkdir "$work/there"
+    (cd "$work/there" && "$mend" "$@" < "$work/narrow" > "$work/out" 2> "$work/err")
+    same "output, $what" "" "$(cat "$work/out")"
+    same "lines on standard error, $what" 1 "$(wc -l < "$work/err")"
+    same "the folder, $what" "" "$(ls -A "$work/there")"
 }
-rm -f "$work/out/"*
-(cd "$work/out" && "$mend" < "$work/in/narrow" > "$work/said" 2> "$work/err")
-trouble "no argument"
-(cd "$work/out" && "$mend" a b < "$work/in/narrow" > "$work/said" 2> "$work/err")
-trouble "two arguments"
-(cd "$work/out" && "$mend" "" < "$work/in/narrow" > "$work/said" 2> "$work/err")
-trouble "an empty name"
-(cd "$work/out" && "$mend" no-folder/file < "$work/in/narrow" > "$work/said" 2> "$work/err")
-trouble "a folder that does not exist"
-(cd "$work/out" && "$mend" "$(printf 'n%.0s' {1..5000})" < "$work/in/narrow" > "$work/said" 2> "$work/err")
-trouble "a name that is too long"
-mkdir "$work/out/folder"
-"$mend" "$work/out/folder" < "$work/in/narrow" > "$work/said" 2> "$work/err"
-rmdir "$work/out/folder"
-trouble "a name that is a folder's"
-"$mend" "$work/out/file" < "$work/in/narrow" > /dev/full 2> "$work/err"
-same "lines on standard error, lines to a full device" 1 "$(wc -l < "$work/err")"
-(ulimit -f 0; trap '' XFSZ; rm -f "$work/out/"*; exec "$mend" "$work/out/file" < "$work/in/narrow" > "$work/said" 2> "$work/err.txt")
-same "files, nothing can be written" "" "$(ls -A "$work/out")"
+troubles "no argument"
+troubles "two arguments" second third
+troubles "an empty argument" ""
+troubles "a folder that does not exist" nowhere/second
+troubles "a folder" "$work"
+troubles "a name that is too long" "$(printf 'x%.0s' {1..5000})"
+mkdir "$work/shut"
+rm -rf "$work/there" && mkdir "$work/there"
+(cd "$work/there" && "$mend" second < "$work/narrow" > /dev/full 2> "$work/err")
+same "lines on standard error where the lines cannot be written" 1 "$(wc -l < "$work/err")"
 
-# ---- killed at any moment: the second file is absent, as it was, or whole
-kills=${1:-300}
-whole=0
-absent=0
-old=0
-for ((i = 0; i < kills; i++)); do
-    rm -f "$work/out/"*
-    [ $((i % 2)) -eq 0 ] || echo before > "$work/out/file"
-    (sleep "0.000$((RANDOM % 10))"; cat "$work/in/narrow") | "$mend" "$work/out/file" > "$work/said" 2> "$work/err" &
-    sleep "0.00$((RANDOM % 10))$((RANDOM % 10))"
-    kill -9 $! 2> /dev/null
-    wait $! 2> /dev/null
-    if [ ! -e "$work/out/file" ]; then
-        absent=$((absent + 1))
-        [ $((i % 2)) -eq 0 ] || fail "killed: the file that was there is gone"
-    elif cmp -s "$work/in/accepted" "$work/out/file"; then
-        whole=$((whole + 1))
-    elif [ "$(cat "$work/out/file")" = before ]; then
-        old=$((old + 1))
-    else
-        fail "killed: the second file is half there"
-    fi
-    checks=$((checks + 1))
-done
-echo "tests/mend.sh: $checks checks; of $kills kills $absent left no file, $old the old one, $whole the whole one"
+# ---- killed at any moment
+if command -v python3 > /dev/null; then
+    python3 tests/mend_killed.py "$mend" "$work/narrow" "$work/good" || exit 1
+else
+    echo "tests/mend.sh: python3 is not installed: nothing is killed"
+fi
+# at each system call in turn, where strace may do that
+if strace -o "$work/trace" -e inject=getpid:signal=KILL true 2> /dev/null; then
+    for before in absent there; do
+        for call in $(seq 1 60); do
+            rm -rf "$work/there"
+            mkdir "$work/there"
+            [ "$before" = absent ] || printf 'what stood here' > "$work/there/second"
+            strace -o "$work/trace" -e "inject=all:signal=KILL:when=$call" "$mend" "$work/there/second" < "$work/narrow" > /dev/null 2>&1
+            if [ -e "$work/there/second" ]; then
+                cmp -s "$work/good" "$work/there/second" || same "the second file, killed at call $call" "what stood here" "$(cat "$work/there/second")"
+                [ "$before" = there ] || { cmp -s "$work/good" "$work/there/second"; same "the second file is whole, killed at call $call" 0 $?; }
+            else
+                same "the second file is still there, killed at call $call" absent "$before"
+            fi
+            checks=$((checks + 1))
+            grep -q 'exited with' "$work/trace" && break
+        done
+    done
+else
+    echo "tests/mend.sh: strace is not installed, or may not trace: the program is killed at random moments only"
+fi
+echo "mend: $checks checks, no difference"

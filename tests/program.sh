@@ -1,6 +1,6 @@
 #!/usr/bin/env bash
-# The program `sheet` and the script sheet.sh from outside: what they print, where, and with which status; and what they
-# do when the output cannot be written. Needs target/bin/sheet. The gate runs it after `rt ci`.
+# The programs `sheet` and `clean` and the script sheet.sh from outside: what they print, where, and with which status; and what they
+# do when the output cannot be written. Needs target/bin/sheet and target/bin/clean. The gate runs it after `rt ci`.
 set -u
 cd "$(dirname "$0")/.."
 sheet=target/bin/sheet
@@ -25,7 +25,10 @@ same_files() {
     exit 1
 }
 
-[ -x "$sheet" ] || { echo "tests/program.sh: $sheet is not built: rt check sheet"; exit 1; }
+clean=target/bin/clean
+for program in "$sheet" "$clean"; do
+    [ -x "$program" ] || { echo "tests/program.sh: $program is not built: rt check"; exit 1; }
+done
 
 # ---- the program
 : > "$work/empty"
@@ -73,6 +76,45 @@ wide '\4\0\2\0' '\0' '\126' > "$work/no-mark.plan"
 for case in "wider 8 0" "old-mark 4 0" "no-mark 3 0" "new-mark 4 0"; do
     set -- $case
     same "the listing of the plan $1" "refused $2 $3" "$("$sheet" < "$work/$1.plan")"
+done
+
+# ---- the clean copy
+# cleans PLAN COPY: the copy of PLAN is COPY, and so is the copy of COPY
+cleans() {
+    for file in "$1" "$2"; do
+        "$clean" < "$file" > "$work/out" 2> "$work/err"
+        same_files "the clean copy of $file" "$2" "$work/out"
+        same_files "standard error of the clean copy of $file" "$work/empty" "$work/err"
+    done
+}
+cleans plans/printed.plan plans/printed.plan     # the 38 bytes of document 01
+for plan in plans/*.plan; do
+    "$clean" < "$plan" > "$work/copy"
+    cleans "$plan" "$work/copy"
+    "$sheet" < "$work/copy" > "$work/out"
+    same_files "the listing of the clean copy of $plan" "${plan%.plan}.txt" "$work/out"
+done
+# Up, A and Run with a byte that nobody uses, and A out of order: the same content, in either form
+printf 'RunUpAx\377\377\2\4\1\2\3\0\0\0\1\3\1\1\5\0\0\0\1\5\1\3\0\0\7\0\3\0\0\0\123\124' > "$work/untidy.plan"
+cleans "$work/untidy.plan" plans/printed.plan
+cleans "$work/wide.plan" plans/printed.plan     # every width fits the old form
+cleans "$work/widest.plan" "$work/widest.plan"
+cleans "$work/ranked.plan" "$work/ranked.plan"
+# a run over three steps whose labels are shared: b of cell 1 and 2; cell 3's, the last, is empty
+printf 'ab\377\377\2\4\1\2\0\0\0\0\1\3\1\1\1\0\0\0\1\3\1\1\1\0\0\0\1\3\1\0\0\0\2\0\4\0\7\0\123\124' > "$work/shared.plan"
+printf 'abbb\377\377\2\4\1\2\0\0\0\0\1\3\1\1\2\0\0\0\1\3\1\1\3\0\0\0\1\3\1\0\4\0\4\0\4\0\7\0\123\124' > "$work/unshared.plan"
+cleans "$work/shared.plan" "$work/unshared.plan"
+for case in "short 2 0" "long 2 0" "kind 7 0" "child 7 1" "wider 8 0" "old-mark 4 0" "no-mark 3 0"; do
+    set -- $case
+    "$clean" < "$work/$1.plan" > "$work/out" 2> "$work/err"
+    same "what the clean copy of the plan $1 is refused by" "refused $2 $3" "$(cat "$work/err")"
+    same_files "the clean copy of the plan $1" "$work/empty" "$work/out"
+done
+for plan in plans/full.plan plans/A.plan; do
+    "$clean" < "$plan" > /dev/full 2> "$work/err"
+    same "standard error, the clean copy of $plan to a full device" "clean: the copy could not be written whole" "$(cat "$work/err")"
+    "$clean" < "$plan" >&- 2> "$work/err"
+    same "standard error, the clean copy of $plan to a closed output" "clean: the copy could not be written whole" "$(cat "$work/err")"
 done
 
 # ---- an output that cannot be written: one line on standard error, and nothing else
@@ -160,4 +202,4 @@ same "status of a first run" 0 $got
 same "first line of what a first run says" "sheet.sh: proving the program and the crates that it stands on, once; this takes some minutes" "$(head -n 1 "$work/err")"
 same "the rest of what a first run says" "rt: plan proved (7 s)" "$(tail -n +2 "$work/err")"
 
-echo "the program and sheet.sh: $checks checks, no difference"
+echo "the programs and sheet.sh: $checks checks, no difference"

@@ -112,6 +112,21 @@ mod raw {
         pub allowance: u32,
     }
 
+    #[repr(C)]
+    pub struct CopyAnswer {
+        pub number: u8,
+        pub cell: u16,
+        pub length: usize,
+    }
+
+    #[repr(C)]
+    pub struct MendAnswer {
+        pub number: u8,
+        pub cell: u16,
+        pub length: usize,
+        pub lines: usize,
+    }
+
     extern "C" {
         pub fn kuzpalen_read(file: *const u8, file_len: usize, table: *mut Record, table_len: usize) -> ReadAnswer;
         pub fn kuzpalen_label(file: *const u8, file_len: usize, cell: usize) -> LabelPart;
@@ -147,6 +162,23 @@ mod raw {
             scratch: *mut u32,
             scratch_len: usize,
         ) -> FrameAnswer;
+        pub fn kuzpalen_copy(
+            table: *const Record,
+            table_len: usize,
+            letters: *const u8,
+            letters_len: usize,
+            allowance: u32,
+            out: *mut u8,
+            out_len: usize,
+        ) -> CopyAnswer;
+        pub fn kuzpalen_mend(
+            file: *const u8,
+            file_len: usize,
+            out: *mut u8,
+            out_len: usize,
+            text: *mut u8,
+            text_len: usize,
+        ) -> MendAnswer;
     }
 }
 
@@ -234,4 +266,30 @@ pub fn frame(table: &[Record], squares: u32, scratch: &mut [u32]) -> Result<Opti
         raw::kuzpalen_frame(table.as_ptr(), table.len(), squares, scratch.as_mut_ptr(), scratch.len())
     };
     unless(r.number, r.cell, (r.outcome == FRAME_ALLOWANCE).then_some(r.allowance))
+}
+
+/// Copy: the clean copy of a plan into the first bytes of the output, which needs room for 16,384; its length.
+pub fn copy(table: &[Record], letters: &[u8], allowance: u32, out: &mut [u8]) -> Result<usize, Refusal> {
+    // SAFETY: the pointers are good for their lengths, and no byte of the table or the letters is in the output.
+    let r = unsafe {
+        raw::kuzpalen_copy(
+            table.as_ptr(),
+            table.len(),
+            letters.as_ptr(),
+            letters.len(),
+            allowance,
+            out.as_mut_ptr(),
+            out.len(),
+        )
+    };
+    unless(r.number, r.cell, r.length)
+}
+
+/// Mend: the mended file into the first bytes of `out`, which needs room for 16,384, and a line for each altered cell into those of `text`, which needs room for 6,144; both lengths.
+pub fn mend(file: &[u8], out: &mut [u8], text: &mut [u8]) -> Result<(usize, usize), Refusal> {
+    // SAFETY: the pointers are good for their lengths, and the two that are written share nothing.
+    let r = unsafe {
+        raw::kuzpalen_mend(file.as_ptr(), file.len(), out.as_mut_ptr(), out.len(), text.as_mut_ptr(), text.len())
+    };
+    unless(r.number, r.cell, (r.length, r.lines))
 }

@@ -10,7 +10,7 @@ use bindings::Record;
 use compare::guard::Guarded;
 use reference::generate as make;
 use reference::rng::Rng;
-use reference::{Cell, Form, Refusal, FORMS, LISTING, MAX_CELLS, MAX_COORDINATE, MAX_WIDTH, SCRATCH};
+use reference::{Cell, Form, Refusal, COPY, FORMS, LINES, LISTING, MAX_CELLS, MAX_COORDINATE, MAX_WIDTH, MENDED, SCRATCH};
 use std::collections::BTreeMap;
 use std::mem::size_of;
 use std::process::exit;
@@ -48,6 +48,7 @@ struct Rooms {
     positions: Guarded,
     scratch: Guarded,
     out: Guarded,
+    lines: Guarded,
 }
 
 struct Run {
@@ -300,7 +301,119 @@ impl Run {
         self.count("Frame", answer);
     }
 
-    /// A file of either form, valid or damaged, through Read, Label and List.
+    /// Copy of a table with its label bytes; the clean copy, where there is one.
+    fn copy(&mut self, rng: &mut Rng, cells: &[Cell], letters: &[u8], allowance: u32) -> Option<Vec<u8>> {
+        let room = match rng.index(40) {
+            0 => rng.pick(&[0, 1, COPY - 1]),
+            1 => rng.index(COPY),
+            2..=20 => COPY,
+            _ => COPY + 1 + rng.index(100),
+        };
+        let mut theirs = vec![rng.next() as u8; room];
+        let at_end = rng.once_in(2);
+        let table = self.rooms.table.lend(&records(cells), at_end);
+        let lent = self.rooms.file.lend(letters, at_end);
+        let ours = self.rooms.out.lend(&theirs, at_end);
+        let got = bindings::copy(table, lent, allowance, ours).map_err(|r| Refusal { number: r.number as u32, cell: r.cell as u32 });
+        let (table, lent, ours) = (table.to_vec(), lent.to_vec(), ours.to_vec());
+        let expected = reference::copy(cells, letters, allowance, &mut theirs);
+        let input = (allowance, room, letters, cells);
+        self.same("Copy's answer", &got, &expected, &input);
+        self.same("the output after Copy", &ours, &theirs, &input);
+        self.same("the buffers lent to Copy", &(lent.as_slice(), table), &(letters, records(cells)), &input);
+        self.note_widths("Copy", cells, &expected);
+        if expected.is_ok() {
+            self.note_ranks("Copy", cells, "copied");
+            let used: usize = cells.iter().map(|c| c.label_len as usize).sum();
+            for (what, is) in [
+                ("labels shared", used > letters.len()),
+                ("bytes unused", used < letters.len()),
+                ("more letters than a file has", letters.len() > COPY),
+                ("an empty label last", cells.last().is_some_and(|c| c.label_len == 0)),
+            ] {
+                if is {
+                    self.note("Copy", what);
+                }
+            }
+        }
+        let answer = expected.map_or_else(|r| named(&Err(r)), |_| format!("{:?} copied", reference::clean_form(cells)));
+        self.count("Copy", answer);
+        expected.ok().map(|length| theirs[..length].to_vec())
+    }
+
+    /// The clean copy of an accepted file: Read takes it with the same content, it is its own copy, and a file of the same content, arranged otherwise, has the same.
+    fn copies(&mut self, rng: &mut Rng, file: &[u8]) {
+        let (cells, letters, allowance) = parts_of(file);
+        let Some(clean) = self.copy(rng, &cells, letters, allowance) else { return };
+        self.read(rng, &clean);
+        let (again, text, after) = parts_of(&clean);
+        let said = reference::content(&cells, letters, allowance);
+        self.same("the content of a copy", &reference::content(&again, text, after), &said, &file);
+        if let Some(twice) = self.copy(rng, &again, text, after) {
+            self.same("the copy of a copy", &twice, &clean, &file);
+            self.note("Copy", "of a copy");
+        }
+        let mut other = cells.clone();
+        let moved = make::rearrange(rng, letters, &mut other);
+        let form = if reference::clean_form(&other) == Form::Old { rng.pick(&FORMS) } else { Form::Wide };
+        let like = make::file(form, &moved, &other, allowance as u16);
+        self.read(rng, &like);
+        let (cells, letters, allowance) = parts_of(&like);
+        if let Some(same) = self.copy(rng, &cells, letters, allowance) {
+            self.same("the copy of a file with the same content", &same, &clean, &(file, like));
+            self.note("Copy", "of the same content");
+        }
+    }
+
+    /// Mend of a file: the mended one and its lines, and that twice is once.
+    fn mend(&mut self, rng: &mut Rng, file: &[u8]) {
+        let room = |rng: &mut Rng, needed: usize| match rng.index(60) {
+            0 => rng.pick(&[0, 1, needed - 1]),
+            1 => rng.index(needed),
+            2..=30 => needed,
+            _ => needed + 1 + rng.index(100),
+        };
+        let (files, texts) = (room(rng, MENDED), room(rng, LINES));
+        let (mut theirs, mut their_lines) = (vec![rng.next() as u8; files], vec![rng.next() as u8; texts]);
+        let at_end = rng.once_in(2);
+        let lent = self.rooms.file.lend(file, at_end);
+        let ours = self.rooms.out.lend(&theirs, at_end);
+        let our_lines = self.rooms.lines.lend(&their_lines, at_end);
+        let got = bindings::mend(lent, ours, our_lines).map_err(|r| Refusal { number: r.number as u32, cell: r.cell as u32 });
+        let (lent, ours, our_lines) = (lent.to_vec(), ours.to_vec(), our_lines.to_vec());
+        let expected = reference::mend(file, &mut theirs, &mut their_lines);
+        let input = (files, texts, file);
+        self.same("Mend's answer", &got, &expected, &input);
+        self.same("the output after Mend", &ours, &theirs, &input);
+        self.same("the lines after Mend", &our_lines, &their_lines, &input);
+        self.same("the file after Mend", &lent.as_slice(), &file, &input);
+        let all = reference::mended(file).1;
+        let answer = match expected {
+            Ok((length, lines)) => {
+                let again = reference::mend(&theirs[..length], &mut vec![0; MENDED], &mut vec![0; LINES]);
+                self.same("Mend of a mended file", &again, &Ok((length, 0)), &input);
+                for a in all {
+                    let what = match (a.old.0 != a.new.0, a.old.1 != a.new.1) {
+                        (true, true) => "both raised",
+                        (true, false) => "width raised",
+                        _ => "depth raised",
+                    };
+                    self.note("Mend", of_form(file, what));
+                }
+                of_form(file, if lines == 0 { "accepted as it is" } else { "mended" })
+            }
+            Err(r) => {
+                let answer = of_form(file, &named(&Err(r)));
+                if !all.is_empty() && r.number != 1 {
+                    self.note("Mend", format!("mended, then {answer}"));
+                }
+                answer
+            }
+        };
+        self.count("Mend", answer);
+    }
+
+    /// A file of either form, valid or damaged, through Read, Label, List, Copy and Mend.
     fn a_file(&mut self, rng: &mut Rng) {
         let form = rng.pick(&FORMS);
         let mut cells = if rng.once_in(10) { make::too_tall(rng) } else { some_table(rng) };
@@ -308,6 +421,17 @@ impl Run {
         let labels = make::labels(rng, &mut cells);
         if rng.once_in(3) {
             make::damage_table(rng, &mut cells);
+        }
+        if rng.once_in(4) {
+            self.copy_of_any(rng, &cells, &labels);
+        }
+        if rng.once_in(4) {
+            let mut tight = cells.clone();
+            if !tight.is_empty() {
+                make::cramp(rng, &mut tight);
+            }
+            let cramped = make::file(form, &labels, &tight, rng.next() as u16);
+            self.mend(rng, &cramped);
         }
         let mut file = make::file(form, &labels, &cells, rng.next() as u16);
         let mut mixed = false;
@@ -347,6 +471,28 @@ impl Run {
         }
         self.labels(rng, &file);
         self.list(rng, &file);
+        if rng.once_in(4) {
+            self.mend(rng, &file);
+        }
+        if reference::read(&file, &mut [Cell::default(); MAX_CELLS]).is_ok() && rng.once_in(4) {
+            self.copies(rng, &file);
+        }
+    }
+
+    /// Copy of a table that may be damaged, with label bytes that may be, under any allowance.
+    fn copy_of_any(&mut self, rng: &mut Rng, cells: &[Cell], labels: &[u8]) {
+        let (mut cells, mut letters) = (cells.to_vec(), labels.to_vec());
+        match rng.index(12) {
+            0 if !letters.is_empty() => {
+                let i = rng.index(letters.len());
+                letters[i] = rng.pick(&[31, 32, 126, 127, 0, 255]);
+            }
+            1 => letters.resize(rng.pick(&[0, COPY, COPY + 1, 19_000]), b'~'),
+            2 => cells.resize(255 + rng.index(4), Cell { parent: 0, kind: 1, width: 1, depth: 1, ..Cell::default() }),
+            _ => {}
+        }
+        let allowance = if rng.once_in(10) { rng.pick(&[65_535, 65_536, 100_000, u32::MAX]) } else { make::allowance(rng) };
+        self.copy(rng, &cells, &letters, allowance);
     }
 
     /// A table, valid or damaged, through Layout, Check, Ends and Frame.
@@ -438,6 +584,15 @@ fn is_too_wide(file: &[u8], cell: usize) -> bool {
     record[4] as u16 + 256 * record[5] as u16 == MAX_WIDTH + 1
 }
 
+/// The table, the label bytes and the allowance of a file that Read accepts.
+fn parts_of(file: &[u8]) -> (Vec<Cell>, &[u8], u32) {
+    let mut table = vec![Cell::default(); MAX_CELLS];
+    let (n, allowance) = reference::read(file, &mut table).expect("a file that is accepted");
+    table.truncate(n as usize);
+    let trailer = &file[file.len() - 8..];
+    (table, &file[..trailer[0] as usize + 256 * trailer[1] as usize], allowance)
+}
+
 fn named(r: &Result<(), Refusal>) -> String {
     match r {
         Ok(()) => "accepted".into(),
@@ -470,7 +625,7 @@ fn some_table(rng: &mut Rng) -> Vec<Cell> {
 /// The answers that each call can give: all must have been seen in a long run.
 fn unseen(seen: &Seen) -> Vec<String> {
     let mut all: Vec<(&str, String)> = Vec::new();
-    let refusals: [(&str, &[u32]); 7] = [
+    let refusals: [(&str, &[u32]); 9] = [
         ("Read", &[1, 2, 3]),
         ("Label", &[2, 3]),
         ("Layout", &[1, 4, 6, 7, 8, 11, 12, 13, 14]),
@@ -478,6 +633,8 @@ fn unseen(seen: &Seen) -> Vec<String> {
         ("Ends", &[1, 4, 6, 7, 8, 11, 12, 13, 15, 16]),
         ("List", &[1]),
         ("Frame", &[1, 4, 6, 7, 8, 11, 12, 13, 19]),
+        ("Copy", &[1, 4, 5, 6, 7, 8, 9, 10, 11, 12, 13, 14]),
+        ("Mend", &[1, 2, 3]),
     ];
     for (call, numbers) in refusals {
         all.extend(numbers.iter().map(|n| (call, format!("refused {n:2}"))));
@@ -489,20 +646,26 @@ fn unseen(seen: &Seen) -> Vec<String> {
         all.extend((4..=13).map(|n| ("Read", format!("{form:?} refused {n:2}"))));
         all.extend((4..=13).chain([16]).map(|n| ("Label", format!("{form:?} refused {n:2}"))));
         all.push(("List", format!("{form:?} prints sheet")));
+        all.push(("Copy", format!("{form:?} copied")));
+        all.extend(["accepted as it is", "mended", "width raised", "depth raised", "both raised"].map(|a| ("Mend", format!("{form:?} {a}"))));
+        // 10 is never left: a label of at most 40 bytes gets the width that it needs, and a longer one is refused by 9.
+        all.extend([4, 5, 6, 7, 8, 9, 11, 12, 13].map(|n| ("Mend", format!("{form:?} refused {n:2}"))));
+        all.extend([7, 8, 9, 13].map(|n| ("Mend", format!("mended, then {form:?} refused {n:2}"))));
         all.extend((4..=13).map(|n| ("List", format!("{form:?} prints {n:>4}"))));
     }
     all.push(("Check", "kept".into()));
     all.extend((1..=5).map(|s| ("Check", format!("broken S{s}"))));
     all.extend(["0", "more than 0", "none"].map(|a| ("Frame", a.into())));
     all.extend([("Layout", "choice laid"), ("Check", "choice kept"), ("Check", "choice S2"), ("Layout", "near widest")].map(|(c, a)| (c, a.into())));
-    for call in ["Read", "Layout", "Check", "Ends", "Frame"] {
+    all.extend(["labels shared", "bytes unused", "more letters than a file has", "an empty label last", "of a copy", "of the same content"].map(|a| ("Copy", a.into())));
+    for call in ["Read", "Layout", "Check", "Ends", "Frame", "Copy"] {
         all.extend([255, 256, 1_023, 1_024].map(|w| (call, format!("width {w}"))));
     }
     for call in ["Check", "Ends"] {
         all.extend([262_143, 262_144, -262_143, -262_144].map(|x| (call, format!("at {x}"))));
     }
     for ranks in ["moved", "turned", "tied"] {
-        all.extend([("Read", "read"), ("Layout", "laid"), ("Frame", "framed")].map(|(c, a)| (c, format!("ranks {ranks} {a}"))));
+        all.extend([("Read", "read"), ("Layout", "laid"), ("Frame", "framed"), ("Copy", "copied")].map(|(c, a)| (c, format!("ranks {ranks} {a}"))));
         all.extend(["kept", "broken S1", "broken S2", "broken S3"].map(|a| ("Check", format!("ranks {ranks} {a}"))));
     }
     all.extend([4, 5].map(|s| ("Check", format!("ranks moved broken S{s}"))));
@@ -522,6 +685,7 @@ fn main() {
         positions: Guarded::new(4 * 1_000),
         scratch: Guarded::new(4 * (SCRATCH + 200)),
         out: Guarded::new(LISTING + 200),
+        lines: Guarded::new(LINES + 200),
     };
     let mut run = Run { seed, number: 0, seen: Seen::new(), calls: 0, rooms };
     for number in first..first + inputs {

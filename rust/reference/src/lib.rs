@@ -4,18 +4,22 @@
 //!
 //! The words are the document's: father, son, brother, sub-diagram, foot, plumb line.
 
+mod copy;
 mod frame;
 pub mod generate;
 mod layout;
 mod listing;
+mod mend;
 mod plan;
 mod plan_file;
 pub mod rng;
 mod rules;
 
+pub use copy::{clean_form, content, copy, Content, COPY};
 pub use frame::frame;
 pub use layout::{distances_by_pairs, distances_by_paths, layout, place, SCRATCH};
 pub use listing::{list, listing, LISTING};
+pub use mend::{lines, mend, mended, Altered, LINES, MENDED};
 pub use plan::{Cell, Plan, Refusal, MAX_CELLS, MAX_WIDTH, ROOT};
 pub use plan_file::{label, label_refusal, read, Form, FORMS};
 pub use rules::{check, ends, measure, Ends, Measure, Verdict, MAX_COORDINATE};
