@@ -77,7 +77,8 @@ fn copy(file: &[u8], out: &mut [u8])
 fn changed(r: Record) -> bool
     ensures { λ b. ⌜ b ≡ changed r ⌝ }
 {
-    boxes::cramped(r.kind, r.label_length, r.width) | boxes::shallow(r.kind, r.label_length, r.depth)
+    boxes::cramped(r.kind, r.label_length, r.width)
+        | boxes::shallow(r.kind, r.label_length, r.depth)
 }
 
 // A number of two bytes, and one of one byte, for a line.

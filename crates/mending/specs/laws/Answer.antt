@@ -59,9 +59,9 @@ module _ (f out out′ lines lines′ : List ℕ) (r : Mended) (m : Mends f out 
   same z a b =
       let (s, t) = mend-keeps f (ap (λ (x : Refusal). x .number) (sym (would-get-is f) ∙ z)) in
       let w : why ≡ none =
-          file.mend-refusal (mended f) (length out) (length lines)
-          ∙ rw (le-leb most-file (length out) a, le-leb lines-size (length lines) b) (none-first (file-refusal (mended f)))
-          ∙ sym (would-get-is (mended f)) ∙ ap would-get s ∙ z in
+      file.mend-refusal (mended f) (length out) (length lines)
+      ∙ rw (le-leb most-file (length out) a, le-leb lines-size (length lines) b) (none-first (file-refusal (mended f)))
+      ∙ sym (would-get-is (mended f)) ∙ ap would-get s ∙ z in
       let g = gives w in
       let l : lines-of f ≡ [] = rw t refl in
       let e : r ≡ Written (length f) (length (lines-of f)) = g .answers in
