@@ -10,6 +10,8 @@ use Rattle.plan.specs.Questions.{none}
 use Rattle.planfile.specs.Format.{entry}
 use Rattle.mending.specs.Boxes.{new-width, new-depth}
 use Rattle.mending.specs.Mended.{would-get, looked-at, mended, altered-cells, altered, OnlyBoxes, altered-by}
+use Rattle.mending.specs.Worked.{Rows}
+use Rattle.mending.specs.laws.Worked as rows
 use Rattle.mending.specs.laws.Promised as promised
 
 -- "alters no other byte"
@@ -43,3 +45,7 @@ mend-fewest = promised.mend-fewest
 -- a file mended once needs no more
 pub mend-again : (f : List ℕ) → (mended (mended f) ≡ mended f) × (altered (mended f) ≡ [])
 mend-again = promised.mend-again
+
+-- worked mendings, of files and of boxes
+pub mend-worked : Rows
+mend-worked = rows.worked

@@ -1,7 +1,6 @@
 -- The lines as the code writes them, cell by cell. Nothing that a reader must believe stands here. Assumes nothing.
-use mathlib.Core.Path.{_≡_}
-use mathlib.Core.Bool.{true, cond}
-use mathlib.Core.List.{List, [], _++_}
+use mathlib.Core.Bool.{cond}
+use mathlib.Core.List.{[], _++_}
 use Prim.Native.Nat.{ℕ, zero, suc}
 use Rattle.plan.specs.declared.Record.{Record}
 use Rattle.listing.specs.Printed.{Bytes}

@@ -4,9 +4,6 @@ use lib.Seq.{length-take-le}
 use borrow.Author.Needs.{needs}
 use Rattle.mend.proofs.created.Statement.{statement}
 use Rattle.mend.proofs.created.Tie as tie
-use Rattle.mend.proofs.created.Reads as reads
-use Rattle.mend.proofs.created.Lts as lts
-use Rattle.os.proofs.create_temp.Reads as create-temp-reads
 
 -- src/main.rt:91:9
 returns : tie.Need-returns

@@ -4,8 +4,6 @@ use lib.Seq.{length-take-le}
 use borrow.Author.Needs.{needs}
 use Rattle.mend.proofs.first.Statement.{statement}
 use Rattle.mend.proofs.first.Tie as tie
-use Rattle.mend.proofs.first.Reads as reads
-use Rattle.mend.proofs.first.Lts as lts
 
 -- src/main.rt:113:9
 returns : tie.Need-returns

@@ -5,9 +5,6 @@ use lib.ListN.{length, length-set}
 use borrow.Author.Needs.{needs}
 use Rattle.mend.proofs.spell.Statement.{statement}
 use Rattle.mend.proofs.spell.Tie as tie
-use Rattle.mend.proofs.spell.Reads as reads
-use Rattle.mend.proofs.spell.Lts as lts
-use Rattle.mend.proofs.letter.Reads as letter-reads
 
 abbrev Inv-loop : tie.InvT-loop
 Inv-loop name beside₀ i₀ beside i = (i ≤ length beside₀) × (length beside ≡ length beside₀)

@@ -1,11 +1,10 @@
-use Prim.Native.Nat.{_+_, _-_, _*_, _≤_}
-use mathlib.Core.Path.{_≡_, refl, sym, ap, _∙_}
+use Prim.Native.Nat.{_+_, _-_, _≤_}
+use mathlib.Core.Path.{_≡_, refl}
 use native.Mathlib.Omega.{arith}
 use lib.ListN.{length, take, length-set}
 use Rattle.listing.specs.Put.{Put}
 use Rattle.listing.specs.laws.Put.{put-start, put-all}
 use Rattle.mending.specs.laws.Code.{put-next, put-whole}
-use borrow.Author.Needs.{needs}
 use Rattle.mending.proofs.copy.Statement.{statement}
 use Rattle.mending.proofs.copy.Tie as tie
 

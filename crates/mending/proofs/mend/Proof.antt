@@ -1,4 +1,4 @@
-use mathlib.Core.Path.{_≡_, refl, sym, ap, _∙_}
+use mathlib.Core.Path.{sym, _∙_}
 use lib.ListN.{length}
 use Rattle.mending.specs.laws.Code.{refused-short, refused-early, short-output, short-lines, let-on}
 use borrow.Author.Needs.{needs}

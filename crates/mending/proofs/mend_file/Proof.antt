@@ -1,6 +1,5 @@
-use mathlib.Core.Path.{_≡_, refl, sym, ap, _∙_}
+use mathlib.Core.Path.{sym}
 use native.Mathlib.Omega.{arith}
-use lib.ListN.{length, length-replicate, length-append}
 use lib.Seq.{length-take-le}
 use Rattle.mending.specs.laws.Code.{size-fits, trailer-there, records-there, copy-taken, mended-length, refused-mended, read-refused, lines-whole, written}
 use borrow.Author.Needs.{needs}

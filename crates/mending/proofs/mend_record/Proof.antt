@@ -1,4 +1,3 @@
-use mathlib.Core.Path.{_≡_, refl, sym, ap, _∙_}
 use Rattle.mending.specs.laws.Code.{record-mended}
 use borrow.Author.Needs.{needs}
 use Rattle.mending.proofs.mend_record.Statement.{statement}

@@ -1,11 +1,10 @@
 use Prim.Native.Nat.{_+_, _-_, _*_, _≤_}
-use mathlib.Core.Path.{_≡_, refl, sym, ap, _∙_}
+use mathlib.Core.Path.{_≡_}
 use native.Mathlib.Omega.{arith}
 use Rattle.plan.specs.Forms.{record-size}
 use Rattle.planfile.specs.Format.{record-at}
 use Rattle.mending.specs.Mended.{mend-records}
 use Rattle.mending.specs.laws.Code.{place-room, mends-start, mends-next, mends-as-long, mends-end}
-use borrow.Author.Needs.{needs}
 use Rattle.mending.proofs.mend_records.Statement.{statement}
 use Rattle.mending.proofs.mend_records.Tie as tie
 

@@ -1,4 +1,4 @@
-use mathlib.Core.Path.{_≡_, refl, sym, ap, _∙_}
+use mathlib.Core.Path.{sym, _∙_}
 use native.Mathlib.Omega.{arith}
 use Rattle.mending.specs.laws.Code.{line-fits, line-put, no-line-put}
 use borrow.Author.Needs.{needs}

@@ -1,7 +1,6 @@
-use mathlib.Core.Path.{_≡_, refl, sym, ap, _∙_}
+use mathlib.Core.Path.{ap, _∙_}
 use native.Mathlib.Omega.{arith}
 use Rattle.planfile.specs.Format.{record-at}
-use borrow.Author.Needs.{needs}
 use Rattle.mending.proofs.record_of.Statement.{statement}
 use Rattle.mending.proofs.record_of.Tie as tie
 

@@ -3,7 +3,6 @@ use mathlib.Core.Path.{_≡_, refl, sym, ap, _∙_}
 use mathlib.Core.Bool.{_&&_}
 use mathlib.Core.List.{List, [], _++_}
 use Prim.Native.Nat.{ℕ, _≤_}
-use native.Mathlib.Omega.{arith}
 use lib.Dec.{leb}
 use lib.ListN.{length, drop}
 use borrow.Author.Tests.{ne-eqb, le-leb}
@@ -15,7 +14,7 @@ use Rattle.plan.specs.declared.Refusal.{Refusal}
 use Rattle.planfile.specs.FileSteps.{file-refusal}
 use Rattle.planfile.specs.laws.File as file
 use Rattle.listing.specs.Printed.{lines-joined}
-use Rattle.mending.specs.Mended.{would-get, mended, altered}
+use Rattle.mending.specs.Mended.{would-get, mended}
 use Rattle.mending.specs.Mending.{mend-given, mend-refusal, lines-of, mended-of, file-after, lines-after, Mends, MendGives}
 use Rattle.mending.specs.declared.Mended.{Mended}
 use Rattle.mending.specs.declared.Mended.the-variants.{Written, Refused}

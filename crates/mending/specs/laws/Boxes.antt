@@ -1,12 +1,12 @@
 -- Which boxes are mended, and to what: laws of specs/Boxes.antt. Assumes nothing.
-use mathlib.Core.Path.{_≡_, refl, sym, ap, _∙_}
+use mathlib.Core.Path.{_≡_, refl}
 use mathlib.Core.Bool.{Bool, true, false, _&&_, _||_, not, cond}
 use Prim.Native.Nat.{ℕ, zero, suc, _+_, _≤_, _<_}
 use native.Mathlib.Omega.{arith}
-use lib.Dec.{T, eqb, leb, ltb, leb→le}
+use lib.Dec.{T, eqb, leb, leb→le}
 use Rattle.whole.specs.Says.{Says}
 use Rattle.whole.specs.laws.Says.{both, says-le, says-lt, says-eq, is-true, is-false, holds, itself}
-use Rattle.plan.specs.Limits.{most-label, most-depth}
+use Rattle.plan.specs.Limits.{most-label}
 use Rattle.plan.specs.Forms.{widest}
 use Rattle.plan.specs.Kinds.{about, known, bordered}
 use Rattle.plan.specs.Questions.{asked}
@@ -56,14 +56,6 @@ mendable-short k n h = both (itself (known k)) (says-le n most-label) .read h .1
 pub record Sound (r : Record) : Type 0 where
   pub wide : narrow r ≡ false
   pub deep : flat r ≡ false
-
-pub sound-width : (r : Record) → Sound r → new-width r ≡ r .width
-unfolding new-width
-sound-width r s = rw (s .wide)
-
-pub sound-depth : (r : Record) → Sound r → new-depth r ≡ r .depth
-unfolding new-depth
-sound-depth r s = rw (s .deep)
 
 pub sound-unchanged : (r : Record) → Sound r → changed r ≡ false
 unfolding changed

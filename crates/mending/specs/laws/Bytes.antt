@@ -5,7 +5,7 @@ use mathlib.Core.List.{List}
 use mathlib.Core.Bool.{Bool, true, false, cond}
 use Prim.Native.Nat.{ℕ, zero, suc, _+_, _*_, _/_, _%_, _≤_, _<_}
 use native.Mathlib.Omega.{arith}
-use native.Mathlib.Decide.{ℕ-discrete, decLt}
+use native.Mathlib.Decide.{ℕ-discrete}
 use lib.ListN.{length, getD, set, length-set}
 use lib.Seq.{getD-set-same, getD-set-other}
 use Rattle.plan.specs.Forms.{record-size}
@@ -14,7 +14,7 @@ use Rattle.plan.specs.declared.forms.Form.{Form}
 use Rattle.plan.specs.declared.forms.Form.the-variants.{Old, Wide}
 use Rattle.planfile.specs.Fields.{Place, nowhere, byte, two, pair, set-pair, number-at, set-number, parent-place, kind-place, width-place, depth-place, length-place, rank-place, start-place}
 use Rattle.planfile.specs.Format.{record-at}
-use Rattle.mending.specs.Boxes.{least-width, narrow, flat, new-width, new-depth, changed}
+use Rattle.mending.specs.Boxes.{least-width, narrow, flat, new-width, new-depth}
 use Rattle.mending.specs.Mended.{raise-width, raise-depth, mend-record, mend-records, Beside, Off}
 use Rattle.mending.specs.laws.Boxes.{Sound, mended-record}
 

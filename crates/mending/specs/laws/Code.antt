@@ -3,20 +3,20 @@ use mathlib.Core.Path.{_≡_, refl, sym, ap, _∙_}
 use mathlib.Core.Logic.{_⊎_, inl, inr}
 use mathlib.Core.Bool.{Bool, true, false, _&&_, not, cond}
 use mathlib.Core.List.{List, [], _∷_, _++_, map, append-nil}
-use Prim.Native.Nat.{ℕ, zero, suc, _+_, _-_, _*_, _^_, _≤_, _<_}
+use Prim.Native.Nat.{ℕ, zero, suc, _+_, _-_, _*_, _≤_, _<_}
 use native.Mathlib.Omega.{arith}
 use native.Mathlib.Decide.{ℕ-discrete}
-use lib.Dec.{T, eqb, leb, leb→le}
-use lib.ListN.{length, getD, take, drop, set, replicate, length-append, length-replicate}
-use lib.Seq.{sets, sets-eq, take-append-seam, drop-append-seam}
+use lib.Dec.{T, leb, leb→le}
+use lib.ListN.{length, getD, take, drop, set, replicate, length-append}
+use lib.Seq.{sets-eq, take-append-seam, drop-append-seam}
 use borrow.Author.Tests.{eq-eqb, ne-eqb, lt-leb, le-leb}
-use Rattle.whole.specs.laws.Says.{both, says-le, holds, is-true}
-use Rattle.plan.specs.Limits.{between, most-cells, most-file, most-label, least-file, lines-size, trailer-size}
+use Rattle.whole.specs.laws.Says.{both, says-le, holds}
+use Rattle.plan.specs.Limits.{between, most-cells, most-file, least-file, lines-size, trailer-size}
 use Rattle.plan.specs.Forms.{form-of, record-size}
 use Rattle.plan.specs.laws.Form.{record-inside}
 use Rattle.plan.specs.Lists.{from, keep}
-use Rattle.plan.specs.Questions.{none, asked, or-else, to-fill, nothing, mend, refusal}
-use Rattle.plan.specs.laws.Questions.{first-none, first-some}
+use Rattle.plan.specs.Questions.{asked, or-else}
+use Rattle.plan.specs.laws.Questions.{first-some}
 use Rattle.plan.specs.laws.Kept.{none-first}
 use Rattle.plan.specs.Kinds.{about}
 use Rattle.plan.specs.declared.Record.{Record}
@@ -25,16 +25,16 @@ use Rattle.plan.specs.declared.forms.Form.{Form}
 use Rattle.plan.specs.declared.forms.Form.the-variants.{Old, Wide}
 use Rattle.plan.specs.declared.kinds.Kind.{Kind}
 use Rattle.plan.specs.declared.kinds.Lookup.{Lookup}
-use Rattle.plan.specs.declared.kinds.Lookup.the-variants.{Known, Unknown}
+use Rattle.plan.specs.declared.kinds.Lookup.the-variants.{Known}
 use Rattle.planfile.specs.declared.Reading.{Reading}
 use Rattle.planfile.specs.declared.Trailer.{Trailer}
 use Rattle.planfile.specs.Fields.{set-number, width-place, depth-place}
-use Rattle.planfile.specs.Format.{trailer-of, form, record-at, entry, file-given}
+use Rattle.planfile.specs.Format.{trailer-of, form, record-at, entry}
 use Rattle.planfile.specs.Reading.{columns-of, reading-of}
 use Rattle.planfile.specs.FileSteps.{file-refusal}
 use Rattle.planfile.specs.laws.File as file
 use Rattle.planfile.specs.laws.Examined.{Full}
-use Rattle.listing.specs.Printed.{Bytes, decimal, mended-line, lines-joined}
+use Rattle.listing.specs.Printed.{Bytes, mended-line, lines-joined}
 use Rattle.listing.specs.laws.Printed.{at-most}
 use Rattle.listing.specs.Line.{line-of, text}
 use Rattle.listing.specs.laws.Line.{mended-line-is, line-text, joined-append}
@@ -45,7 +45,6 @@ use Rattle.mending.specs.Boxes.{least-width, narrow, flat, new-width, ne
 use Rattle.mending.specs.Mended.{raise-width, raise-depth, mend-record, mend-records, would-get, looked-at, mended, alteration, altered-cells, altered}
 use Rattle.mending.specs.Mending.{mend-given, mend-refusal, alteration-line, lines-of, mended-of, file-after, lines-after, file-size, lines-length, Mends}
 use Rattle.mending.specs.Steps.{line-room, alteration-text, alterations-text}
-use Rattle.mending.specs.declared.Mended.{Mended}
 use Rattle.mending.specs.declared.Mended.the-variants.{Written, Refused}
 use Rattle.mending.specs.laws.Boxes.{least-small, says-cramped, mendable-short}
 use Rattle.mending.specs.laws.Bytes.{mends-length}

@@ -1,35 +1,32 @@
 -- What is promised of a mended file: proofs of specs/Promised.antt. Assumes nothing.
 use mathlib.Core.Path.{_≡_, refl, sym, ap, _∙_}
-use mathlib.Core.Logic.{_≢_}
-use mathlib.Core.List.{List, [], _∷_, map}
+use mathlib.Core.List.{List, [], _∷_}
 use mathlib.Core.Bool.{Bool, true, false, _&&_, not, cond}
 use Prim.Native.Nat.{ℕ, zero, suc, _+_, _-_, _*_, _≤_, _<_}
 use native.Mathlib.Omega.{arith}
 use native.Mathlib.Decide.{ℕ-discrete}
-use lib.Dec.{T, eqb, leb, eqb→eq}
+use lib.Dec.{T, eqb, eqb→eq}
 use lib.ListN.{length, getD, length-map}
-use Rattle.whole.specs.Says.{Says}
-use Rattle.whole.specs.laws.Says.{both, says-le, says-eq, is-true, is-false, holds, itself}
-use Rattle.plan.specs.Limits.{between, least-file, most-file, most-cells, most-allowance, first-letter, last-letter, trailer-size}
-use Rattle.plan.specs.Forms.{marked, form-of, record-size}
+use Rattle.whole.specs.laws.Says.{both, says-le, says-eq, is-true, holds, itself}
+use Rattle.plan.specs.Limits.{between, least-file, most-file, most-cells, trailer-size}
+use Rattle.plan.specs.Forms.{marked, record-size}
 use Rattle.plan.specs.laws.Form.{record-inside}
 use Rattle.plan.specs.Lists.{from, keep, mem}
 use Rattle.plan.specs.laws.Lists.{keep-read, keep-show, from-read, from-show}
-use Rattle.plan.specs.Questions.{none, asked, or-else, at-each, every}
-use Rattle.plan.specs.laws.Questions.{both-none, asked-yes, each-none, first-none, first-some}
+use Rattle.plan.specs.Questions.{none, asked, or-else, at-each}
+use Rattle.plan.specs.laws.Questions.{both-none, each-none, first-none, first-some}
 use Rattle.plan.specs.laws.Kept.{none-first}
 use Rattle.plan.specs.Steps.{cell-refusal, children-refusal, levels-refusal, rows-refusal, tree-refusal}
 use Rattle.plan.specs.declared.Record.{Record}
 use Rattle.plan.specs.declared.Refusal.{Refusal}
-use Rattle.plan.specs.declared.forms.Form.{Form}
 use Rattle.planfile.specs.declared.Trailer.{Trailer}
 use Rattle.planfile.specs.Fields.{pair, number-at, begin-place, count-place, allowance-place, mark-place}
 use Rattle.planfile.specs.Format.{trailer-of, form, place, record-at, entry}
 use Rattle.planfile.specs.FileSteps.{counted, record-refusal, entry-refusal, header-refusal, body-refusal, file-refusal}
 use Rattle.planfile.specs.laws.File.{read-refusal}
 use Rattle.planfile.specs.laws.Examined.{Full, full-read}
-use Rattle.mending.specs.Boxes.{new-width, new-depth, changed}
-use Rattle.mending.specs.Mended.{mend-records, would-get, looked-at, mended, alteration, altered-cells, altered, Off, OnlyBoxes, differs, altered-by}
+use Rattle.mending.specs.Boxes.{changed}
+use Rattle.mending.specs.Mended.{mend-records, would-get, looked-at, mended, alteration, altered-cells, altered, OnlyBoxes, differs, altered-by}
 use Rattle.mending.specs.laws.Boxes.{Sound, sound-unchanged, passed-sound, mended-record, mended-sound}
 use Rattle.mending.specs.laws.Bytes.{after, record-boxed, mends-length, mends-off, mends-sound, mends-read}
 

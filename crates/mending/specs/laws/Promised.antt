@@ -1,14 +1,12 @@
 -- Proofs of specs/Promised.antt. Assumes nothing.
-use mathlib.Core.Path.{_≡_, refl, sym, ap, _∙_}
+use mathlib.Core.Path.{_≡_, sym, ap, _∙_}
 use mathlib.Core.List.{List, []}
 use mathlib.Core.Logic.{_↔_}
-use mathlib.Core.Bool.{Bool, true, false, _&&_, _||_, not, cond}
 use Prim.Native.Nat.{ℕ, _≤_, _<_}
 use native.Mathlib.Omega.{arith}
-use lib.Dec.{T, eqb, ltb}
+use lib.Dec.{T}
 use lib.ListN.{length}
-use Rattle.whole.specs.laws.Says.{both, says-le, is-true, is-false, holds, fails}
-use Rattle.plan.specs.Limits.{between}
+use Rattle.whole.specs.laws.Says.{both, says-le, is-true}
 use Rattle.plan.specs.Lists.{from, mem}
 use Rattle.plan.specs.laws.Lists.{keep-read, keep-show, from-read, from-show}
 use Rattle.plan.specs.Questions.{none}

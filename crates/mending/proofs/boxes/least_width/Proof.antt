@@ -1,6 +1,5 @@
-use mathlib.Core.Path.{_≡_, refl, sym, ap, _∙_}
 use Rattle.plan.specs.Kinds.{about}
-use Rattle.mending.specs.Boxes.{least-width, mendable, cramped, shallow, changed}
+use Rattle.mending.specs.Boxes.{least-width}
 use Rattle.mending.specs.laws.Code.{least-known}
 use borrow.Author.Needs.{needs}
 use Rattle.mending.proofs.boxes.least_width.Statement.{statement}

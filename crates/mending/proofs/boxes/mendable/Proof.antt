@@ -1,5 +1,5 @@
-use mathlib.Core.Path.{_≡_, refl, sym, ap, _∙_}
-use Rattle.mending.specs.Boxes.{least-width, mendable, cramped, shallow, changed}
+use mathlib.Core.Path.{refl}
+use Rattle.mending.specs.Boxes.{mendable}
 use borrow.Author.Needs.{needs}
 use Rattle.mending.proofs.boxes.mendable.Statement.{statement}
 use Rattle.mending.proofs.boxes.mendable.Tie as tie

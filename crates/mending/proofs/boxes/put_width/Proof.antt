@@ -1,6 +1,5 @@
-use mathlib.Core.Path.{_≡_, refl, sym, ap, _∙_}
 use native.Mathlib.Omega.{arith}
-use Rattle.planfile.specs.Fields.{set-pair, set-number, width-place, depth-place}
+use Rattle.planfile.specs.Fields.{set-number, width-place}
 use Rattle.mending.specs.laws.Code.{old-room, wide-room}
 use borrow.Author.Needs.{needs}
 use Rattle.mending.proofs.boxes.put_width.Statement.{statement}
