@@ -25,6 +25,8 @@ extern "C" {
 #define KUZPALEN_SCRATCH 16384u       /* the numbers that the scratch of Layout and of Frame needs */
 #define KUZPALEN_LISTING_SIZE 17408u  /* the bytes that List's output needs, whatever the file */
 #define KUZPALEN_COPY_SIZE 16384u     /* the bytes that Copy's output needs, whatever the plan */
+#define KUZPALEN_MENDED_SIZE 16384u   /* the bytes that Mend's output needs, whatever the file, */
+#define KUZPALEN_LINES_SIZE 6144u     /* and those that its lines need */
 #define KUZPALEN_NO_PARENT 65535u
 #define KUZPALEN_WIDEST 1023u         /* the greatest width in a table; a file of the old form has at most 255 */
 #define KUZPALEN_FARTHEST 262143      /* a coordinate that is lent lies from its negative to it */
@@ -105,6 +107,13 @@ typedef struct {
     size_t length;         /* of the clean copy, in bytes */
 } kuzpalen_copy_answer;
 
+typedef struct {
+    uint8_t number;
+    uint16_t cell;
+    size_t length;         /* of the mended file, in bytes: that of the file */
+    size_t lines;          /* of the lines, in bytes; 0 where no cell is altered */
+} kuzpalen_mend_answer;
+
 /* A plan file is of one of two forms, which its last two bytes tell, or question 3 refuses. Both have the
  * label bytes first, then the records, then a trailer of 8 bytes. Hexadecimal 53 54: records of 8 bytes,
  * parent (2), kind, width, depth, label length, label start (2), and so widths to 255. Hexadecimal 53 55:
@@ -177,6 +186,18 @@ kuzpalen_frame_answer kuzpalen_frame(const kuzpalen_record *table, size_t table_
 kuzpalen_copy_answer kuzpalen_copy(const kuzpalen_record *table, size_t table_len,
                                    const uint8_t *letters, size_t letters_len, uint32_t allowance,
                                    uint8_t *out, size_t out_len);
+
+/* Mend: a plan file, of either form, with each box that is too narrow for its label widened to the label's
+ * length plus the kind's border, and each depth 0 raised to 1; no other byte is altered. Not altered are a
+ * depth above 15, a cell whose kind is unknown or whose label is over 40 bytes, and a file that questions 2
+ * to 4 refuse. If Read accepts the file then, the first `length` bytes of `out` are the mended file, and the
+ * first `lines` bytes of `text` one line for each altered cell, in the order of the cells: its number, old
+ * width and depth, new width and depth, in decimal, with single spaces and a line feed at the end; later
+ * bytes stay as they were. Otherwise the answer is the refusal that Read gives the mended file. An accepted
+ * file comes out byte for byte, with no lines. Question 1 is put first: `out_len` is at least
+ * KUZPALEN_MENDED_SIZE and `text_len` at least KUZPALEN_LINES_SIZE. */
+kuzpalen_mend_answer kuzpalen_mend(const uint8_t *file, size_t file_len,
+                                   uint8_t *out, size_t out_len, uint8_t *text, size_t text_len);
 
 #ifdef __cplusplus
 }

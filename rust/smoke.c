@@ -81,6 +81,26 @@ static int copy_good(void) {
     return good && copied.number == 0 && copied.length == sizeof wide && out[sizeof wide - 1] == 0x55;
 }
 
+/* The file with cell 1 too narrow for its label and cell 2 of depth 0, mended. */
+static int mend_good(void) {
+    static uint8_t out[KUZPALEN_MENDED_SIZE + 1], text[KUZPALEN_LINES_SIZE + 1];
+    static const char lines[] = "1 2 1 3 1\n2 5 0 5 1\n~";
+    uint8_t cramped[sizeof file];
+    memcpy(cramped, file, sizeof file);
+    cramped[17] = 2;
+    cramped[26] = 0;
+    memset(out, '~', sizeof out);
+    memset(text, '~', sizeof text);
+    int good = kuzpalen_mend(cramped, sizeof cramped, out, sizeof out, text, KUZPALEN_LINES_SIZE - 1).number == 1 && out[0] == '~';
+    cramped[16] = 6;
+    kuzpalen_mend_answer refused = kuzpalen_mend(cramped, sizeof cramped, out, sizeof out, text, sizeof text);
+    good = good && refused.number == 7 && refused.cell == 1 && refused.length == 0 && refused.lines == 0 && out[0] == '~' && text[0] == '~';
+    cramped[16] = 1;
+    kuzpalen_mend_answer mended = kuzpalen_mend(cramped, sizeof cramped, out, sizeof out, text, sizeof text);
+    return good && mended.number == 0 && mended.length == sizeof file && memcmp(out, file, sizeof file) == 0 && out[sizeof file] == '~'
+        && mended.lines == strlen(lines) - 1 && memcmp(text, lines, strlen(lines)) == 0;
+}
+
 int main(void) {
     static uint32_t scratch[KUZPALEN_SCRATCH];
     kuzpalen_record table[3] = {
@@ -111,7 +131,7 @@ int main(void) {
     p[2] = -KUZPALEN_FARTHEST - 1;
     kuzpalen_ends_answer far = kuzpalen_ends(table, 3, p, 6, 2);
     good = good && far.number == 15 && far.cell == 1;
-    good = good && file_good() && wide_good() && listing_good() && copy_good();
+    good = good && file_good() && wide_good() && listing_good() && copy_good() && mend_good();
     puts(good ? "sheet B from C: good" : "sheet B from C: DIFFERENCE");
     return good ? 0 : 1;
 }

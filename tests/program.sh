@@ -1,6 +1,6 @@
 #!/usr/bin/env bash
-# The programs `sheet` and `clean` and the script sheet.sh from outside: what they print, where, and with which status; and what they
-# do when the output cannot be written. Needs target/bin/sheet and target/bin/clean. The gate runs it after `rt ci`.
+# The programs and the script sheet.sh from outside: what they print, where, and with which status; and what they
+# do when the output cannot be written. Needs the programs in target/bin. The gate runs it after `rt ci`.
 set -u
 cd "$(dirname "$0")/.."
 sheet=target/bin/sheet

@@ -21,6 +21,9 @@ use Rattle.fitting.specs.declared.Fitted.the-variants.{Allowance, None, Refused
 use Rattle.copying.specs.Copied.{Copies}
 use Rattle.copying.specs.declared.Copied.{Copied}
 use Rattle.copying.specs.declared.Copied.the-variants.{Written, Refused as Uncopied}
+use Rattle.mending.specs.Mending.{Mends}
+use Rattle.mending.specs.declared.Mended.{Mended}
+use Rattle.mending.specs.declared.Mended.the-variants.{Written as Mending, Refused as Unmended}
 use Rattle.engine.specs.Read.{Reads}
 use Rattle.engine.specs.declared.ReadAnswer.{ReadAnswer as Read}
 use Rattle.engine.specs.declared.ReadAnswer.the-variants.{Plan, Refused as Unread}
@@ -30,6 +33,7 @@ use Rattle.answers.specs.declared.CheckAnswer.{CheckAnswer}
 use Rattle.answers.specs.declared.EndsAnswer.{EndsAnswer}
 use Rattle.answers.specs.declared.ListAnswer.{ListAnswer}
 use Rattle.answers.specs.declared.FrameAnswer.{FrameAnswer}
+use Rattle.answers.specs.declared.MendAnswer.{MendAnswer}
 use Rattle.answers.specs.declared.CopyAnswer.{CopyAnswer}
 
 unfoldable pub read-answer : Read → ReadAnswer
@@ -63,6 +67,10 @@ unfoldable pub copy-answer : Copied → CopyAnswer
 copy-answer (Written n) = record { number = 0; cell = 0; length = n }
 copy-answer (Uncopied k c) = record { number = k; cell = c; length = 0 }
 
+unfoldable pub mend-answer : Mended → MendAnswer
+mend-answer (Mending n k) = record { number = 0; cell = 0; length = n; lines = k }
+mend-answer (Unmended k c) = record { number = k; cell = c; length = 0; lines = 0 }
+
 -- a call of Read, as `Reads` has it, with the struct for its answer
 pub record Filling (f : List ℕ) (t t′ : List Record) (r : ReadAnswer) : Type 0 where
   pub read : Read
@@ -92,3 +100,9 @@ pub record CopyFilling (rs : List Record) (letters : List ℕ) (al : ℕ) (out o
   pub copied : Copied
   pub copies : Copies rs letters al out out′ copied
   pub answers : r ≡ copy-answer copied
+
+-- a call of Mend, as `Mends` has it, with the struct for its answer
+pub record MendFilling (f out out′ lines lines′ : List ℕ) (r : MendAnswer) : Type 0 where
+  pub mended : Mended
+  pub mends : Mends f out out′ lines lines′ mended
+  pub answers : r ≡ mend-answer mended

@@ -4,9 +4,10 @@ use copying::Copied;
 use ends::Ended;
 use fitting::Fitted;
 use layout::Laid;
+use mending::Mended;
 use printing::Listed;
 ghost use mathlib.Core.Path.{_≡_};
-ghost use Rattle.answers.specs.Answers.{«read-answer», «laid-answer», «check-answer», «ends-answer», «list-answer», «frame-answer», «copy-answer»};
+ghost use Rattle.answers.specs.Answers.{«read-answer», «laid-answer», «check-answer», «ends-answer», «list-answer», «frame-answer», «copy-answer», «mend-answer»};
 
 // Number and cell of the refusal, or 0 and 0; the number of cells and the allowance.
 #[repr(C)]
@@ -78,6 +79,15 @@ pub struct FrameAnswer {
     pub cell: u16,
     pub outcome: u8,
     pub allowance: u32,
+}
+
+// Number and cell of the refusal, or 0 and 0; the lengths of the mended file and of its lines.
+#[repr(C)]
+pub struct MendAnswer {
+    pub number: u8,
+    pub cell: u16,
+    pub length: usize,
+    pub lines: usize,
 }
 
 // The answer of Read as a struct.
@@ -245,6 +255,26 @@ pub fn told_copy(answer: Copied) -> CopyAnswer
             number,
             cell,
             length: 0,
+        },
+    }
+}
+
+// The answer of Mend as a struct.
+pub fn told_mend(answer: Mended) -> MendAnswer
+    ensures { λ r. ⌜ r ≡ mend-answer answer ⌝ }
+{
+    match answer {
+        Mended::Written(length, lines) => MendAnswer {
+            number: 0,
+            cell: 0,
+            length,
+            lines,
+        },
+        Mended::Refused(number, cell) => MendAnswer {
+            number,
+            cell,
+            length: 0,
+            lines: 0,
         },
     }
 }

@@ -7,6 +7,7 @@ use answers::LabelAnswer;
 use answers::LabelPart;
 use answers::LayoutAnswer;
 use answers::ListAnswer;
+use answers::MendAnswer;
 use answers::ReadAnswer;
 use answers::told_check;
 use answers::told_copy;
@@ -14,6 +15,7 @@ use answers::told_ends;
 use answers::told_frame;
 use answers::told_layout;
 use answers::told_list;
+use answers::told_mend;
 use answers::told_read;
 use plan::Record;
 ghost use mathlib.Core.Path.{_≡_};
@@ -21,7 +23,7 @@ ghost use Rattle.plan.specs.Records.{«cells-of»};
 ghost use Rattle.planfile.specs.Reading.{«label-refusal», «label-part»};
 ghost use Rattle.checker.specs.Checked.{«checked-of»};
 ghost use Rattle.ends.specs.Ended.{«ended-of»};
-ghost use Rattle.answers.specs.Answers.{«check-answer», «ends-answer», Filling, Laying, ListFilling, Framing, CopyFilling};
+ghost use Rattle.answers.specs.Answers.{«check-answer», «ends-answer», Filling, Laying, ListFilling, Framing, CopyFilling, MendFilling};
 
 #[no_mangle]
 pub extern "C" fn kuzpalen_read(file: &[u8], table: &mut [Record]) -> ReadAnswer
@@ -110,4 +112,12 @@ pub extern "C" fn kuzpalen_copy(
 {
     let answer = engine::copy(table, labels, allowance, out);
     told_copy(answer)
+}
+
+#[no_mangle]
+pub extern "C" fn kuzpalen_mend(file: &[u8], out: &mut [u8], lines: &mut [u8]) -> MendAnswer
+    ensures { λ r. ⌜ MendFilling (now (file .entry)) (now (out .entry)) (now (out .exit)) (now (lines .entry)) (now (lines .exit)) r ⌝ }
+{
+    let answer = engine::mend(file, out, lines);
+    told_mend(answer)
 }

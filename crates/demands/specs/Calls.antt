@@ -1,5 +1,5 @@
 -- THE THREE DEMANDS AT THE CALLS: statements only; each proof is one name. A reader needs the definitions of crate plan (sequence, puts, holds), of crate
--- rules (placement, S1 to S5, verdict), `sheet`, what each call answers (Reads, Lays, checked-of, ended-of, label-of and label-refusal, Lists, Frames, Copies) and Outcomes. Every call's
+-- rules (placement, S1 to S5, verdict), `sheet`, what each call answers (Reads, Lays, checked-of, ended-of, label-of and label-refusal, Lists, Frames, Copies, Mends) and Outcomes. Every call's
 -- contract is one of those, so what is said of them is said of what the call answers and leaves in the lent buffers. Assumes nothing.
 use mathlib.Core.Path.{_≡_}
 use mathlib.Core.List.{List, [], _∷_, _++_, map}
@@ -8,7 +8,7 @@ use Prim.Native.Nat.{ℕ, _*_, _≤_, _<_}
 use lib.ListN.{length, getD, take, drop, replicate}
 use lib.IntN.{ℤ, pos, _-ℤ_}
 use lib.Signed.{_≤ℤ_, _<ℤ_}
-use Rattle.plan.specs.Limits.{most-cells, scratch-size, most-file, most-allowance}
+use Rattle.plan.specs.Limits.{most-cells, scratch-size, most-file, most-allowance, lines-size}
 use Rattle.plan.specs.Plan.{Table, Is}
 use Rattle.plan.specs.Records.{cells-of}
 use Rattle.plan.specs.Questions.{Call, Given, layout, check, ends, list, frame, none, sequence, refusal, layout-given, check-given, ends-given, list-given, frame-given}
@@ -45,6 +45,11 @@ use Rattle.ends.specs.declared.Ended.the-variants as ended
 use Rattle.printing.specs.Printing.{Lists}
 use Rattle.printing.specs.declared.Listed.{Listed}
 use Rattle.printing.specs.declared.Listed.the-variants as listed
+use Rattle.mending.specs.Mended.{would-get}
+use Rattle.mending.specs.Mending.{mend-refusal, Mends, MendGives}
+use Rattle.mending.specs.laws.Answer as mends
+use Rattle.mending.specs.declared.Mended.{Mended}
+use Rattle.mending.specs.declared.Mended.the-variants as mending
 use Rattle.engine.specs.declared.ReadAnswer.{ReadAnswer}
 use Rattle.engine.specs.declared.ReadAnswer.the-variants.{Plan, Refused}
 use Rattle.engine.specs.Read.{read-refusal, Reads}
@@ -222,3 +227,18 @@ copy-same = copying.same-copies
 pub copy-again : (rs : List Record) (letters : List ℕ) (al : ℕ) (out out′ : List ℕ) (k : ℕ) → Copies rs letters al out out′ (copied.Written k) → (t t′ : List Record) (n al′ : ℕ) → Reads (take k out′) t t′ (Plan n al′)
     → (o o′ : List ℕ) (m : ℕ) → Copies (take n t′) (letters-of (take k out′)) al′ o o′ (copied.Written m) → take m o′ ≡ take k out′
 copy-again = copying.again
+
+-- ==== MENDING (document 02, E11). What is promised of the mended file itself is in crate mending, specs/Promised.antt.
+module _ (f out out′ lines lines′ : List ℕ) (r : Mended) (m : Mends f out out′ lines lines′ r) where
+  -- A refusal, the one that the mended file gets, is answered by its number and cell, and leaves both outputs as they were.
+  pub mend-refuses : ¬ (mend-refusal f (length out) (length lines) .number ≡ 0)
+      → (r ≡ mending.Refused (mend-refusal f (length out) (length lines) .number) (mend-refusal f (length out) (length lines) .cell)) × (out′ ≡ out) × (lines′ ≡ lines)
+  mend-refuses = mends.unchanged f out out′ lines lines′ r m
+
+  -- Where no question refuses: the mended file, which Read accepts, and its lines, every byte.
+  pub mend-gives : mend-refusal f (length out) (length lines) ≡ none → MendGives f out out′ lines lines′ r
+  mend-gives = mends.gives f out out′ lines lines′ r m
+
+  -- A file that Read accepts comes out byte for byte equal, with no lines.
+  pub mend-same : would-get f ≡ none → most-file ≤ length out → lines-size ≤ length lines → (r ≡ mending.Written (length f) 0) × (out′ ≡ f ++ drop (length f) out) × (lines′ ≡ lines)
+  mend-same = mends.same f out out′ lines lines′ r m

@@ -4,6 +4,7 @@ use copying::Copied;
 use ends::Ended;
 use fitting::Fitted;
 use layout::Laid;
+use mending::Mended;
 use plan::Record;
 use plan::Refusal;
 use planfile::Reading;
@@ -19,6 +20,7 @@ ghost use Rattle.fitting.specs.Fitted.{Frames};
 ghost use Rattle.checker.specs.Checked.{«checked-of»};
 ghost use Rattle.ends.specs.Ended.{«ended-of»};
 ghost use Rattle.printing.specs.Printing.{Lists};
+ghost use Rattle.mending.specs.Mending.{Mends};
 ghost use Rattle.copying.specs.Copied.{Copies};
 ghost use Rattle.engine.specs.Read.{Reads, «read-of»};
 ghost use Rattle.engine.specs.Label.{«label-of»};
@@ -122,4 +124,11 @@ pub fn copy(table: &[Record], labels: &[u8], allowance: u32, out: &mut [u8]) -> 
 {
     let t = lettered_of(table);
     copying::copy(t, labels, allowance, out)
+}
+
+// Mend: a plan file with its cramped boxes mended, and the line of each cell altered, are written into the two outputs; their lengths, or the refusal.
+pub fn mend(file: &[u8], out: &mut [u8], lines: &mut [u8]) -> Mended
+    ensures { λ r. ⌜ Mends (now (file .entry)) (now (out .entry)) (now (out .exit)) (now (lines .entry)) (now (lines .exit)) r ⌝ }
+{
+    mending::mend(file, out, lines)
 }

@@ -1,11 +1,12 @@
 -- A LINE AS THE CODE HAS IT. Assumes nothing.
+use mathlib.Core.Path.{_≡_}
 use mathlib.Core.List.{_++_, [], _∷_}
-use Prim.Native.Nat.{ℕ, _-_}
-use lib.ListN.{length, replicate}
+use Prim.Native.Nat.{ℕ, _-_, _≤_}
+use lib.ListN.{length, take, replicate}
 use Rattle.listing.specs.Printed.{Bytes, space}
 use Rattle.listing.specs.declared.Line.{Line}
 
--- bytes of a line's buffer: none of the three lines has more than 98
+-- bytes of a line's buffer: no line has more than 98
 abbrev pub line-size : ℕ
 line-size = 128
 
@@ -17,3 +18,12 @@ line-of text = record { bytes = text ++ replicate (line-size - length text) 0; l
 unfoldable pub spaced : Bytes → Bytes
 spaced [] = []
 spaced (b ∷ bs) = space ∷ b ∷ bs
+
+-- the bytes of a line
+abbrev pub text : Line → Bytes
+text l = take (l .length) (l .bytes)
+
+-- a line whose bytes can be written
+pub record Whole (l : Line) : Type 0 where
+  pub long : length (l .bytes) ≡ line-size
+  pub inside : l .length ≤ line-size

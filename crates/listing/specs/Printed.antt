@@ -66,3 +66,12 @@ cell-line c x y w d label = line (decimal c ∷ signed x ∷ signed y ∷ decima
 -- the line of a refusal
 unfoldable pub refused-line : (number cell : ℕ) → Bytes
 refused-line k c = line (refused-word ∷ decimal k ∷ decimal c ∷ [])
+
+-- the line of a mended cell (document 02, E11): "its number, old width and depth, new width and depth"
+unfoldable pub mended-line : (cell old-width old-depth width depth : ℕ) → Bytes
+mended-line c v e w d = line (decimal c ∷ decimal v ∷ decimal e ∷ decimal w ∷ decimal d ∷ [])
+
+-- lines one after another
+unfoldable pub lines-joined : List Bytes → Bytes
+lines-joined [] = []
+lines-joined (l ∷ ls) = l ++ lines-joined ls

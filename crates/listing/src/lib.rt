@@ -7,8 +7,8 @@ ghost use lib.IntN.{pos};
 ghost use lib.Signed.{_<ℤ_};
 ghost use Rattle.whole.specs.Whole.{minus};
 ghost use Rattle.plan.specs.Limits.{«most-label»};
-ghost use Rattle.listing.specs.Printed.{space, decimal, signed, «sheet-line», «cell-line», «refused-line»};
-ghost use Rattle.listing.specs.Line.{spaced, «line-size», «line-of»};
+ghost use Rattle.listing.specs.Printed.{space, decimal, signed, «sheet-line», «cell-line», «refused-line», «mended-line»};
+ghost use Rattle.listing.specs.Line.{spaced, «line-size», «line-of», text, Whole};
 ghost use Rattle.listing.specs.Put.{Put};
 
 // Bytes of a line's buffer: no line has more than 98.
@@ -167,4 +167,36 @@ pub fn refused_line(number: u32, cell: u32) -> Line
         bytes: out,
         length: end,
     }
+}
+
+// The line of a mended cell: its number, its width and depth before and after.
+pub fn mended_line(cell: u32, old_width: u32, old_depth: u32, width: u32, depth: u32) -> Line
+    ensures { λ r. ⌜ (r ≡ line-of (mended-line cell «old_width» «old_depth» width depth)) × (r .length ≤ line-size) ⌝ }
+{
+    let mut out = [0u8; LINE_SIZE];
+    let a = decimal(cell, &mut out, 0);
+    let b = field(old_width, &mut out, a);
+    let c = field(old_depth, &mut out, b);
+    let wide = field(width, &mut out, c);
+    let deep = field(depth, &mut out, wide);
+    let end = put(LINE_FEED, &mut out, deep);
+    Line {
+        bytes: out,
+        length: end,
+    }
+}
+
+// Writes a line at a place, and hands the next place back.
+pub fn put_line(line: Line, out: &mut [u8], at: usize) -> usize
+    requires { ⌜ Whole line × (at + line .length ≤ length (now out)) ⌝ }
+    ensures { λ r. ⌜ Put (now (out .entry)) at (text line) (now (out .exit)) r ⌝ }
+{
+    let bytes = line.bytes;
+    let n = line.length;
+    let mut i: usize = 0;
+    while i < n {
+        out[at + i] = bytes[i];
+        i += 1;
+    }
+    at + i
 }

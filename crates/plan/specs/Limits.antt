@@ -49,6 +49,10 @@ scratch-size = 16384
 abbrev pub listing-size : ℕ
 listing-size = 17408
 
+-- bytes of an output for the lines of a mended file (question 1; document 02, E11): 24 a cell, more than the longest line has
+abbrev pub lines-size : ℕ
+lines-size = 6144
+
 -- bytes of a file (question 2)
 abbrev pub least-file : ℕ
 least-file = 16

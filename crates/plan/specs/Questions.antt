@@ -7,7 +7,7 @@ use lib.ListN.{length, getD}
 use lib.Dec.{eqb, leb, ltb}
 use lib.IntN.{ℤ, pos}
 use Rattle.whole.specs.Range.{in-range}
-use Rattle.plan.specs.Limits.{between, most-cells, most-width, most-depth, most-level, last-row, most-allowance, farthest, scratch-size, listing-size, least-file, most-file, trailer-size, first-letter, last-letter, most-label, no-parent}
+use Rattle.plan.specs.Limits.{between, most-cells, most-width, most-depth, most-level, last-row, most-allowance, farthest, scratch-size, listing-size, lines-size, least-file, most-file, trailer-size, first-letter, last-letter, most-label, no-parent}
 use Rattle.plan.specs.Forms.{marked, form-of, record-size, widest}
 use Rattle.plan.specs.Lists.{from, mem}
 use Rattle.plan.specs.Plan.{Table, parent, kind, W, D, children, level, row}
@@ -15,17 +15,20 @@ use Rattle.plan.specs.Kinds.{known, allows, bordered}
 use Rattle.plan.specs.declared.Refusal.{Refusal}
 
 -- ---- what a call is given
--- a lent buffer of a length that question 1 asks for, with the length that it has: a table to fill, Layout's scratch, the output of a listing, the output of a clean copy
+-- a lent buffer of a length that question 1 asks for, with the length that it has: a table to fill, Layout's scratch, the output of a listing; of document 02 the output of a clean copy
+-- or of a mended file and of the lines that tell the mending (E4, E11), a drill's list (E12), the second scratch of a sheet that is being made (E9)
 pub data Buffer : Type 0 where
   to-fill scratch output : ℕ → Buffer
   copy-output : ℕ → Buffer
+  lines-output : ℕ → Buffer
 
 -- the length of the positions, where the call has them
 pub data Lent : Type 0 where
   absent : Lent
   long : ℕ → Lent
 
--- what a call is asked about besides: a cell that is named; a frame of so many squares
+-- what a call is asked about besides: a cell that is named; a frame of so many squares; a page and the number of a stroke on it (document 02, E1); so many answer bytes (E12);
+-- the cells that are finished so far and, of them or not, the cell whose reach is asked for (E9)
 pub data Subject : Type 0 where
   nothing : Subject
   named squares : ℕ → Subject
@@ -121,6 +124,7 @@ sequence =
 pub data Call : Type 0 where
   read label layout check ends list frame : Call
   copy : Call
+  mend : Call
 
 -- the numbers of the questions that a call puts
 unfoldable pub puts : Call → List ℕ
@@ -133,6 +137,8 @@ puts ends = 1 ∷ 4 ∷ 6 ∷ 7 ∷ 8 ∷ 11 ∷ 12 ∷ 13 ∷ 15 ∷ 16 ∷ []
 puts list = 1 ∷ []
 puts frame = 1 ∷ 4 ∷ 6 ∷ 7 ∷ 8 ∷ 11 ∷ 12 ∷ 13 ∷ 19 ∷ []
 puts copy = 1 ∷ from 4 11
+-- of the mended file, as document 02, E11, says: "the refusal it would get"
+puts mend = from 1 14
 
 -- whether the root may be named
 unfoldable pub root-too : Call → Bool
@@ -144,6 +150,7 @@ root-too check = true
 root-too list = true
 root-too frame = true
 root-too copy = true
+root-too mend = true
 
 -- ---- what each question asks
 unfoldable pub roomy : Buffer → Bool
@@ -151,6 +158,7 @@ roomy (to-fill m) = leb most-cells m
 roomy (scratch m) = leb scratch-size m
 roomy (output m) = leb listing-size m
 roomy (copy-output m) = leb most-file m
+roomy (lines-output m) = leb lines-size m
 
 unfoldable pub all-roomy : List Buffer → Bool
 all-roomy [] = true

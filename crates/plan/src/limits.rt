@@ -31,6 +31,9 @@ pub const SCRATCH_SIZE: usize = 16384;
 // Bytes of an output for a listing (1): more than the longest has.
 pub const LISTING_SIZE: usize = 17408;
 
+// Bytes of an output for the lines of a mended file (1): 24 a cell, more than the longest line has.
+pub const LINES_SIZE: usize = 6144;
+
 // The parent of the root (6).
 pub const NO_PARENT: u16 = 65535;
 

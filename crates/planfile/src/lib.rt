@@ -1,5 +1,5 @@
 // The plan file: Read, Label and Label's refusal.
-mod cursor;
+pub mod cursor;
 pub mod questions;
 pub mod table;
 

@@ -17,9 +17,7 @@ use Rattle.rules.specs.Placement.{Placement, placed, Agree, width, rows}
 use Rattle.contours.specs.Sheet.{sheet}
 use Rattle.planfile.specs.declared.Reading.{Reading}
 use Rattle.planfile.specs.Reading.{reading-of, label-part}
-use Rattle.listing.specs.Printed.{Bytes, sheet-line, cell-line, refused-line}
-use Rattle.listing.specs.Line.{line-size}
-use Rattle.listing.specs.declared.Line.{Line}
+use Rattle.listing.specs.Printed.{Bytes, sheet-line, cell-line, refused-line, lines-joined}
 use Rattle.printing.specs.declared.Listed.{Listed}
 use Rattle.printing.specs.declared.Listed.the-variants.{Text, Refused}
 
@@ -49,11 +47,6 @@ listing-of f =
     cond (eqb (p .refusal .number) 0)
     (first-line p ∷ map (cell-of p f) (from 0 (p .columns .count)))
     (refused-line (p .refusal .number) (p .refusal .cell) ∷ [])
-
--- lines one after another
-unfoldable pub lines-joined : List Bytes → Bytes
-lines-joined [] = []
-lines-joined (l ∷ ls) = l ++ lines-joined ls
 
 -- THE LISTING, every byte of it
 unfoldable pub text-of : (file : Bytes) → Bytes
@@ -94,10 +87,6 @@ cell-size = 65
 unfoldable pub cells-text : Reading → (file : Bytes) → ℕ → Bytes
 cells-text p f n = lines-joined (map (cell-of p f) (from 0 n))
 
--- the bytes of a line
-abbrev pub text : Line → Bytes
-text l = take (l .length) (l .bytes)
-
 -- positions that are our sheet for the plan
 pub record Placed (p : Reading) (ps : List ℤ) : Type 0 where
   pub few : p .columns .count ≤ most-cells
@@ -109,8 +98,3 @@ pub record Measured (p : Reading) (w h : ℕ) : Type 0 where
   pub small : p .columns .count ≤ most-cells
   pub wide : w ≡ plus (width (read-table p) (ours p))
   pub deep : h ≡ plus (rows (read-table p) (ours p))
-
--- a line whose bytes can be written
-pub record Whole (l : Line) : Type 0 where
-  pub long : length (l .bytes) ≡ line-size
-  pub inside : l .length ≤ line-size

@@ -1,6 +1,7 @@
 // THE LISTING of a plan file, as bytes: a sheet, or the line of a refusal.
 use listing::Line;
 use listing::cell_line;
+use listing::put_line;
 use listing::refused_line;
 use listing::sheet_line;
 use plan::limits::LISTING_SIZE;
@@ -13,27 +14,12 @@ ghost use lib.ListN.{length};
 ghost use Rattle.plan.specs.Limits.{«listing-size»};
 ghost use Rattle.listing.specs.Line.{«line-size», «line-of»};
 ghost use Rattle.listing.specs.Put.{Put};
-ghost use Rattle.printing.specs.Printing.{Whole, Measured, Placed, Taken, Lists, text, «label-bytes», «first-line», «cell-of», «cells-text», «text-of», «cell-size»};
+ghost use Rattle.printing.specs.Printing.{Measured, Placed, Taken, Lists, «label-bytes», «first-line», «cell-of», «cells-text», «text-of», «cell-size»};
 
 // The length of the listing; or the refusal's number and cell.
 pub enum Listed {
     Text(usize),
     Refused(u8, u16),
-}
-
-// Writes a line at a place, and hands the next place back.
-fn put_line(line: Line, out: &mut [u8], at: usize) -> usize
-    requires { ⌜ Whole line × (at + line .length ≤ length (now out)) ⌝ }
-    ensures { λ r. ⌜ Put (now (out .entry)) at (text line) (now (out .exit)) r ⌝ }
-{
-    let bytes = line.bytes;
-    let n = line.length;
-    let mut i: usize = 0;
-    while i < n {
-        out[at + i] = bytes[i];
-        i += 1;
-    }
-    at + i
 }
 
 // The first line of a plan whose sheet has this width and these rows.

@@ -119,6 +119,14 @@ mod raw {
         pub length: usize,
     }
 
+    #[repr(C)]
+    pub struct MendAnswer {
+        pub number: u8,
+        pub cell: u16,
+        pub length: usize,
+        pub lines: usize,
+    }
+
     extern "C" {
         pub fn kuzpalen_read(file: *const u8, file_len: usize, table: *mut Record, table_len: usize) -> ReadAnswer;
         pub fn kuzpalen_label(file: *const u8, file_len: usize, cell: usize) -> LabelPart;
@@ -163,6 +171,14 @@ mod raw {
             out: *mut u8,
             out_len: usize,
         ) -> CopyAnswer;
+        pub fn kuzpalen_mend(
+            file: *const u8,
+            file_len: usize,
+            out: *mut u8,
+            out_len: usize,
+            text: *mut u8,
+            text_len: usize,
+        ) -> MendAnswer;
     }
 }
 
@@ -267,4 +283,13 @@ pub fn copy(table: &[Record], letters: &[u8], allowance: u32, out: &mut [u8]) ->
         )
     };
     unless(r.number, r.cell, r.length)
+}
+
+/// Mend: the mended file into the first bytes of `out`, which needs room for 16,384, and a line for each altered cell into those of `text`, which needs room for 6,144; both lengths.
+pub fn mend(file: &[u8], out: &mut [u8], text: &mut [u8]) -> Result<(usize, usize), Refusal> {
+    // SAFETY: the pointers are good for their lengths, and the two that are written share nothing.
+    let r = unsafe {
+        raw::kuzpalen_mend(file.as_ptr(), file.len(), out.as_mut_ptr(), out.len(), text.as_mut_ptr(), text.len())
+    };
+    unless(r.number, r.cell, (r.length, r.lines))
 }

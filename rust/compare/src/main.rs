@@ -10,7 +10,7 @@ use bindings::Record;
 use compare::guard::Guarded;
 use reference::generate as make;
 use reference::rng::Rng;
-use reference::{Cell, Form, Refusal, COPY, FORMS, LISTING, MAX_CELLS, MAX_COORDINATE, MAX_WIDTH, SCRATCH};
+use reference::{Cell, Form, Refusal, COPY, FORMS, LINES, LISTING, MAX_CELLS, MAX_COORDINATE, MAX_WIDTH, MENDED, SCRATCH};
 use std::collections::BTreeMap;
 use std::mem::size_of;
 use std::process::exit;
@@ -48,6 +48,7 @@ struct Rooms {
     positions: Guarded,
     scratch: Guarded,
     out: Guarded,
+    lines: Guarded,
 }
 
 struct Run {
@@ -364,7 +365,55 @@ impl Run {
         }
     }
 
-    /// A file of either form, valid or damaged, through Read, Label, List and Copy.
+    /// Mend of a file: the mended one and its lines, and that twice is once.
+    fn mend(&mut self, rng: &mut Rng, file: &[u8]) {
+        let room = |rng: &mut Rng, needed: usize| match rng.index(60) {
+            0 => rng.pick(&[0, 1, needed - 1]),
+            1 => rng.index(needed),
+            2..=30 => needed,
+            _ => needed + 1 + rng.index(100),
+        };
+        let (files, texts) = (room(rng, MENDED), room(rng, LINES));
+        let (mut theirs, mut their_lines) = (vec![rng.next() as u8; files], vec![rng.next() as u8; texts]);
+        let at_end = rng.once_in(2);
+        let lent = self.rooms.file.lend(file, at_end);
+        let ours = self.rooms.out.lend(&theirs, at_end);
+        let our_lines = self.rooms.lines.lend(&their_lines, at_end);
+        let got = bindings::mend(lent, ours, our_lines).map_err(|r| Refusal { number: r.number as u32, cell: r.cell as u32 });
+        let (lent, ours, our_lines) = (lent.to_vec(), ours.to_vec(), our_lines.to_vec());
+        let expected = reference::mend(file, &mut theirs, &mut their_lines);
+        let input = (files, texts, file);
+        self.same("Mend's answer", &got, &expected, &input);
+        self.same("the output after Mend", &ours, &theirs, &input);
+        self.same("the lines after Mend", &our_lines, &their_lines, &input);
+        self.same("the file after Mend", &lent.as_slice(), &file, &input);
+        let all = reference::mended(file).1;
+        let answer = match expected {
+            Ok((length, lines)) => {
+                let again = reference::mend(&theirs[..length], &mut vec![0; MENDED], &mut vec![0; LINES]);
+                self.same("Mend of a mended file", &again, &Ok((length, 0)), &input);
+                for a in all {
+                    let what = match (a.old.0 != a.new.0, a.old.1 != a.new.1) {
+                        (true, true) => "both raised",
+                        (true, false) => "width raised",
+                        _ => "depth raised",
+                    };
+                    self.note("Mend", of_form(file, what));
+                }
+                of_form(file, if lines == 0 { "accepted as it is" } else { "mended" })
+            }
+            Err(r) => {
+                let answer = of_form(file, &named(&Err(r)));
+                if !all.is_empty() && r.number != 1 {
+                    self.note("Mend", format!("mended, then {answer}"));
+                }
+                answer
+            }
+        };
+        self.count("Mend", answer);
+    }
+
+    /// A file of either form, valid or damaged, through Read, Label, List, Copy and Mend.
     fn a_file(&mut self, rng: &mut Rng) {
         let form = rng.pick(&FORMS);
         let mut cells = if rng.once_in(10) { make::too_tall(rng) } else { some_table(rng) };
@@ -375,6 +424,14 @@ impl Run {
         }
         if rng.once_in(4) {
             self.copy_of_any(rng, &cells, &labels);
+        }
+        if rng.once_in(4) {
+            let mut tight = cells.clone();
+            if !tight.is_empty() {
+                make::cramp(rng, &mut tight);
+            }
+            let cramped = make::file(form, &labels, &tight, rng.next() as u16);
+            self.mend(rng, &cramped);
         }
         let mut file = make::file(form, &labels, &cells, rng.next() as u16);
         let mut mixed = false;
@@ -414,6 +471,9 @@ impl Run {
         }
         self.labels(rng, &file);
         self.list(rng, &file);
+        if rng.once_in(4) {
+            self.mend(rng, &file);
+        }
         if reference::read(&file, &mut [Cell::default(); MAX_CELLS]).is_ok() && rng.once_in(4) {
             self.copies(rng, &file);
         }
@@ -565,7 +625,7 @@ fn some_table(rng: &mut Rng) -> Vec<Cell> {
 /// The answers that each call can give: all must have been seen in a long run.
 fn unseen(seen: &Seen) -> Vec<String> {
     let mut all: Vec<(&str, String)> = Vec::new();
-    let refusals: [(&str, &[u32]); 8] = [
+    let refusals: [(&str, &[u32]); 9] = [
         ("Read", &[1, 2, 3]),
         ("Label", &[2, 3]),
         ("Layout", &[1, 4, 6, 7, 8, 11, 12, 13, 14]),
@@ -574,6 +634,7 @@ fn unseen(seen: &Seen) -> Vec<String> {
         ("List", &[1]),
         ("Frame", &[1, 4, 6, 7, 8, 11, 12, 13, 19]),
         ("Copy", &[1, 4, 5, 6, 7, 8, 9, 10, 11, 12, 13, 14]),
+        ("Mend", &[1, 2, 3]),
     ];
     for (call, numbers) in refusals {
         all.extend(numbers.iter().map(|n| (call, format!("refused {n:2}"))));
@@ -586,6 +647,10 @@ fn unseen(seen: &Seen) -> Vec<String> {
         all.extend((4..=13).chain([16]).map(|n| ("Label", format!("{form:?} refused {n:2}"))));
         all.push(("List", format!("{form:?} prints sheet")));
         all.push(("Copy", format!("{form:?} copied")));
+        all.extend(["accepted as it is", "mended", "width raised", "depth raised", "both raised"].map(|a| ("Mend", format!("{form:?} {a}"))));
+        // 10 is never left: a label of at most 40 bytes gets the width that it needs, and a longer one is refused by 9.
+        all.extend([4, 5, 6, 7, 8, 9, 11, 12, 13].map(|n| ("Mend", format!("{form:?} refused {n:2}"))));
+        all.extend([7, 8, 9, 13].map(|n| ("Mend", format!("mended, then {form:?} refused {n:2}"))));
         all.extend((4..=13).map(|n| ("List", format!("{form:?} prints {n:>4}"))));
     }
     all.push(("Check", "kept".into()));
@@ -620,6 +685,7 @@ fn main() {
         positions: Guarded::new(4 * 1_000),
         scratch: Guarded::new(4 * (SCRATCH + 200)),
         out: Guarded::new(LISTING + 200),
+        lines: Guarded::new(LINES + 200),
     };
     let mut run = Run { seed, number: 0, seen: Seen::new(), calls: 0, rooms };
     for number in first..first + inputs {

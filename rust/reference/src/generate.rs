@@ -175,6 +175,33 @@ pub fn rearrange(rng: &mut Rng, letters: &[u8], cells: &mut [Cell]) -> Vec<u8> {
     bytes
 }
 
+/// Boxes too narrow for their labels, or of depth 0, here and there; now and then one that mending leaves alone.
+pub fn cramp(rng: &mut Rng, cells: &mut [Cell]) {
+    let often = rng.pick(&[1, 2, 8]);
+    for c in cells.iter_mut() {
+        if !rng.once_in(often) {
+            continue;
+        }
+        let room = c.label_len as i64 + border(c.kind).unwrap_or(2) as i64;
+        match rng.index(4) {
+            0 => c.depth = 0,
+            1 => c.width = rng.between(0, room) as u16,
+            2 => (c.width, c.depth) = (rng.between(0, room - 1) as u16, 0),
+            _ => c.width = rng.pick(&[room - 1, room, room + 1]) as u16,
+        }
+    }
+    if rng.once_in(6) {
+        let i = rng.index(cells.len());
+        match rng.index(5) {
+            0 => cells[i].depth = rng.pick(&[16, 255]),
+            1 => cells[i].kind = rng.pick(&[0, 6, 255]),
+            2 => cells[i].label_len = rng.pick(&[40, 41, 255]),
+            3 => cells[i].depth = 15,
+            _ => cells[i].label_start = rng.next() as u16,
+        }
+    }
+}
+
 /// Makes a table such as a form of the file can hold: its widths, and in the old form no ranks.
 pub fn fit(form: Form, cells: &mut [Cell]) {
     for c in cells {

@@ -50,7 +50,7 @@ fn two(file: &[u8], at: usize) -> u16 {
 }
 
 /// The record at a place. Byte 7 of a wide one is the rank (document 02, E13); an old one has rank 0.
-fn record(file: &[u8], at: usize, form: Form) -> Cell {
+pub fn record(file: &[u8], at: usize, form: Form) -> Cell {
     let (parent, kind) = (two(file, at), file[at + 2]);
     match form {
         Form::Old => Cell {
@@ -93,8 +93,8 @@ pub fn ask_label(i: usize, c: &Cell, letters: usize) -> Result<(), Refusal> {
     Ok(())
 }
 
-/// Questions 2 to 14 of a file, in their order.
-fn parse(file: &[u8]) -> Result<Parsed, Refusal> {
+/// Questions 2 to 4 of a file: its form, the place where its records begin, and how many they are.
+pub fn shape(file: &[u8]) -> Result<(Form, usize, usize), Refusal> {
     let len = file.len();
     if !(16..=16_384).contains(&len) {
         return refuse(2, 0);
@@ -108,6 +108,12 @@ fn parse(file: &[u8]) -> Result<Parsed, Refusal> {
     if n < 1 || n > MAX_CELLS || begin + form.size() * n + 8 != len {
         return refuse(4, 0);
     }
+    Ok((form, begin, n))
+}
+
+/// Questions 2 to 14 of a file, in their order.
+fn parse(file: &[u8]) -> Result<Parsed, Refusal> {
+    let (form, begin, n) = shape(file)?;
     ask_letters(&file[..begin])?;
     let mut cells = Vec::new();
     for i in 0..n {
@@ -118,7 +124,7 @@ fn parse(file: &[u8]) -> Result<Parsed, Refusal> {
     }
     ask_tree(&cells)?;
     // Question 14 cannot be answered "no": the file keeps the allowance in two bytes.
-    Ok(Parsed { cells, allowance: two(file, trailer + 4) as u32 })
+    Ok(Parsed { cells, allowance: two(file, file.len() - 4) as u32 })
 }
 
 /// Read: the records into the table; the number of cells and the allowance.

@@ -1,12 +1,13 @@
 -- The lines as the code writes them: a first field, then each with its space before it. Assumes nothing.
-use mathlib.Core.Path.{_≡_, refl}
-use mathlib.Core.List.{[], _∷_, _++_, append-assoc}
+use mathlib.Core.Path.{_≡_, refl, sym, ap, _∙_}
+use mathlib.Core.List.{List, [], _∷_, _++_, append-assoc}
 use Prim.Native.Nat.{ℕ}
 use native.Mathlib.Omega.{arith}
 use lib.IntN.{ℤ}
 use lib.ListN.{length}
-use Rattle.listing.specs.Printed.{Bytes, space, line-feed, sheet-word, refused-word, decimal, signed, line, sheet-line, label-field, cell-line, refused-line}
-use Rattle.listing.specs.Line.{spaced}
+use lib.Seq.{take-append-seam}
+use Rattle.listing.specs.Printed.{Bytes, space, line-feed, sheet-word, refused-word, decimal, signed, line, sheet-line, label-field, cell-line, refused-line, mended-line, lines-joined}
+use Rattle.listing.specs.Line.{spaced, line-of, text}
 
 pub spaced-empty : (s : Bytes) → length s ≡ 0 → spaced s ≡ []
 unfolding spaced
@@ -18,7 +19,7 @@ unfolding spaced
 spaced-label [] e = absurd (e refl)
 spaced-label (b ∷ bs) e = refl
 
--- ---- the three lines
+-- ---- the lines
 pub sheet-line-is : (n al w h : ℕ) → sheet-word ++ (space ∷ decimal n) ++ (space ∷ decimal al) ++ (space ∷ decimal w) ++ (space ∷ decimal h) ++ (line-feed ∷ []) ≡ sheet-line n al w h
 unfolding sheet-line line
 sheet-line-is n al w h = simp append-assoc
@@ -35,3 +36,20 @@ pub cell-line-is : (c : ℕ) (x y : ℤ) (w d : ℕ) (l : Bytes)
 unfolding cell-line line label-field spaced
 cell-line-is c x y w d [] = regroup (decimal c) (space ∷ signed x) (space ∷ signed y) (space ∷ decimal w) (space ∷ decimal d) [] _
 cell-line-is c x y w d (b ∷ l) = regroup (decimal c) (space ∷ signed x) (space ∷ signed y) (space ∷ decimal w) (space ∷ decimal d) (space ∷ b ∷ l) _
+
+pub mended-line-is : (c v e w d : ℕ) → decimal c ++ (space ∷ decimal v) ++ (space ∷ decimal e) ++ (space ∷ decimal w) ++ (space ∷ decimal d) ++ (line-feed ∷ []) ≡ mended-line c v e w d
+unfolding mended-line line
+mended-line-is c v e w d = grouped (decimal c) (space ∷ decimal v) (space ∷ decimal e) (space ∷ decimal w) (space ∷ decimal d) (line-feed ∷ [])
+  where
+    grouped : (a b c d e f : Bytes) → a ++ b ++ c ++ d ++ e ++ f ≡ a ++ (b ++ (c ++ (d ++ (e ++ f))))
+    grouped a b c d e f = simp append-assoc
+
+-- ---- texts
+pub line-text : (t : Bytes) → text (line-of t) ≡ t
+unfolding line-of
+line-text t = take-append-seam t _
+
+pub joined-append : (ls ms : List Bytes) → lines-joined (ls ++ ms) ≡ lines-joined ls ++ lines-joined ms
+unfolding lines-joined
+joined-append [] ms = refl
+joined-append (l ∷ ls) ms = ap (λ (t : Bytes). l ++ t) (joined-append ls ms) ∙ sym (append-assoc l (lines-joined ls) (lines-joined ms))

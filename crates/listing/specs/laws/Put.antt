@@ -45,6 +45,10 @@ module _ {a b : List ℕ} (s : List ℕ) {i n : ℕ} (p : Put a i (take n s) b (
   pub put-all : length s ≤ n → Put a i s b (i + n)
   put-all h = rw (take-all n s h) at p
 
+-- a text of which all is written
+pub put-done : {a b : List ℕ} (s : List ℕ) {at i n k : ℕ} → Put a at (take i s) b k → i ≤ n → n ≤ i → Put a at (take n s) b k
+put-done s {i = i} {n = n} p g h = let e : i ≡ n = omega arith in rw e at p
+
 -- the digits of a number, the last one last
 pub decimal-digit : {a b : List ℕ} {i k n d : ℕ} → n < 10 → d ≡ 48 + n → Put a i (d ∷ []) b k → Put a i (decimal n) b k
 decimal-digit {n = n} l e p = rw (decimal-one n l, ← e) p
@@ -53,7 +57,7 @@ pub decimal-last : {a b c : List ℕ} {i j k n d : ℕ} → 10 ≤ n → Put a i
 decimal-last {n = n} l p e q = rw (decimal-more n l, ← e) (then p q)
 
 -- a text written at the beginning of a line's buffer
-drop-zeros : (k n : ℕ) → drop k (replicate {A = ℕ} n 0) ≡ replicate (n - k) 0
+pub drop-zeros : (k n : ℕ) → drop k (replicate {A = ℕ} n 0) ≡ replicate (n - k) 0
 drop-zeros zero n = let e : n - 0 ≡ n = omega arith in rw e
 drop-zeros (suc k) zero = let e : 0 - suc k ≡ 0 = omega arith in rw e
 drop-zeros (suc k) (suc n) = let e : suc n - suc k ≡ n - k = omega arith in rw e (drop-zeros k n)

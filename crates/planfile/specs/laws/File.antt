@@ -1,15 +1,16 @@
 -- The refusals of Read and Label, as their code puts the questions. Assumes nothing.
 use mathlib.Core.Path.{_≡_, ap, _∙_}
 use mathlib.Core.List.{List, [], _∷_, map}
+use mathlib.Core.Bool.{_&&_}
 use Prim.Native.Nat.{ℕ, _<_}
 use lib.Dec.{leb, ltb}
 use native.Mathlib.Nat.{zero-add}
 use lib.ListN.{length, getD, length-map, List·getD-map}
-use Rattle.plan.specs.Limits.{most-cells, most-allowance}
+use Rattle.plan.specs.Limits.{most-cells, most-file, lines-size, most-allowance}
 use Rattle.plan.specs.Lists.{from, some, mem}
 use Rattle.plan.specs.Plan.{Cell, Table, blank, parent, kind, W, D}
 use Rattle.plan.specs.Records.{bare, cells-of}
-use Rattle.plan.specs.Questions.{Buffer, to-fill, Subject, nothing, named, Call, Given, Step, read, label, no-label, parent-lower, kind-known, box-sized, label-inside, label-fits, children-allowed, level-low, rows-few, each, sequence, puts, root-too, number, enough, roomy, all-roomy, in-table, in-file, on-labels, widest-in, holds, asked, or-else, at-each, ask, refusal}
+use Rattle.plan.specs.Questions.{Buffer, to-fill, copy-output, lines-output, Subject, nothing, named, Call, Given, Step, read, label, mend, no-label, parent-lower, kind-known, box-sized, label-inside, label-fits, children-allowed, level-low, rows-few, each, sequence, puts, root-too, number, enough, roomy, all-roomy, in-table, in-file, on-labels, widest-in, holds, asked, or-else, at-each, ask, refusal}
 use Rattle.plan.specs.laws.Columns.{length-from, getD-from}
 use Rattle.plan.specs.laws.Questions.{each-same}
 use Rattle.plan.specs.laws.Kept.{asked-last, asked-true, none-first, and-true, or-assoc, put, with-each, kept, all-of, in-turn, refusal-kept, turn-ends, turn-once, turn-tree}
@@ -91,6 +92,15 @@ module _ (f : List ℕ) where
       let g = file-given f bs nothing in
       refusal-kept read g
       ∙ simp (turn-once read g, turn-body read bs nothing, turn-ends read g, cells-length, asked-true 0 0, none-first, and-true, or-assoc, asked-last 13 (leb (trailer-of f .allowance) most-allowance) 0)
+
+  -- ---- the mended file (document 02, E11), as Read's but for the buffers
+  pub mend-refusal : (o l : ℕ) → refusal mend (file-given f (copy-output o ∷ lines-output l ∷ []) nothing) ≡ or-else (asked 1 (leb most-file o && leb lines-size l) 0) (file-refusal f)
+  unfolding kept put with-each sequence number puts mem some from ask holds roomy all-roomy enough in-file on-labels file-given file-refusal header-refusal body-refusal
+  mend-refusal o l =
+      let bs = copy-output o ∷ lines-output l ∷ [] in
+      let g = file-given f bs nothing in
+      refusal-kept mend g
+      ∙ simp (turn-once mend g, turn-body mend bs nothing, turn-ends mend g, cells-length, asked-true 0 0, none-first, and-true, or-assoc, asked-last 13 (leb (trailer-of f .allowance) most-allowance) 0)
 
   -- ---- Label
   pub label-refusal-is : (c : ℕ) → label-refusal f c ≡ or-else (file-refusal f) (asked 16 (ltb c n) 0)

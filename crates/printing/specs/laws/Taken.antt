@@ -8,7 +8,7 @@ use native.Mathlib.Decide.{ℕ-discrete}
 use borrow.Author.Tests.{eq-eqb, ne-eqb}
 use lib.IntN.{ℤ, pos, negsuc}
 use lib.ListN.{length, getD, take, drop, length-append, length-take}
-use lib.Seq.{take-append-seam, sets-eq}
+use lib.Seq.{sets-eq}
 use Rattle.whole.specs.laws.Whole.{whole}
 use Rattle.whole.specs.Range.{InRange}
 use Rattle.whole.specs.laws.Says.{is-true, is-false, says-le}
@@ -34,14 +34,14 @@ use Rattle.planfile.specs.laws.File as Law
 use Rattle.planfile.specs.laws.Examined.{zero-of, Headed, header-read, column-at, same-table}
 use Rattle.planfile.specs.laws.Label.{label-read}
 use Rattle.planfile.specs.laws.ReadThen.{file-label, file-layout, part-of-record}
-use Rattle.listing.specs.Printed.{Bytes, decimal, signed, cell-line, refused-line}
+use Rattle.listing.specs.Printed.{Bytes, decimal, signed, cell-line, refused-line, lines-joined}
 use Rattle.listing.specs.laws.Printed.{at-most}
-use Rattle.listing.specs.Line.{spaced, line-of}
-use Rattle.listing.specs.laws.Line.{spaced-empty, spaced-label, cell-line-is}
+use Rattle.listing.specs.Line.{spaced, line-of, text}
+use Rattle.listing.specs.laws.Line.{spaced-empty, spaced-label, cell-line-is, line-text}
 use Rattle.listing.specs.Put.{Put}
 use Rattle.listing.specs.declared.Line.{Line}
 use Rattle.listing.specs.laws.Put.{then, put-none}
-use Rattle.printing.specs.Printing.{listed-of, out-after, size, Lists, label-bytes, read-table, ours, first-line, cell-of, lines-joined, listing-of, text-of, cells-text, cell-size, text, Taken}
+use Rattle.printing.specs.Printing.{listed-of, out-after, size, Lists, label-bytes, read-table, ours, first-line, cell-of, listing-of, text-of, cells-text, cell-size, Taken}
 use Rattle.printing.specs.laws.Printing.{label-short}
 use Rattle.printing.specs.declared.Listed.the-variants.{Text, Refused}
 
@@ -156,10 +156,6 @@ module _ (p : Reading) (f : Bytes) (h : Taken p f) where
         (label-short f c)
 
 -- ---- texts
-pub line-text : (t : Bytes) → text (line-of t) ≡ t
-unfolding line-of
-line-text t = take-append-seam t _
-
 joined-last : (g : ℕ → Bytes) (k d : ℕ) → lines-joined (map g (from k (suc d))) ≡ lines-joined (map g (from k d)) ++ g (k + d)
 unfolding lines-joined from
 joined-last g k zero = let e : k + 0 ≡ k = omega arith in rw e (append-nil (g k))
@@ -185,10 +181,6 @@ text-plan p f h = let e = h .is in let z = h .passes in rw (← e, eq-eqb (p .re
 pub line-given : (p : Reading) (f : Bytes) (c : ℕ) → Taken p f → c < p .columns .count → (l : Line) (t : Bytes) → l ≡ line-of t → t ≡ cell-of p f c → (l ≡ line-of (cell-of p f c)) × (l .length ≤ cell-size)
 unfolding line-of
 line-given p f c h i l t e g = let q : l ≡ line-of (cell-of p f c) = rw g at e in (q, rw q (cell-short p f h c i))
-
--- a text of which all is written
-pub put-done : {a b : List ℕ} (s : List ℕ) {at i n k : ℕ} → Put a at (take i s) b k → i ≤ n → n ≤ i → Put a at (take n s) b k
-put-done s {i = i} {n = n} p g h = let e : i ≡ n = omega arith in rw e at p
 
 -- the cells' lines, one after the other
 pub put-no-cells : (p : Reading) (f : Bytes) (a : List ℕ) (i : ℕ) → Put a i (cells-text p f 0) a i

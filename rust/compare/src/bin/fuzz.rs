@@ -17,6 +17,8 @@ use std::time::{Duration, Instant};
 const SCRATCH: usize = 16_384;
 const LISTING: usize = 17_408;
 const COPY: usize = 16_384;
+const MENDED: usize = 16_384;
+const LINES: usize = 6_144;
 
 fn fault(what: &str, seed: u64, number: u64) -> ! {
     println!("FAULT: seed {seed} input {number}: {what}");
@@ -211,15 +213,36 @@ fn copy_calls(rng: &mut Rng) -> Result<(), &'static str> {
     Ok(())
 }
 
+/// Mend, and Read, which accepts what is mended and refuses what is not.
+fn mend_calls(rng: &mut Rng) -> Result<(), &'static str> {
+    let file = lent(&some_file(rng));
+    let fill = rng.next() as u8;
+    let mut out = lent(&vec![fill; if rng.once_in(10) { rng.index(MENDED) } else { MENDED + rng.index(3) }]);
+    let mut text = lent(&vec![fill; if rng.once_in(10) { rng.index(LINES) } else { LINES + rng.index(3) }]);
+    let mended = bindings::mend(&file, &mut out, &mut text);
+    let (length, lines) = mended.unwrap_or((0, 0));
+    if out[length..].iter().chain(&text[lines..]).any(|b| *b != fill) {
+        return Err("Mend wrote past the file or the lines");
+    }
+    let read = |file: &[u8]| bindings::read(file, &mut lent(&[Record::default(); 256]));
+    match mended {
+        Ok(_) if read(&out[..length]).is_err() => Err("Read refuses a mended file"),
+        Ok(_) if read(&file).is_ok() && (out[..length] != file[..] || lines != 0) => Err("Mend altered an accepted file"),
+        Err(r) if r.number != 1 && read(&file).is_ok() => Err("Mend refuses an accepted file"),
+        _ => Ok(()),
+    }
+}
+
 fn library(end: Instant, seed: u64) -> u64 {
     let mut number = 0;
     while Instant::now() < end {
         let mut rng = Rng::new(seed, number);
-        let done = match number % 6 {
-            0 | 2 => table_calls(&mut rng),
-            1 => file_calls(&mut rng),
+        let done = match number % 7 {
+            0 | 1 => table_calls(&mut rng),
+            2 => file_calls(&mut rng),
             3 => list_call(&mut rng),
             4 => copy_calls(&mut rng),
+            5 => mend_calls(&mut rng),
             _ => frame_calls(&mut rng),
         };
         done.unwrap_or_else(|what| fault(what, seed, number));

@@ -2,12 +2,11 @@ use Prim.Native.Nat.{_+_, _-_, _≤_}
 use mathlib.Core.Path.{_≡_, refl}
 use native.Mathlib.Omega.{arith}
 use lib.ListN.{length, take, length-set}
 use Rattle.listing.specs.Put.{Put}
-use Rattle.printing.specs.laws.Taken.{put-done}
-use Rattle.listing.specs.laws.Put.{put-start, put-more}
+use Rattle.listing.specs.laws.Put.{put-start, put-more, put-done}
 use borrow.Author.Needs.{needs}
-use Rattle.printing.proofs.put_line.Statement.{statement}
-use Rattle.printing.proofs.put_line.Tie as tie
+use Rattle.listing.proofs.put_line.Statement.{statement}
+use Rattle.listing.proofs.put_line.Tie as tie
 
 abbrev Inv-loop : tie.InvT-loop
 Inv-loop out₀ at bytes n i₀ out i = (i ≤ n) × (length out ≡ length out₀) × Put out₀ at (take i bytes) out (at + i)

@@ -1,0 +1,7 @@
+pub mod Boxes
+pub mod Mended
+pub mod Promised
+pub mod Mending
+pub mod Steps
+pub mod Worked
+pub mod laws

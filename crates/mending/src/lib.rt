@@ -1,0 +1,196 @@
+// MENDING (document 02, E11): boxes too narrow for their labels are widened, boxes of depth 0 get depth 1, and a line tells of each cell altered.
+mod boxes;
+
+use crate::boxes::new_depth;
+use crate::boxes::new_width;
+use crate::boxes::raise_depth;
+use crate::boxes::raise_width;
+use listing::mended_line;
+use listing::put_line;
+use plan::Record;
+use plan::forms::Form;
+use plan::forms::form_of;
+use plan::limits::LINES_SIZE;
+use plan::limits::MOST_CELLS;
+use plan::limits::MOST_FILE;
+use plan::limits::between;
+use planfile::cursor::Cursor;
+use planfile::table::place;
+use planfile::table::trailer;
+ghost use mathlib.Core.Path.{_≡_};
+ghost use mathlib.Core.Bool.{false};
+ghost use mathlib.Core.List.{_++_};
+ghost use Prim.Native.Nat.{_+_, _*_, _-_, _≤_, _<_};
+ghost use lib.ListN.{length, drop, replicate};
+ghost use Rattle.plan.specs.Limits.{between, «most-cells», «most-file», «lines-size»};
+ghost use Rattle.plan.specs.Forms.{«record-size»};
+ghost use Rattle.planfile.specs.Format.{«record-at»};
+ghost use Rattle.listing.specs.Put.{Put};
+ghost use Rattle.mending.specs.Boxes.{changed};
+ghost use Rattle.mending.specs.Mended.{«mend-record», «mend-records», «would-get», mended};
+ghost use Rattle.mending.specs.Mending.{Mends};
+ghost use Rattle.mending.specs.Steps.{«alteration-text», «alterations-text», «line-room»};
+
+// The lengths of the mended file and of its lines; or the refusal's number and cell.
+pub enum Mended {
+    Written(usize, usize),
+    Refused(u8, u16),
+}
+
+// The record of the file at a place, mended in the output there.
+fn mend_record(form: Form, file: &[u8], out: &mut [u8], at: usize)
+    requires { ⌜ (at + record-size form ≤ length (now file)) × (at + record-size form ≤ length (now out)) ⌝ }
+    ensures { λ _. ⌜ now (out .exit) ≡ mend-record form at (record-at form (now (file .entry)) at) (now (out .entry)) ⌝ }
+{
+    let cursor = Cursor { at };
+    let entry = cursor.entry(file, form);
+    let r = entry.fields;
+    raise_width(form, r, out, at);
+    raise_depth(form, r, out, at);
+}
+
+// The n records from begin on.
+fn mend_records(form: Form, file: &[u8], begin: usize, n: usize, out: &mut [u8])
+    requires { ⌜ (n ≤ most-cells) × (begin + record-size form * n ≤ length (now file)) × (length (now out) ≡ length (now file)) ⌝ }
+    ensures { λ _. ⌜ now (out .exit) ≡ mend-records form begin (λ c. record-at form (now (file .entry)) (begin + record-size form * c)) (now (out .entry)) n ⌝ }
+{
+    let mut c: usize = 0;
+    while c < n {
+        mend_record(form, file, out, place(form, begin, c));
+        c += 1;
+    }
+}
+
+// The bytes of a file at the beginning of an output.
+fn copy(file: &[u8], out: &mut [u8])
+    requires { ⌜ length (now file) ≤ length (now out) ⌝ }
+    ensures { λ _. ⌜ now (out .exit) ≡ now (file .entry) ++ drop (length (now (file .entry))) (now (out .entry)) ⌝ }
+{
+    let mut i: usize = 0;
+    while i < file.len() {
+        out[i] = file[i];
+        i += 1;
+    }
+}
+
+// Whether a record's box is altered.
+fn changed(r: Record) -> bool
+    ensures { λ b. ⌜ b ≡ changed r ⌝ }
+{
+    boxes::cramped(r.kind, r.label_length, r.width)
+        | boxes::shallow(r.kind, r.label_length, r.depth)
+}
+
+// A number of two bytes, and one of one byte, for a line.
+fn of_two(x: u16) -> u32
+    ensures { λ r. ⌜ (r ≡ x) × (r < 65536) ⌝ }
+{
+    x as u32
+}
+
+fn of_one(x: u8) -> u32
+    ensures { λ r. ⌜ (r ≡ x) × (r < 256) ⌝ }
+{
+    x as u32
+}
+
+// The line of a cell that is altered, at a place of the output; of another cell nothing.
+fn put_alteration(cell: usize, r: Record, out: &mut [u8], at: usize) -> usize
+    requires { ⌜ (cell < most-cells) × (at + line-room ≤ length (now out)) ⌝ }
+    ensures { λ n. ⌜ Put (now (out .entry)) at (alteration-text cell r) (now (out .exit)) n × (n ≤ at + line-room) ⌝ }
+{
+    if changed(r) {
+        let line = mended_line(
+            cell as u32,
+            of_two(r.width),
+            of_one(r.depth),
+            of_two(new_width(r)),
+            of_one(new_depth(r)),
+        );
+        return put_line(line, out, at);
+    }
+    at
+}
+
+// The record of a cell.
+fn record_of(form: Form, file: &[u8], begin: usize, cell: usize) -> Record
+    requires { ⌜ (cell < most-cells) × (begin + record-size form * cell + record-size form ≤ length (now file)) ⌝ }
+    ensures { λ r. ⌜ r ≡ record-at form (now (file .entry)) (begin + record-size form * cell) ⌝ }
+{
+    let cursor = Cursor {
+        at: place(form, begin, cell),
+    };
+    let entry = cursor.entry(file, form);
+    entry.fields
+}
+
+// The lines of the n records from begin on: their length.
+fn put_lines(form: Form, file: &[u8], begin: usize, n: usize, out: &mut [u8]) -> usize
+    requires { ⌜ (n ≤ most-cells) × (begin + record-size form * n ≤ length (now file)) × (lines-size ≤ length (now out)) ⌝ }
+    ensures { λ k. ⌜ Put (now (out .entry)) 0 (alterations-text (λ c. record-at form (now (file .entry)) (begin + record-size form * c)) n) (now (out .exit)) k × (k ≤ line-room * n) ⌝ }
+{
+    let mut next: usize = 0;
+    let mut c: usize = 0;
+    while c < n {
+        next = put_alteration(c, record_of(form, file, begin, c), out, next);
+        c += 1;
+    }
+    next
+}
+
+// The mended file, and zeros after it.
+fn mended_copy(file: &[u8]) -> [u8; MOST_FILE]
+    requires { ⌜ between 2 4 (would-get (now file) .number) ≡ false ⌝ }
+    ensures { λ r. ⌜ r ≡ mended (now (file .entry)) ++ replicate (most-file - length (now (file .entry))) 0 ⌝ }
+{
+    let t = trailer(file);
+    let form = form_of(t.mark);
+    let size = file.len();
+    let mut out = [0u8; MOST_FILE];
+    copy(file, &mut out);
+    mend_records(
+        form,
+        file,
+        t.begin as usize,
+        t.count as usize,
+        &mut out[..size],
+    );
+    out
+}
+
+// The mended file and its lines, where Read accepts it; else the refusal that it gets.
+fn mend_file(file: &[u8], out: &mut [u8], lines: &mut [u8]) -> Mended
+    requires { ⌜ (between 2 4 (would-get (now file) .number) ≡ false) × (most-file ≤ length (now out)) × (lines-size ≤ length (now lines)) ⌝ }
+    ensures { λ r. ⌜ Mends (now (file .entry)) (now (out .entry)) (now (out .exit)) (now (lines .entry)) (now (lines .exit)) r ⌝ }
+{
+    let size = file.len();
+    let bytes = mended_copy(file);
+    let after = planfile::read(&bytes[..size], MOST_CELLS);
+    let refusal = after.refusal;
+    if refusal.number != 0 {
+        return Mended::Refused(refusal.number, refusal.cell);
+    }
+    copy(&bytes[..size], out);
+    let t = trailer(file);
+    let form = form_of(t.mark);
+    let length = put_lines(form, file, t.begin as usize, t.count as usize, lines);
+    Mended::Written(size, length)
+}
+
+// Mend: the mended file and its lines into two outputs, and their lengths; or the refusal. A file that 2 to 4 refuse is not altered.
+pub fn mend(file: &[u8], out: &mut [u8], lines: &mut [u8]) -> Mended
+    ensures { λ r. ⌜ Mends (now (file .entry)) (now (out .entry)) (now (out .exit)) (now (lines .entry)) (now (lines .exit)) r ⌝ }
+{
+    if out.len() < MOST_FILE {
+        return Mended::Refused(1, 0);
+    }
+    if lines.len() < LINES_SIZE {
+        return Mended::Refused(1, 0);
+    }
+    let before = planfile::read(file, MOST_CELLS);
+    let refusal = before.refusal;
+    if between(2, 4, refusal.number as u16) {
+        return Mended::Refused(refusal.number, refusal.cell);
+    }
+    mend_file(file, out, lines)
+}

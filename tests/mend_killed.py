@@ -1,0 +1,59 @@
+#!/usr/bin/env python3
+"""Kills the program `mend` at random moments, some hundred times, with and without a second file there before: afterwards that file is absent, as it was, or whole.
+
+    tests/mend_killed.py PROGRAM PLAN MENDED
+"""
+import os
+import random
+import subprocess
+import sys
+import tempfile
+import time
+
+TIMES = 400
+OLD = b'what stood here'
+
+
+def main():
+    program, plan, mended = sys.argv[1:4]
+    whole = open(mended, 'rb').read()
+    chance = random.Random(20261116)
+    seen = {'absent': 0, 'as it was': 0, 'whole': 0}
+    with tempfile.TemporaryDirectory() as folder:
+        second = os.path.join(folder, 'second')
+        # how long an undisturbed run takes
+        took = []
+        for _ in range(20):
+            began = time.perf_counter()
+            subprocess.run([program, second], stdin=open(plan, 'rb'), stdout=subprocess.DEVNULL, check=False)
+            took.append(time.perf_counter() - began)
+        longest = sorted(took)[-3] * 1.5
+        for number in range(TIMES):
+            for name in os.listdir(folder):
+                os.unlink(os.path.join(folder, name))
+            there = number % 2 == 1
+            if there:
+                with open(second, 'wb') as f:
+                    f.write(OLD)
+            child = subprocess.Popen([program, second], stdin=open(plan, 'rb'), stdout=subprocess.DEVNULL, stderr=subprocess.DEVNULL)
+            until = time.perf_counter() + chance.uniform(0, longest)
+            while time.perf_counter() < until:
+                pass
+            child.kill()
+            child.wait()
+            found = open(second, 'rb').read() if os.path.exists(second) else None
+            if found == whole:
+                seen['whole'] += 1
+            elif found == (OLD if there else None):
+                seen['as it was' if there else 'absent'] += 1
+            else:
+                print(f'tests/mend_killed.py: killed in run {number}, the second file is {found!r}')
+                return 1
+    print(f'mend, killed {TIMES} times:', ', '.join(f'{n} {what}' for what, n in seen.items()))
+    if not seen['whole'] or not seen['absent'] or not seen['as it was']:
+        print('tests/mend_killed.py: one of the three was never seen')
+        return 1
+    return 0
+
+
+sys.exit(main())
