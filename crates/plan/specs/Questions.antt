@@ -16,7 +16,7 @@ use Rattle.plan.specs.declared.Refusal.{Refusal}
 
 -- ---- what a call is given
 -- a lent buffer of a length that question 1 asks for, with the length that it has: a table to fill, Layout's scratch, the output of a listing; of document 02 the output of a clean copy
--- or of a mended file and of the lines that tell the mending (E4, E11), a drill's list (E12), the second scratch of a sheet that is being made (E9)
+-- or of a mended file (E4, E11), and that of the lines that tell the mending
 pub data Buffer : Type 0 where
   to-fill scratch output : ℕ → Buffer
   copy-output : ℕ → Buffer
@@ -27,8 +27,7 @@ pub data Lent : Type 0 where
   absent : Lent
   long : ℕ → Lent
 
--- what a call is asked about besides: a cell that is named; a frame of so many squares; a page and the number of a stroke on it (document 02, E1); so many answer bytes (E12);
--- the cells that are finished so far and, of them or not, the cell whose reach is asked for (E9)
+-- what a call is asked about besides: a cell that is named; a frame of so many squares
 pub data Subject : Type 0 where
   nothing : Subject
   named squares : ℕ → Subject
