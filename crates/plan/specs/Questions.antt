@@ -121,6 +121,7 @@ sequence =
 pub data Call : Type 0 where
   read label layout check ends list frame : Call
   stroke : Call
+  strip : Call
 
 -- the numbers of the questions that a call puts
 unfoldable pub puts : Call → List ℕ
@@ -133,6 +134,7 @@ puts ends = 1 ∷ 4 ∷ 6 ∷ 7 ∷ 8 ∷ 11 ∷ 12 ∷ 13 ∷ 15 ∷ 16 ∷ []
 puts list = 1 ∷ []
 puts frame = 1 ∷ 4 ∷ 6 ∷ 7 ∷ 8 ∷ 11 ∷ 12 ∷ 13 ∷ 19 ∷ []
 puts stroke = 1 ∷ 4 ∷ 6 ∷ 7 ∷ 8 ∷ 11 ∷ 12 ∷ 13 ∷ 15 ∷ 17 ∷ 18 ∷ []
+puts strip = 1 ∷ 4 ∷ 6 ∷ 7 ∷ 8 ∷ 11 ∷ 12 ∷ 13 ∷ 15 ∷ []
 
 -- whether the root may be named
 unfoldable pub root-too : Call → Bool
@@ -144,6 +146,7 @@ root-too check = true
 root-too list = true
 root-too frame = true
 root-too stroke = true
+root-too strip = true
 
 -- ---- what each question asks
 unfoldable pub roomy : Buffer → Bool
@@ -314,3 +317,8 @@ frame-given t f s =
 unfoldable pub stroke-given : Table → (positions : List ℤ) → Page → (s : ℕ) → Given
 stroke-given t ps g s =
     record { source = lent; table = t; allowance = 0; buffers = []; positions = long (length ps); coordinates = ps; subject = stroked g s }
+
+-- what a strip is given (document 02, E8), of which a question asks: a table and positions
+unfoldable pub strip-given : Table → (positions : List ℤ) → Given
+strip-given t ps =
+    record { source = lent; table = t; allowance = 0; buffers = []; positions = long (length ps); coordinates = ps; subject = nothing }
