@@ -1,5 +1,4 @@
-use native.Mathlib.Omega.{arith}
-use Rattle.ends.specs.laws.Halves.{half-close}
+use Rattle.strokes.specs.laws.Raised.{half-low}
 use borrow.Author.Needs.{needs}
 use Rattle.strokes.proofs.half_of.Statement.{statement}
 use Rattle.strokes.proofs.half_of.Tie as tie
@@ -14,7 +13,7 @@ half-requires : tie.Need-half-requires
 half-requires c κs = search needs
 
 returns : tie.Need-returns
-returns c = (c .half .ensures, omega (arith, c .half .ensures, half-close _ .low, c .before .before .pre .1))
+returns c = (c .half .ensures, half-low _ _ (c .half .ensures) (c .before .before .pre .1))
 
 pub half-of-spec : {M : Type 1} → statement M
 half-of-spec = tie.close (tie.spec mul-half element-copy-out-half half-requires returns)

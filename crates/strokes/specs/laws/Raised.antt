@@ -5,7 +5,7 @@ use Prim.Native.Nat.{ℕ, zero, suc, _+_, _*_, _-_, _/_, _%_, _≤_, _<_}
 use native.Mathlib.Omega.{arith}
 use lib.ListN.{length, getD}
 use lib.IntN.{ℤ}
-use Rattle.plan.specs.Limits.{most-cells}
+use Rattle.plan.specs.Limits.{most-cells, most-width}
 use Rattle.plan.specs.Plan.{parent}
 use Rattle.plan.specs.Fit.{Fit}
 use Rattle.plan.specs.Near.{Near}
@@ -18,6 +18,7 @@ use Rattle.rules.specs.Placement.{placed, right, base}
 use Rattle.corners.specs.Corners.{Leftmost}
 use Rattle.corners.specs.laws.Corners.{moved-is, back-is, across-is, across-moved, left-is}
 use Rattle.ends.specs.Ended.{half, joined}
+use Rattle.ends.specs.laws.Halves.{half-close}
 use Rattle.pen.specs.declared.Stroke.{Stroke}
 use Rattle.pen.specs.declared.Stroke.the-variants.{Lift}
 use Rattle.pen.specs.Paper.{across, down}
@@ -98,3 +99,6 @@ pub boxed : (t : Columns) → Fit (table-of t) → (c : ℕ) → c < t .count �
 boxed t fit c h =
     let i : c < length (table-of t) = omega (arith, length-is t) in
     record { few = omega (arith, count-few t fit); wide = omega (arith, width-is t c h, fit .wide c i .1); deep = omega (arith, depth-is t c h, fit .deep c i .1) }
+
+pub half-low : (w h : ℕ) → h ≡ half w → w ≤ most-width → h ≤ most-width
+half-low w h e l = omega (arith, half-close w .low)
