@@ -51,7 +51,7 @@ fn from_to(low: f64, high: f64, x: f64) -> bool
 }
 
 // Question 17.
-fn fair(page: Page) -> bool
+pub fn fair(page: Page) -> bool
     ensures { λ r. ⌜ r ≡ fair page ⌝ }
 {
     if !from_to(0.25, 16.0, page.pitch) {
@@ -192,7 +192,7 @@ fn connector_of<'a>(
 }
 
 // Stroke s of a sheet that no question refuses.
-fn drawn(t: Columns, positions: &[i32], page: Page, s: usize) -> Stroke
+pub fn drawn(t: Columns, positions: &[i32], page: Page, s: usize) -> Stroke
     requires { ⌜ Fit (table-of t) × Near (now positions) (t .count) × (s < strokes-of (t .count)) ⌝ }
     ensures { λ r. ⌜ r ≡ getD (strokes (table-of t) (placed (now (positions .entry))) page) s Stroke.Lift ⌝ }
 {
