@@ -102,7 +102,12 @@ pub extern "C" fn kuzpalen_frame(table: &[Record], squares: u32, scratch: &mut [
 }
 
 #[no_mangle]
-pub extern "C" fn kuzpalen_stroke(table: &[Record], positions: &[i32], page: Page, s: usize) -> StrokeAnswer
+pub extern "C" fn kuzpalen_stroke(
+    table: &[Record],
+    positions: &[i32],
+    page: Page,
+    s: usize,
+) -> StrokeAnswer
     ensures { λ r. ⌜ r ≡ stroke-answer (stroked-of (cells-of (now (table .entry))) (now (positions .entry)) page s) ⌝ }
 {
     let answer = plotting::stroke_at(table, positions, page, s);

@@ -1,15 +1,13 @@
 -- THE DRAWING OF A PLAN FILE in SVG, every byte of it: what the program `plot` prints (document 02, E1; docs/DECISIONS.md). Assumes nothing.
-use mathlib.Core.Path.{_≡_}
 use mathlib.Core.Bool.{cond}
-use mathlib.Core.List.{List, [], _∷_, _++_, map}
-use Prim.Native.Nat.{ℕ, _+_, _*_}
+use mathlib.Core.List.{List, [], _∷_, _++_}
+use Prim.Native.Nat.{ℕ, zero, suc, _+_, _*_}
 use lib.Dec.{eqb}
 use lib.IntN.{ℤ, pos}
 use lib.Ieee.{Float, binary64, ofInt, add, mul}
-use lib.ListN.{getD, replicate}
+use lib.ListN.{length, getD, replicate}
 use Rattle.whole.specs.Whole.{plus}
 use Rattle.plan.specs.Limits.{most-cells}
-use Rattle.plan.specs.Lists.{from}
 use Rattle.plan.specs.Pages.{fair}
 use Rattle.plan.specs.declared.Page.{Page}
 use Rattle.rules.specs.Placement.{placed, width, rows}
@@ -17,7 +15,7 @@ use Rattle.positions.specs.Written.{written}
 use Rattle.planfile.specs.declared.Reading.{Reading}
 use Rattle.planfile.specs.Reading.{reading-of}
 use Rattle.listing.specs.Printed.{Bytes, space, refused-line}
-use Rattle.printing.specs.Printing.{label-bytes, read-table, ours, lines-joined}
+use Rattle.printing.specs.Printing.{label-bytes, read-table, ours}
 use Rattle.decimals.specs.Fixed.{millimetres}
 use Rattle.pen.specs.declared.Stroke.{Stroke}
 use Rattle.pen.specs.declared.Stroke.the-variants.{Move, Line, Lift}
@@ -46,11 +44,16 @@ escaped [] = []
 escaped (b ∷ bs) = letter b ++ escaped bs
 
 -- a label beside the point where its box's lower left corner is: the end of the line that is stroke 3 of the box; no text where it is empty
+unfoldable pub label-at : (x y : Float) → Bytes → Bytes
+label-at x y l = text-open ++ (millimetres x ++ (text-y ++ (millimetres y ++ (text-shift ++ (escaped l ++ text-close)))))
+
+unfoldable pub at-line : Stroke → Bytes → Bytes
+at-line (Move x y) l = []
+at-line (Line x y) l = label-at x y l
+at-line Lift l = []
+
 unfoldable pub label-text : Stroke → Bytes → Bytes
-label-text s [] = []
-label-text (Move x y) (b ∷ bs) = []
-label-text (Line x y) (b ∷ bs) = text-open ++ (millimetres x ++ (text-y ++ (millimetres y ++ (text-shift ++ (escaped (b ∷ bs) ++ text-close)))))
-label-text Lift (b ∷ bs) = []
+label-text s l = cond (eqb (length l) 0) [] (at-line s l)
 
 -- ---- the page: as long as so many lattice units, with a margin on both sides
 unfoldable pub side : (units : ℕ) (pitch margin : Float) → Float
@@ -72,8 +75,10 @@ our-strokes p g = strokes (read-table p) (placed (our-positions p)) g
 unfoldable pub label-of : Reading → Page → (file : Bytes) → (cell : ℕ) → Bytes
 label-of p g f c = label-text (getD (our-strokes p g) (6 * c + 3) Lift) (label-bytes f c)
 
+-- those of the first n cells
 unfoldable pub labels-text : Reading → Page → (file : Bytes) → ℕ → Bytes
-labels-text p g f n = lines-joined (map (label-of p g f) (from 0 n))
+labels-text p g f zero = []
+labels-text p g f (suc c) = labels-text p g f c ++ label-of p g f c
 
 unfoldable pub sheet-text : Reading → Page → (file : Bytes) → Bytes
 sheet-text p g f =

@@ -6,7 +6,7 @@ use lib.IntN.{ℤ}
 use Rattle.plan.specs.Fit.{Fit}
 use Rattle.plan.specs.Near.{Near}
 use Rattle.planfile.specs.declared.Reading.{Reading}
-use Rattle.printing.specs.Printing.{Taken, read-table}
+use Rattle.printing.specs.Printing.{read-table}
 use Rattle.svg.specs.Drawing.{our-positions}
 
 abbrev pub point-size : ℕ
@@ -27,9 +27,8 @@ labels-head-size = 128
 abbrev pub drawing-size : ℕ
 drawing-size = 262144
 
--- a plan that Read gives of a file, and our sheet's positions
-pub record Ready (p : Reading) (f : List ℕ) (ps : List ℤ) : Type 0 where
-  pub taken : Taken p f
+-- a plan that can be drawn, and our sheet's positions
+pub record Ready (p : Reading) (ps : List ℤ) : Type 0 where
   pub fit : Fit (read-table p)
   pub near : Near ps (p .columns .count)
   pub is : ps ≡ our-positions p

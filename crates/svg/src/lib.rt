@@ -4,21 +4,20 @@ use decimals::put_millimetres;
 use decimals::put_text;
 use listing::refused_line;
 use pen::Stroke;
-use plan::Columns;
 use plan::Page;
 use plan::limits::MOST_CELLS;
 use plan::limits::SCRATCH_SIZE;
 use planfile::Reading;
-use printing::put_line;
 use strokes::drawn;
 use strokes::fair;
 ghost use mathlib.Core.Path.{_≡_};
 ghost use Prim.Native.Nat.{_+_, _*_, _-_, _≤_};
 ghost use lib.ListN.{length};
 ghost use Rattle.plan.specs.Limits.{«most-label»};
+ghost use Rattle.listing.specs.Printed.{«refused-line»};
 ghost use Rattle.listing.specs.Put.{Put};
 ghost use Rattle.printing.specs.Printing.{Taken};
-ghost use Rattle.svg.specs.Drawing.{«point-text», «stroke-text», «strokes-text», letter, escaped, «label-text», side, «head-text», «labels-head», «our-strokes», «labels-text», «sheet-text», «drawing-of»};
+ghost use Rattle.svg.specs.Drawing.{«point-text», «stroke-text», «strokes-text», letter, escaped, «label-at», «label-text», side, «head-text», «labels-head», «our-strokes», «labels-text», «sheet-text», «drawing-of»};
 ghost use Rattle.svg.specs.Sizes.{«point-size», «stroke-size», «label-size», «head-size», «labels-head-size», «drawing-size», Ready};
 
 // Bytes of an output for a drawing: more than the longest has.
@@ -55,8 +54,8 @@ fn put_stroke(stroke: Stroke, out: &mut [u8], at: usize) -> usize
 }
 
 // All strokes of our sheet.
-fn put_strokes(plan: Reading, file: &[u8], positions: &[i32], page: Page, out: &mut [u8], at: usize) -> usize
-    requires { ⌜ Ready plan (now file) (now positions) × (at + stroke-size * (9 * plan .columns .count - 3) ≤ length (now out)) ⌝ }
+fn put_strokes(plan: Reading, positions: &[i32], page: Page, out: &mut [u8], at: usize) -> usize
+    requires { ⌜ Ready plan (now positions) × (at + stroke-size * (9 * plan .columns .count - 3) ≤ length (now out)) ⌝ }
     ensures { λ r. ⌜ Put (now (out .entry)) at (strokes-text (our-strokes plan page)) (now (out .exit)) r × (r ≤ at + stroke-size * (9 * plan .columns .count - 3)) ⌝ }
 {
     let t = plan.columns;
@@ -69,4 +68,175 @@ fn put_strokes(plan: Reading, file: &[u8], positions: &[i32], page: Page, out: &
         s += 1;
     }
     next
+}
+
+// A letter of a label, as a text of SVG has it.
+fn put_letter(b: u8, out: &mut [u8], at: usize) -> usize
+    requires { ⌜ at + 5 ≤ length (now out) ⌝ }
+    ensures { λ r. ⌜ Put (now (out .entry)) at (letter b) (now (out .exit)) r × (r ≤ at + 5) ⌝ }
+{
+    if b == 38 {
+        return put_text(b"&amp;", out, at);
+    }
+    if b == 60 {
+        return put_text(b"&lt;", out, at);
+    }
+    if b == 62 {
+        return put_text(b"&gt;", out, at);
+    }
+    put_byte(b, out, at)
+}
+
+// The letters of a label.
+fn put_letters(label: &[u8], out: &mut [u8], at: usize) -> usize
+    requires { ⌜ at + 5 * length (now label) ≤ length (now out) ⌝ }
+    ensures { λ r. ⌜ Put (now (out .entry)) at (escaped (now (label .entry))) (now (out .exit)) r × (r ≤ at + 5 * length (now (label .entry))) ⌝ }
+{
+    let mut next = at;
+    let mut i: usize = 0;
+    while i < label.len() {
+        next = put_letter(label[i], out, next);
+        i += 1;
+    }
+    next
+}
+
+// A label that is not empty, at a point.
+fn put_label_at(x: f64, y: f64, label: &[u8], out: &mut [u8], at: usize) -> usize
+    requires { ⌜ (length (now label) ≤ most-label) × (at + label-size ≤ length (now out)) ⌝ }
+    ensures { λ r. ⌜ Put (now (out .entry)) at (label-at x y (now (label .entry))) (now (out .exit)) r × (r ≤ at + label-size) ⌝ }
+{
+    let a = put_text(b"<text x=\"", out, at);
+    let b = put_millimetres(x, out, a);
+    let c = put_text(b"\" y=\"", out, b);
+    let d = put_millimetres(y, out, c);
+    let e = put_text(b"\" dx=\"0.4em\" dy=\"-0.3em\">", out, d);
+    let f = put_letters(label, out, e);
+    put_text(b"</text>\n", out, f)
+}
+
+// A label where a line ends; nothing where it is empty.
+fn put_label(stroke: Stroke, label: &[u8], out: &mut [u8], at: usize) -> usize
+    requires { ⌜ (length (now label) ≤ most-label) × (at + label-size ≤ length (now out)) ⌝ }
+    ensures { λ r. ⌜ Put (now (out .entry)) at (label-text stroke (now (label .entry))) (now (out .exit)) r × (r ≤ at + label-size) ⌝ }
+{
+    if label.len() == 0 {
+        return at;
+    }
+    match stroke {
+        Stroke::Move(_, _) => at,
+        Stroke::Line(x, y) => put_label_at(x, y, label, out, at),
+        Stroke::Lift => at,
+    }
+}
+
+// All labels.
+fn put_labels(
+    plan: Reading,
+    file: &[u8],
+    positions: &[i32],
+    page: Page,
+    out: &mut [u8],
+    at: usize,
+) -> usize
+    requires { ⌜ Ready plan (now positions) × (at + label-size * plan .columns .count ≤ length (now out)) ⌝ }
+    ensures { λ r. ⌜ Put (now (out .entry)) at (labels-text plan page (now (file .entry)) (plan .columns .count)) (now (out .exit)) r × (r ≤ at + label-size * plan .columns .count) ⌝ }
+{
+    let t = plan.columns;
+    let n = t.count;
+    let mut next = at;
+    let mut c: usize = 0;
+    while c < n {
+        let corner = drawn(t, positions, page, 6 * c + 3);
+        next = put_label(corner, planfile::label(file, c), out, next);
+        c += 1;
+    }
+    next
+}
+
+// So many lattice units, and a margin on both sides.
+fn side(units: u32, pitch: f64, margin: f64) -> f64
+    ensures { λ r. ⌜ r ≡ side units pitch margin ⌝ }
+{
+    (units as f64) * pitch + margin + margin
+}
+
+// What stands before the strokes.
+fn put_head(wide: f64, high: f64, out: &mut [u8], at: usize) -> usize
+    requires { ⌜ at + head-size ≤ length (now out) ⌝ }
+    ensures { λ r. ⌜ Put (now (out .entry)) at (head-text wide high) (now (out .exit)) r × (r ≤ at + head-size) ⌝ }
+{
+    let a = put_text(
+        b"<svg xmlns=\"http://www.w3.org/2000/svg\" width=\"",
+        out,
+        at,
+    );
+    let b = put_millimetres(wide, out, a);
+    let c = put_text(b"mm\" height=\"", out, b);
+    let d = put_millimetres(high, out, c);
+    let e = put_text(b"mm\" viewBox=\"0 0 ", out, d);
+    let f = put_point(wide, high, out, e);
+    put_text(
+        b"\">\n<g fill=\"none\" stroke=\"black\" stroke-width=\"0.35\" stroke-linejoin=\"round\">\n",
+        out,
+        f,
+    )
+}
+
+// What stands before the labels.
+fn put_labels_head(pitch: f64, out: &mut [u8], at: usize) -> usize
+    requires { ⌜ at + labels-head-size ≤ length (now out) ⌝ }
+    ensures { λ r. ⌜ Put (now (out .entry)) at (labels-head pitch) (now (out .exit)) r × (r ≤ at + labels-head-size) ⌝ }
+{
+    let a = put_text(b"</g>\n<g font-family=\"monospace\" font-size=\"", out, at);
+    let b = put_millimetres(pitch, out, a);
+    put_text(b"\"><g font-size=\"70%\">\n", out, b)
+}
+
+// The drawing of a plan that Read gave, on a page that question 17 passes.
+fn write_sheet(plan: Reading, file: &[u8], page: Page, out: &mut [u8]) -> usize
+    requires { ⌜ Taken plan (now file) × (drawing-size ≤ length (now out)) ⌝ }
+    ensures { λ r. ⌜ Put (now (out .entry)) 0 (sheet-text plan page (now (file .entry))) (now (out .exit)) r × (r ≤ drawing-size) ⌝ }
+{
+    let mut scratch = [0u32; SCRATCH_SIZE];
+    let mut positions = [0i32; 2 * MOST_CELLS];
+    let sheet = layout::draw_over_zeros(
+        plan.columns,
+        plan.allowance as u32,
+        &mut scratch,
+        &mut positions,
+    );
+    let wide = side(sheet.width, page.pitch, page.margin_x);
+    let high = side(sheet.rows, page.pitch, page.margin_y);
+    let a = put_head(wide, high, out, 0);
+    let b = put_strokes(plan, &positions, page, out, a);
+    let c = put_labels_head(page.pitch, out, b);
+    let d = put_labels(plan, file, &positions, page, out, c);
+    put_text(b"</g></g>\n</svg>\n", out, d)
+}
+
+// The line of a refusal.
+fn put_refused(number: u8, cell: u16, out: &mut [u8]) -> usize
+    requires { ⌜ drawing-size ≤ length (now out) ⌝ }
+    ensures { λ r. ⌜ Put (now (out .entry)) 0 (refused-line number cell) (now (out .exit)) r × (r ≤ drawing-size) ⌝ }
+{
+    let line = refused_line(number as u32, cell as u32);
+    let bytes = line.bytes;
+    put_text(&bytes[..line.length], out, 0)
+}
+
+// The drawing of a plan file on a page, or the line of the refusal, into an output that is long enough: its length.
+pub fn write_drawing(file: &[u8], page: Page, out: &mut [u8]) -> usize
+    requires { ⌜ drawing-size ≤ length (now out) ⌝ }
+    ensures { λ r. ⌜ Put (now (out .entry)) 0 (drawing-of (now (file .entry)) page) (now (out .exit)) r × (r ≤ drawing-size) ⌝ }
+{
+    let plan = planfile::read(file, MOST_CELLS);
+    let refusal = plan.refusal;
+    if refusal.number != 0 {
+        return put_refused(refusal.number, refusal.cell, out);
+    }
+    if !fair(page) {
+        return put_refused(17, 0, out);
+    }
+    write_sheet(plan, file, page, out)
 }

@@ -6,7 +6,7 @@ use Prim.Native.Nat.{ℕ, suc, _+_, _*_, _/_, _%_, _^_, _≤_, _<_}
 use native.Mathlib.Omega.{arith}
 use lib.Dec.{T}
 use lib.IntN.{pos}
-use lib.Ieee.{Float, binary64, ofInt, ofBits, add, mul, lt, le, eq, toUnsigned, round, sum, units, odd, size, span, climb, ofFields, up, down}
+use lib.Ieee.{Float, fin, binary64, ofInt, ofBits, add, mul, lt, le, eq, toUnsigned, round, sum, units, odd, size, span, climb, ofFields, up, down}
 use lib.Count.{trailingZeros}
 use lib.ListN.{length, length-append}
 use Rattle.listing.specs.Printed.{Bytes, digit, digits, decimal}
@@ -26,20 +26,24 @@ unfolding fixed
 fixed-short {n} h = rw length-append (omega (arith, twenty {n = n / 1000} (omega arith)))
 
 -- the five parts, written one after the other
-pub fixed-put : {a b c d e f : List ℕ} {i j k l m o n x y z : ℕ} → Put a i (decimal (n / 1000)) b j → Put b j (point ∷ []) c k
+pub fixed-put : {a b c d e f : List ℕ} {i j k l m o x y z : ℕ} (n : ℕ) → Put a i (decimal (n / 1000)) b j → Put b j (point ∷ []) c k
     → x ≡ 48 + n / 100 % 10 → Put c k (x ∷ []) d l → y ≡ 48 + n / 10 % 10 → Put d l (y ∷ []) e m → z ≡ 48 + n % 10 → Put e m (z ∷ []) f o → Put a i (fixed n) f o
 unfolding fixed
-fixed-put {n = n} p q ex r ey s ez t = rw (← ex, ← ey, ← ez) (then p (then q (then r (then s t))))
+fixed-put n p q ex r ey s ez t = rw (← ex, ← ey, ← ez) (then p (then q (then r (then s t))))
 
 -- ---- the two tests of the code
-pub held : (x : Float) (n : ℕ) (a b : Bool) → a ≡ true → b ≡ true → n ≡ toUnsigned 64 (scaled x) → n ≡ cond (a && b) (toUnsigned 64 (scaled x)) 0
-held x n a b ha hb e = rw (ha, hb) e
+module _ (x y : Float) (e : y ≡ scaled x) where
+  pub held : (n : ℕ) → lt (fin true 1 (pos 0)) y ≡ true → lt y (fin false 1 (pos 64)) ≡ true → n ≡ toUnsigned 64 y → n ≡ thousandths x
+  unfolding thousandths
+  held n a b q = rw (← e, a, b) q
 
-pub not-low : (n : ℕ) (a b : Bool) → a ≡ false → 0 ≡ cond (a && b) n 0
-not-low n a b ha = rw ha refl
+  pub not-low : lt (fin true 1 (pos 0)) y ≡ false → 0 ≡ thousandths x
+  unfolding thousandths
+  not-low a = rw (← e, a) refl
 
-pub not-high : (n : ℕ) (a b : Bool) → a ≡ true → b ≡ false → 0 ≡ cond (a && b) n 0
-not-high n a b ha hb = rw (ha, hb) refl
+  pub not-high : lt (fin true 1 (pos 0)) y ≡ true → lt y (fin false 1 (pos 64)) ≡ false → 0 ≡ thousandths x
+  unfolding thousandths
+  not-high a b = rw (← e, a, b) refl
 
 -- ---- worked: 12.3456 is `12.346`, 0.25 is `0.250`, 4194388 is `4194388.000`, −0 is `0.000`
 pub record Rows : Type 0 where
