@@ -55,6 +55,11 @@ at-line Lift l = []
 unfoldable pub label-text : Stroke → Bytes → Bytes
 label-text s l = cond (eqb (length l) 0) [] (at-line s l)
 
+-- those of the first n cells, by the strokes l
+unfoldable pub labels-text : (l : List Stroke) (file : Bytes) → ℕ → Bytes
+labels-text l f zero = []
+labels-text l f (suc c) = labels-text l f c ++ label-text (getD l (6 * c + 3) Lift) (label-bytes f c)
+
 -- ---- the page: as long as so many lattice units, with a margin on both sides
 unfoldable pub side : (units : ℕ) (pitch margin : Float) → Float
 side n p m = add binary64 (add binary64 (mul binary64 (ofInt binary64 (pos n)) p) m) m
@@ -72,18 +77,10 @@ our-positions p = written (replicate 512 (pos 0)) (ours p) (p .columns .count)
 unfoldable pub our-strokes : Reading → Page → List Stroke
 our-strokes p g = strokes (read-table p) (placed (our-positions p)) g
 
-unfoldable pub label-of : Reading → Page → (file : Bytes) → (cell : ℕ) → Bytes
-label-of p g f c = label-text (getD (our-strokes p g) (6 * c + 3) Lift) (label-bytes f c)
-
--- those of the first n cells
-unfoldable pub labels-text : Reading → Page → (file : Bytes) → ℕ → Bytes
-labels-text p g f zero = []
-labels-text p g f (suc c) = labels-text p g f c ++ label-of p g f c
-
 unfoldable pub sheet-text : Reading → Page → (file : Bytes) → Bytes
 sheet-text p g f =
     head-text (side (plus (width (read-table p) (ours p))) (g .pitch) (g .«margin_x»)) (side (plus (rows (read-table p) (ours p))) (g .pitch) (g .«margin_y»))
-    ++ (strokes-text (our-strokes p g) ++ (labels-head (g .pitch) ++ (labels-text p g f (p .columns .count) ++ svg-close)))
+    ++ (strokes-text (our-strokes p g) ++ (labels-head (g .pitch) ++ (labels-text (our-strokes p g) f (p .columns .count) ++ svg-close)))
 
 -- THE DRAWING: of a plan that Read refuses, or of a page that question 17 refuses, the line of the refusal
 unfoldable pub drawing-of : (file : Bytes) → Page → Bytes

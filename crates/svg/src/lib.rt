@@ -4,6 +4,7 @@ use decimals::put_millimetres;
 use decimals::put_text;
 use listing::refused_line;
 use pen::Stroke;
+use plan::Columns;
 use plan::Page;
 use plan::limits::MOST_CELLS;
 use plan::limits::SCRATCH_SIZE;
@@ -14,11 +15,16 @@ ghost use mathlib.Core.Path.{_≡_};
 ghost use Prim.Native.Nat.{_+_, _*_, _-_, _≤_};
 ghost use lib.ListN.{length};
 ghost use Rattle.plan.specs.Limits.{«most-label»};
+ghost use Rattle.plan.specs.Columns.{«table-of»};
+ghost use Rattle.plan.specs.Fit.{Fit};
+ghost use Rattle.plan.specs.Near.{Near};
+ghost use Rattle.rules.specs.Placement.{placed};
+ghost use Rattle.pen.specs.Strokes.{strokes};
 ghost use Rattle.listing.specs.Printed.{«refused-line»};
 ghost use Rattle.listing.specs.Put.{Put};
 ghost use Rattle.printing.specs.Printing.{Taken};
-ghost use Rattle.svg.specs.Drawing.{«point-text», «stroke-text», «strokes-text», letter, escaped, «label-at», «label-text», side, «head-text», «labels-head», «our-strokes», «labels-text», «sheet-text», «drawing-of»};
-ghost use Rattle.svg.specs.Sizes.{«point-size», «stroke-size», «label-size», «head-size», «labels-head-size», «drawing-size», Ready};
+ghost use Rattle.svg.specs.Drawing.{«point-text», «stroke-text», «strokes-text», letter, escaped, «label-at», «label-text», side, «head-text», «labels-head», «labels-text», «sheet-text», «drawing-of»};
+ghost use Rattle.svg.specs.Sizes.{«point-size», «stroke-size», «label-size», «head-size», «labels-head-size», «drawing-size»};
 
 // Bytes of an output for a drawing: more than the longest has.
 pub const DRAWING_SIZE: usize = 262144;
@@ -53,12 +59,11 @@ fn put_stroke(stroke: Stroke, out: &mut [u8], at: usize) -> usize
     }
 }
 
-// All strokes of our sheet.
-fn put_strokes(plan: Reading, positions: &[i32], page: Page, out: &mut [u8], at: usize) -> usize
-    requires { ⌜ Ready plan (now positions) × (at + stroke-size * (9 * plan .columns .count - 3) ≤ length (now out)) ⌝ }
-    ensures { λ r. ⌜ Put (now (out .entry)) at (strokes-text (our-strokes plan page)) (now (out .exit)) r × (r ≤ at + stroke-size * (9 * plan .columns .count - 3)) ⌝ }
+// All strokes of a sheet.
+fn put_strokes(t: Columns, positions: &[i32], page: Page, out: &mut [u8], at: usize) -> usize
+    requires { ⌜ Fit (table-of t) × Near (now positions) (t .count) × (at + stroke-size * (9 * t .count - 3) ≤ length (now out)) ⌝ }
+    ensures { λ r. ⌜ Put (now (out .entry)) at (strokes-text (strokes (table-of t) (placed (now (positions .entry))) page)) (now (out .exit)) r × (r ≤ at + stroke-size * (9 * t .count - 3)) ⌝ }
 {
-    let t = plan.columns;
     let n = 9 * t.count - 3;
     let mut next = at;
     let mut s: usize = 0;
@@ -132,17 +137,16 @@ fn put_label(stroke: Stroke, label: &[u8], out: &mut [u8], at: usize) -> usize
 
 // All labels.
 fn put_labels(
-    plan: Reading,
+    t: Columns,
     file: &[u8],
     positions: &[i32],
     page: Page,
     out: &mut [u8],
     at: usize,
 ) -> usize
-    requires { ⌜ Ready plan (now positions) × (at + label-size * plan .columns .count ≤ length (now out)) ⌝ }
-    ensures { λ r. ⌜ Put (now (out .entry)) at (labels-text plan page (now (file .entry)) (plan .columns .count)) (now (out .exit)) r × (r ≤ at + label-size * plan .columns .count) ⌝ }
+    requires { ⌜ Fit (table-of t) × Near (now positions) (t .count) × (at + label-size * t .count ≤ length (now out)) ⌝ }
+    ensures { λ r. ⌜ Put (now (out .entry)) at (labels-text (strokes (table-of t) (placed (now (positions .entry))) page) (now (file .entry)) (t .count)) (now (out .exit)) r × (r ≤ at + label-size * t .count) ⌝ }
 {
-    let t = plan.columns;
     let n = t.count;
     let mut next = at;
     let mut c: usize = 0;
@@ -209,9 +213,9 @@ fn write_sheet(plan: Reading, file: &[u8], page: Page, out: &mut [u8]) -> usize
     let wide = side(sheet.width, page.pitch, page.margin_x);
     let high = side(sheet.rows, page.pitch, page.margin_y);
     let a = put_head(wide, high, out, 0);
-    let b = put_strokes(plan, &positions, page, out, a);
+    let b = put_strokes(t, &positions, page, out, a);
     let c = put_labels_head(page.pitch, out, b);
-    let d = put_labels(plan, file, &positions, page, out, c);
+    let d = put_labels(t, file, &positions, page, out, c);
     put_text(b"</g></g>\n</svg>\n", out, d)
 }
 

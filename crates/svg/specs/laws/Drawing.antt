@@ -19,7 +19,10 @@ use Rattle.plan.specs.Pages.{fair}
 use Rattle.plan.specs.Questions.{strokes-of}
 use Rattle.plan.specs.laws.Columns.{table-length}
 use Rattle.plan.specs.declared.Page.{Page}
-use Rattle.rules.specs.Placement.{placed, width, rows}
+use Rattle.plan.specs.Columns.{table-of}
+use Rattle.plan.specs.laws.Tables.{length-is, count-some}
+use Rattle.plan.specs.declared.Columns.{Columns}
+use Rattle.rules.specs.Placement.{Placement, placed, width, rows}
 use Rattle.least.specs.laws.Columns.{sheet-inside}
 use Rattle.positions.specs.Written.{written}
 use Rattle.positions.specs.laws.Written.{written-agree}
@@ -29,15 +32,15 @@ use Rattle.planfile.specs.declared.Reading.{Reading}
 use Rattle.planfile.specs.Reading.{reading-of}
 use Rattle.listing.specs.Printed.{Bytes, refused-line}
 use Rattle.listing.specs.Put.{Put}
-use Rattle.listing.specs.laws.Put.{then}
+use Rattle.listing.specs.laws.Put.{then, put-none}
 use Rattle.printing.specs.Printing.{Taken, read-table, ours, label-bytes}
 use Rattle.printing.specs.laws.Taken.{taken-few, taken-drawable}
 use Rattle.pen.specs.declared.Stroke.{Stroke}
 use Rattle.pen.specs.declared.Stroke.the-variants.{Move, Line, Lift}
+use Rattle.pen.specs.Strokes.{strokes}
 use Rattle.pen.specs.laws.Strokes.{strokes-length}
 use Rattle.svg.specs.Words.{amp-word, lt-word, gt-word, svg-close}
-use Rattle.svg.specs.Drawing.{stroke-text, strokes-text, letter, escaped, label-at, at-line, label-text, side, head-text, labels-head, our-positions, our-strokes, label-of, labels-text, sheet-text, drawing-of}
-use Rattle.svg.specs.Sizes.{Ready}
+use Rattle.svg.specs.Drawing.{stroke-text, strokes-text, letter, escaped, label-at, at-line, label-text, labels-text, side, head-text, labels-head, our-positions, our-strokes, sheet-text, drawing-of}
 
 -- ---- strokes, one more at a time
 strokes-append : (l k : List Stroke) → strokes-text (l ++ k) ≡ strokes-text l ++ strokes-text k
@@ -45,15 +48,23 @@ unfolding strokes-text
 strokes-append [] k = refl
 strokes-append (s ∷ l) k = ap (λ (r : Bytes). stroke-text s ++ r) (strokes-append l k) ∙ sym (append-assoc (stroke-text s) (strokes-text l) (strokes-text k))
 
-pub strokes-none : (l : List Stroke) → strokes-text (take 0 l) ≡ []
+-- the loop over l
+pub strokes-start : (l : List Stroke) (a : List ℕ) (i : ℕ) → Put a i (strokes-text (take 0 l)) a i
 unfolding strokes-text
-strokes-none l = refl
+strokes-start l a i = put-none a i
 
-pub strokes-more : (l : List Stroke) (s : ℕ) → s < length l → strokes-text (take (s + 1) l) ≡ strokes-text (take s l) ++ stroke-text (getD l s Lift)
+pub strokes-put : (l : List Stroke) {a b d : List ℕ} {i j k s : ℕ} (st : Stroke) → Put a i (strokes-text (take s l)) b j → s < length l → st ≡ getD l s Lift → Put b j (stroke-text st) d k → Put a i (strokes-text (take (s + 1) l)) d k
 unfolding strokes-text
-strokes-more l s h =
-    let e : take (s + 1) l ≡ take s l ++ (getD l s Lift ∷ []) = rw add-one (take-suc l s Lift h) in
-    rw (e, strokes-append (take s l) (getD l s Lift ∷ []), append-nil (stroke-text (getD l s Lift)))
+strokes-put l {s = s} st p h e q =
+    let t : take (s + 1) l ≡ take s l ++ (getD l s Lift ∷ []) = rw add-one (take-suc l s Lift h) in
+    rw (t, strokes-append (take s l) (getD l s Lift ∷ []), append-nil (stroke-text (getD l s Lift)), ← e) (then p q)
+
+pub strokes-done : (l : List Stroke) {a b : List ℕ} {i k s : ℕ} → Put a i (strokes-text (take s l)) b k → length l ≤ s → Put a i (strokes-text l) b k
+strokes-done l {s = s} p h = rw (take-all s l h) at p
+
+-- a stroke is the one that it was matched as
+pub stroke-as : {a b : List ℕ} {i k : ℕ} (s t : Stroke) → s ≡ t → Put a i (stroke-text s) b k → Put a i (stroke-text t) b k
+stroke-as s t e p = rw (← e) p
 
 -- ---- letters
 escaped-append : (l k : Bytes) → escaped (l ++ k) ≡ escaped l ++ escaped k
@@ -61,15 +72,18 @@ unfolding escaped
 escaped-append [] k = refl
 escaped-append (b ∷ l) k = ap (λ (r : Bytes). letter b ++ r) (escaped-append l k) ∙ sym (append-assoc (letter b) (escaped l) (escaped k))
 
-pub escaped-none : (l : Bytes) → escaped (take 0 l) ≡ []
+pub letters-start : (l : Bytes) (a : List ℕ) (i : ℕ) → Put a i (escaped (take 0 l)) a i
 unfolding escaped
-escaped-none l = refl
+letters-start l a i = put-none a i
 
-pub escaped-more : (l : Bytes) (i : ℕ) → i < length l → escaped (take (i + 1) l) ≡ escaped (take i l) ++ letter (getD l i 0)
+pub letters-more : (l : Bytes) {a b d : List ℕ} {i j k n : ℕ} → Put a i (escaped (take n l)) b j → n < length l → Put b j (letter (getD l n 0)) d k → Put a i (escaped (take (n + 1) l)) d k
 unfolding escaped
-escaped-more l i h =
-    let e : take (i + 1) l ≡ take i l ++ (getD l i 0 ∷ []) = rw add-one (take-suc l i 0 h) in
-    rw (e, escaped-append (take i l) (getD l i 0 ∷ []), append-nil (letter (getD l i 0)))
+letters-more l {n = n} p h q =
+    let e : take (n + 1) l ≡ take n l ++ (getD l n 0 ∷ []) = rw add-one (take-suc l n 0 h) in
+    rw (e, escaped-append (take n l) (getD l n 0 ∷ []), append-nil (letter (getD l n 0))) (then p q)
+
+pub letters-done : (l : Bytes) {a b : List ℕ} {i k n : ℕ} → Put a i (escaped (take n l)) b k → length l ≤ n → Put a i (escaped l) b k
+letters-done l {n = n} p h = rw (take-all n l h) at p
 
 pub letter-amp : (b : ℕ) → b ≡ 38 → letter b ≡ amp-word
 unfolding letter
@@ -109,36 +123,48 @@ module _ (s : Stroke) (l : Bytes) (n : ¬ (length l ≡ 0)) where
   unfolding label-text at-line
   label-lift e = rw (ne-eqb (length l) 0 n, e)
 
-pub labels-none : (p : Reading) (g : Page) (f : Bytes) → labels-text p g f 0 ≡ []
+pub labels-start : (l : List Stroke) (f : Bytes) (a : List ℕ) (i : ℕ) → Put a i (labels-text l f 0) a i
 unfolding labels-text
-labels-none p g f = refl
+labels-start l f a i = put-none a i
 
-pub labels-more : (p : Reading) (g : Page) (f : Bytes) (c : ℕ) → labels-text p g f (c + 1) ≡ labels-text p g f c ++ label-text (getD (our-strokes p g) (6 * c + 3) Lift) (label-bytes f c)
-unfolding labels-text label-of
-labels-more p g f c = rw add-one refl
+pub labels-put : (l : List Stroke) (f : Bytes) {a b d : List ℕ} {i j k : ℕ} (c : ℕ) (st : Stroke) (t : Bytes) → Put a i (labels-text l f c) b j → st ≡ getD l (6 * c + 3) Lift → t ≡ label-bytes f c → Put b j (label-text st t) d k → Put a i (labels-text l f (c + 1)) d k
+unfolding labels-text
+labels-put l f c st t p e g q = rw add-one (rw (← e, ← g) (then p q))
+
+pub labels-done : (l : List Stroke) (f : Bytes) {a b : List ℕ} {i k c n : ℕ} → Put a i (labels-text l f c) b k → c ≤ n → n ≤ c → Put a i (labels-text l f n) b k
+labels-done l f {c = c} {n = n} p h g = let e : c ≡ n = omega arith in rw e at p
+
+-- ---- the strokes of a table
+module _ (t : Columns) (fit : Fit (table-of t)) where
+  pub some-count : 1 ≤ t .count
+  some-count = count-some t fit
+
+  pub many-is : (p : Placement) (g : Page) → length (strokes (table-of t) p g) ≡ 9 * t .count - 3
+  many-is p g = strokes-length (table-of t) p g (fit .some-cell) ∙ rw (length-is t)
+
+pub numbered : (n s : ℕ) → s < 9 * n - 3 → s < strokes-of n
+unfolding strokes-of
+numbered n s i = i
 
 -- ---- a plan that is read, and our sheet of it
 count-is : (p : Reading) → length (read-table p) ≡ p .columns .count
 count-is p = let t = p .columns in table-length (t .parent) (t .kind) (t .width) (t .depth) (t .rank) (t .count)
 
 module _ (p : Reading) (f : Bytes) (h : Taken p f) where
-  fit : Fit (read-table p)
-  fit = taken-drawable p f h scratch-size (2 * most-cells) refl (omega arith) .fit
+  pub taken-fit : Fit (read-table p)
+  taken-fit = taken-drawable p f h scratch-size (2 * most-cells) refl (omega arith) .fit
 
-  near : (ps : List ℤ) → ps ≡ our-positions p → 2 * most-cells ≤ length ps → Near ps (p .columns .count)
+  pub taken-near : (ps : List ℤ) → ps ≡ our-positions p → 2 * most-cells ≤ length ps → Near ps (p .columns .count)
   unfolding our-positions placed
-  near ps e room =
+  taken-near ps e room =
       record {
         room = omega (arith, taken-few p f h);
-        x = λ c i. rw (e, agree c i .0) (sheet-inside (read-table p) fit (p .allowance) c (omega (arith, count-is p)) .0);
-        y = λ c i. rw (e, agree c i .1) (sheet-inside (read-table p) fit (p .allowance) c (omega (arith, count-is p)) .1);
+        x = λ c i. rw (e, agree c i .0) (sheet-inside (read-table p) taken-fit (p .allowance) c (omega (arith, count-is p)) .0);
+        y = λ c i. rw (e, agree c i .1) (sheet-inside (read-table p) taken-fit (p .allowance) c (omega (arith, count-is p)) .1);
       }
     where
       agree : (c : ℕ) → c < p .columns .count → (getD (written (replicate 512 (pos 0)) (ours p) (p .columns .count)) (2 * c) (pos 0) ≡ ours p .x c) × (getD (written (replicate 512 (pos 0)) (ours p) (p .columns .count)) (2 * c + 1) (pos 0) ≡ ours p .y c)
       agree c i = rw (count-is p) at (written-agree (ours p) (read-table p) (replicate 512 (pos 0)) c (omega (arith, count-is p)))
-
-  pub ready : (ps : List ℤ) → ps ≡ our-positions p → 2 * most-cells ≤ length ps → Ready p ps
-  ready ps e room = record { fit = fit; near = near ps e room; is = e }
 
   -- what Layout wrote
   module _ {s′ : List ℕ} {ps′ : List ℤ} {r : Measures} (d : Drawn (read-table p) (p .allowance) s′ (replicate 512 (pos 0)) ps′ r) where
@@ -152,29 +178,17 @@ module _ (p : Reading) (f : Bytes) (h : Taken p f) where
     pub high-is : r .rows ≡ plus (rows (read-table p) (ours p))
     high-is = ap (λ (m : Measures). m .rows) (d .answers)
 
--- number s of our strokes, as strokes::drawn gives it
-module _ (p : Reading) (ps : List ℤ) (h : Ready p ps) (g : Page) where
-  pub our-length : length (our-strokes p g) ≡ 9 * p .columns .count - 3
-  unfolding our-strokes
-  our-length = strokes-length (read-table p) (placed (our-positions p)) g (h .fit .some-cell) ∙ rw (count-is p)
-
-  pub count-some : 1 ≤ p .columns .count
-  count-some = omega (arith, h .fit .some-cell, count-is p)
-
-  pub count-few : p .columns .count ≤ most-cells
-  count-few = omega (arith, h .fit .not-too-many, count-is p)
-
-  pub our-number : (s : ℕ) → s < 9 * p .columns .count - 3 → s < strokes-of (p .columns .count)
-  unfolding strokes-of
-  our-number s i = i
+pub ours-are : (p : Reading) (g : Page) (ps : List ℤ) → ps ≡ our-positions p → strokes (read-table p) (placed ps) g ≡ our-strokes p g
+unfolding our-strokes
+ours-are p g ps e = rw e
 
 -- ---- the whole
-pub sheet-put : (p : Reading) (g : Page) (f : Bytes) (w h : ℕ) (x y : Float) {a b c d e o : List ℕ} {j k l m n : ℕ}
+pub sheet-put : (p : Reading) (g : Page) (f : Bytes) (w h : ℕ) (x y : Float) {a b c d e o : List ℕ} {j k u m n : ℕ} (l : List Stroke) → l ≡ our-strokes p g
     → w ≡ plus (width (read-table p) (ours p)) → h ≡ plus (rows (read-table p) (ours p)) → x ≡ side w (g .pitch) (g .«margin_x») → y ≡ side h (g .pitch) (g .«margin_y»)
-    → Put a 0 (head-text x y) b j → Put b j (strokes-text (our-strokes p g)) c k → Put c k (labels-head (g .pitch)) d l → Put d l (labels-text p g f (p .columns .count)) e m → Put e m svg-close o n
+    → Put a 0 (head-text x y) b j → Put b j (strokes-text l) c k → Put c k (labels-head (g .pitch)) d u → Put d u (labels-text l f (p .columns .count)) e m → Put e m svg-close o n
     → Put a 0 (sheet-text p g f) o n
 unfolding sheet-text
-sheet-put p g f w h x y ew eh ex ey q r s t u = rw (← ew, ← eh, ← ex, ← ey) (then q (then r (then s (then t u))))
+sheet-put p g f w h x y l el ew eh ex ey q r s t v = rw (← el, ← ew, ← eh, ← ex, ← ey) (then q (then r (then s (then t v))))
 
 module _ (p : Reading) (f : Bytes) (g : Page) (e : p ≡ reading-of f most-cells) where
   pub drawing-refused : ¬ (p .refusal .number ≡ 0) → drawing-of f g ≡ refused-line (p .refusal .number) (p .refusal .cell)
