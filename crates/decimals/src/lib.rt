@@ -40,7 +40,7 @@ fn digit(d: u64) -> u8
 }
 
 // A number in decimal.
-fn put_decimal(n: u64, out: &mut [u8], at: usize) -> usize
+pub fn put_decimal(n: u64, out: &mut [u8], at: usize) -> usize
     requires { ⌜ at + 20 ≤ length (now out) ⌝ }
     ensures { λ r. ⌜ Put (now (out .entry)) at (decimal n) (now (out .exit)) r × (r ≤ at + 20) ⌝ }
 {

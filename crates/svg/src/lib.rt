@@ -1,8 +1,8 @@
 // The drawing of a plan file in SVG, as bytes: its strokes as paths and its labels as texts, in millimetres; or the line of a refusal.
 use decimals::put_byte;
+use decimals::put_decimal;
 use decimals::put_millimetres;
 use decimals::put_text;
-use listing::refused_line;
 use pen::Stroke;
 use plan::Columns;
 use plan::Page;
@@ -30,6 +30,8 @@ ghost use Rattle.svg.specs.Sizes.{«point-size», «stroke-size», «lab
 pub const DRAWING_SIZE: usize = 262144;
 
 const SPACE: u8 = 32;
+
+const LINE_FEED: u8 = 10;
 
 // A point: x, a space, y.
 fn put_point(x: f64, y: f64, out: &mut [u8], at: usize) -> usize
@@ -204,12 +206,9 @@ fn write_sheet(plan: Reading, file: &[u8], page: Page, out: &mut [u8]) -> usize
 {
     let mut scratch = [0u32; SCRATCH_SIZE];
     let mut positions = [0i32; 2 * MOST_CELLS];
-    let sheet = layout::draw_over_zeros(
-        plan.columns,
-        plan.allowance as u32,
-        &mut scratch,
-        &mut positions,
-    );
+    let t = plan.columns;
+    let allowance = plan.allowance as u32;
+    let sheet = layout::draw_over_zeros(t, allowance, &mut scratch, &mut positions);
     let wide = side(sheet.width, page.pitch, page.margin_x);
     let high = side(sheet.rows, page.pitch, page.margin_y);
     let a = put_head(wide, high, out, 0);
@@ -220,13 +219,16 @@ fn write_sheet(plan: Reading, file: &[u8], page: Page, out: &mut [u8]) -> usize
 }
 
 // The line of a refusal.
-fn put_refused(number: u8, cell: u16, out: &mut [u8]) -> usize
+fn put_refused(number: u64, cell: u64, out: &mut [u8]) -> usize
     requires { ⌜ drawing-size ≤ length (now out) ⌝ }
     ensures { λ r. ⌜ Put (now (out .entry)) 0 (refused-line number cell) (now (out .exit)) r × (r ≤ drawing-size) ⌝ }
 {
-    let line = refused_line(number as u32, cell as u32);
-    let bytes = line.bytes;
-    put_text(&bytes[..line.length], out, 0)
+    let a = put_text(b"refused", out, 0);
+    let b = put_byte(SPACE, out, a);
+    let c = put_decimal(number, out, b);
+    let d = put_byte(SPACE, out, c);
+    let e = put_decimal(cell, out, d);
+    put_byte(LINE_FEED, out, e)
 }
 
 // The drawing of a plan file on a page, or the line of the refusal, into an output that is long enough: its length.
@@ -237,7 +239,7 @@ pub fn write_drawing(file: &[u8], page: Page, out: &mut [u8]) -> usize
     let plan = planfile::read(file, MOST_CELLS);
     let refusal = plan.refusal;
     if refusal.number != 0 {
-        return put_refused(refusal.number, refusal.cell, out);
+        return put_refused(refusal.number as u64, refusal.cell as u64, out);
     }
     if !fair(page) {
         return put_refused(17, 0, out);

@@ -1,70 +1,53 @@
+use native.Mathlib.Omega.{arith}
+use Rattle.svg.specs.laws.Drawing.{letter-amp, letter-lt, letter-gt, letter-plain, put-as}
 use borrow.Author.Needs.{needs}
 use Rattle.svg.proofs.put_letter.Statement.{statement}
 use Rattle.svg.proofs.put_letter.Tie as tie
-use Rattle.svg.proofs.put_letter.Reads as reads
-use Rattle.svg.proofs.put_letter.Lts as lts
-use Rattle.decimals.proofs.put_byte.Reads as put-byte-reads
-use Rattle.decimals.proofs.put_text.Reads as put-text-reads
 
--- src/lib.rt:79:25
 slice-aggregate-put-text : tie.Need-slice-aggregate-put-text
 slice-aggregate-put-text c = search needs
 
--- src/lib.rt:79:9
 put-text-requires : tie.Need-put-text-requires
 put-text-requires c κs = search needs
 
--- src/lib.rt:79:9
 same-length : tie.Need-same-length
 same-length c = search needs
 
--- src/lib.rt:79:9
 returns : tie.Need-returns
-returns c = search needs
+returns c = (put-as _ _ (letter-amp _ (c .before .before .before .before .before .if1 .taken)) (c .before .before .put-text .ensures), omega (arith, c .before .before .put-text .ensures .place))
 
--- src/lib.rt:82:25
 slice-aggregate-put-text-2 : tie.Need-slice-aggregate-put-text-2
 slice-aggregate-put-text-2 c = search needs
 
--- src/lib.rt:82:9
 put-text-requires-2 : tie.Need-put-text-requires-2
 put-text-requires-2 c κs = search needs
 
--- src/lib.rt:82:9
 same-length-2 : tie.Need-same-length-2
 same-length-2 c = search needs
 
--- src/lib.rt:82:9
 returns-2 : tie.Need-returns-2
-returns-2 c = search needs
+returns-2 c = (put-as _ _ (letter-lt _ (c .before .before .before .before .before .before .if1 .left) (c .before .before .before .before .before .if2 .taken)) (c .before .before .put-text2 .ensures), omega (arith, c .before .before .put-text2 .ensures .place))
 
--- src/lib.rt:85:25
 slice-aggregate-put-text-3 : tie.Need-slice-aggregate-put-text-3
 slice-aggregate-put-text-3 c = search needs
 
--- src/lib.rt:85:9
 put-text-requires-3 : tie.Need-put-text-requires-3
 put-text-requires-3 c κs = search needs
 
--- src/lib.rt:85:9
 same-length-3 : tie.Need-same-length-3
 same-length-3 c = search needs
 
--- src/lib.rt:85:9
 returns-3 : tie.Need-returns-3
-returns-3 c = search needs
+returns-3 c = (put-as _ _ (letter-gt _ (c .before .before .before .before .before .before .before .if1 .left) (c .before .before .before .before .before .before .if2 .left) (c .before .before .before .before .before .if3 .taken)) (c .before .before .put-text3 .ensures), omega (arith, c .before .before .put-text3 .ensures .place))
 
--- src/lib.rt:87:5
 put-byte-requires : tie.Need-put-byte-requires
 put-byte-requires c κs = search needs
 
--- src/lib.rt:74:1
 same-length-4 : tie.Need-same-length-4
 same-length-4 c = search needs
 
--- src/lib.rt:74:1
 returns-4 : tie.Need-returns-4
-returns-4 c = search needs
+returns-4 c = (put-as _ _ (letter-plain _ (c .before .before .before .before .before .before .if1 .left) (c .before .before .before .before .before .if2 .left) (c .before .before .before .before .if3 .left)) (c .before .before .put-byte .ensures), omega (arith, c .before .before .put-byte .ensures .place))
 
 pub put-letter-spec : {M : Type 1} → statement M
 put-letter-spec =

@@ -1,42 +1,46 @@
+use native.Mathlib.Omega.{arith}
+use Rattle.svg.specs.laws.Drawing.{refused-put}
 use borrow.Author.Needs.{needs}
 use Rattle.svg.proofs.put_refused.Statement.{statement}
 use Rattle.svg.proofs.put_refused.Tie as tie
-use Rattle.svg.proofs.put_refused.Reads as reads
-use Rattle.svg.proofs.put_refused.Lts as lts
-use Rattle.decimals.proofs.put_text.Reads as put-text-reads
-use Rattle.listing.proofs.refused_line.Reads as refused-line-reads
 
--- src/lib.rt:223:9
-refused-line-requires : tie.Need-refused-line-requires
-refused-line-requires c κs = search needs
-
--- src/lib.rt:225:14
-array-share-prefix-bytes : tie.Need-array-share-prefix-bytes
-array-share-prefix-bytes c = search needs
-
--- src/lib.rt:225:14
 slice-aggregate-put-text : tie.Need-slice-aggregate-put-text
 slice-aggregate-put-text c = search needs
 
--- src/lib.rt:225:5
 put-text-requires : tie.Need-put-text-requires
 put-text-requires c κs = search needs
 
--- src/lib.rt:219:1
+put-byte-requires : tie.Need-put-byte-requires
+put-byte-requires c κs = search needs
+
+put-decimal-requires : tie.Need-put-decimal-requires
+put-decimal-requires c κs = search needs
+
+put-byte-requires-2 : tie.Need-put-byte-requires-2
+put-byte-requires-2 c κs = search needs
+
+put-decimal-requires-2 : tie.Need-put-decimal-requires-2
+put-decimal-requires-2 c κs = search needs
+
+put-byte-requires-3 : tie.Need-put-byte-requires-3
+put-byte-requires-3 c κs = search needs
+
 same-length : tie.Need-same-length
 same-length c = search needs
 
--- src/lib.rt:219:1
 returns : tie.Need-returns
-returns c = search needs
+returns c = (refused-put _ _ (c .before .before .before .before .before .before .before .before .before .before .before .before .before .before .before .before .before .before .before .before .before .before .put-text .ensures) (c .before .before .before .before .before .before .before .before .before .before .before .before .before .before .before .before .before .before .put-byte .ensures) (c .before .before .before .before .before .before .before .before .before .before .before .before .before .before .put-decimal .ensures .0) (c .before .before .before .before .before .before .before .before .before .before .put-byte2 .ensures) (c .before .before .before .before .before .before .put-decimal2 .ensures .0) (c .before .before .put-byte3 .ensures), omega (arith, c .before .before .before .before .before .before .before .before .before .before .before .before .before .before .before .before .before .before .before .before .before .before .put-text .ensures .place, c .before .before .before .before .before .before .before .before .before .before .before .before .before .before .before .before .before .before .put-byte .ensures .place, c .before .before .before .before .before .before .before .before .before .before .before .before .before .before .put-decimal .ensures .1, c .before .before .before .before .before .before .before .before .before .before .put-byte2 .ensures .place, c .before .before .before .before .before .before .put-decimal2 .ensures .1, c .before .before .put-byte3 .ensures .place))
 
 pub put-refused-spec : {M : Type 1} → statement M
 put-refused-spec =
     tie.close
     (tie.spec
-    refused-line-requires
-    array-share-prefix-bytes
     slice-aggregate-put-text
     put-text-requires
+    put-byte-requires
+    put-decimal-requires
+    put-byte-requires-2
+    put-decimal-requires-2
+    put-byte-requires-3
     same-length
     returns)

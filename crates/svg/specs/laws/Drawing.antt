@@ -1,7 +1,8 @@
 -- The drawing, part by part, as the code writes it. Nothing that a reader must believe stands here. Assumes nothing.
-use mathlib.Core.Path.{_≡_, refl, sym, _∙_, ap}
+use mathlib.Core.Path.{_≡_, refl, sym, _∙_, ap, subst}
 use mathlib.Core.List.{List, [], _∷_, _++_, append-nil, append-assoc}
-use mathlib.Core.Bool.{true, false}
+use mathlib.Core.Bool.{Bool, true, false, not}
+use lib.Dec.{T}
 use Prim.Native.Nat.{ℕ, zero, suc, _+_, _-_, _*_, _≤_, _<_}
 use native.Mathlib.Numerals.{add-one}
 use native.Mathlib.Omega.{arith}
@@ -30,7 +31,8 @@ use Rattle.layout.specs.Laid.{Drawn}
 use Rattle.layout.specs.declared.Measures.{Measures}
 use Rattle.planfile.specs.declared.Reading.{Reading}
 use Rattle.planfile.specs.Reading.{reading-of}
-use Rattle.listing.specs.Printed.{Bytes, refused-line}
+use Rattle.listing.specs.Printed.{Bytes, space, line-feed, refused-word, decimal, refused-line}
+use Rattle.listing.specs.laws.Line.{refused-line-is}
 use Rattle.listing.specs.Put.{Put}
 use Rattle.listing.specs.laws.Put.{then, put-none}
 use Rattle.printing.specs.Printing.{Taken, read-table, ours, label-bytes}
@@ -61,6 +63,13 @@ strokes-put l {s = s} st p h e q =
 
 pub strokes-done : (l : List Stroke) {a b : List ℕ} {i k s : ℕ} → Put a i (strokes-text (take s l)) b k → length l ≤ s → Put a i (strokes-text l) b k
 strokes-done l {s = s} p h = rw (take-all s l h) at p
+
+-- a number of one of n
+pub within : {m n s : ℕ} → m ≡ n → s < n → s < m
+within e h = omega arith
+
+pub beyond : {m n s : ℕ} → m ≡ n → n ≤ s → m ≤ s
+beyond e h = omega arith
 
 -- a stroke is the one that it was matched as
 pub stroke-as : {a b : List ℕ} {i k : ℕ} (s t : Stroke) → s ≡ t → Put a i (stroke-text s) b k → Put a i (stroke-text t) b k
@@ -202,3 +211,16 @@ module _ (p : Reading) (f : Bytes) (g : Page) (e : p ≡ reading-of f most-cells
   pub drawing-sheet : p .refusal .number ≡ 0 → fair g ≡ true → drawing-of f g ≡ sheet-text p g f
   unfolding drawing-of
   drawing-sheet z u = rw (← e, eq-eqb (p .refusal .number) 0 z, u)
+
+-- the line of a refusal
+pub refused-put : (k c : ℕ) {a b d e f g h : List ℕ} {i j l m n o q : ℕ} → Put a i refused-word b j → Put b j (space ∷ []) d l → Put d l (decimal k) e m → Put e m (space ∷ []) f n → Put f n (decimal c) g o → Put g o (line-feed ∷ []) h q → Put a i (refused-line k c) h q
+refused-put k c u v w x y z = rw (← refused-line-is k c) (then (then (then u (then v w)) (then x y)) z)
+
+-- a test that is turned round
+pub unfair : (r b : Bool) → r ≡ b → not r ≡ true → b ≡ false
+unfair true b e h = absurd (subst T (sym h) tt)
+unfair false b e h = sym e
+
+pub is-fair : (r b : Bool) → r ≡ b → not r ≡ false → b ≡ true
+is-fair true b e h = sym e
+is-fair false b e h = absurd (subst T h tt)
