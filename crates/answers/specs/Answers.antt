@@ -3,6 +3,7 @@ use mathlib.Core.Path.{_≡_}
 use mathlib.Core.List.{List}
 use Prim.Native.Nat.{ℕ}
 use lib.IntN.{ℤ, pos}
+use lib.Ieee.{Float, binary64, ofBits}
 use Rattle.plan.specs.Plan.{Table}
 use Rattle.plan.specs.declared.Record.{Record}
 use Rattle.layout.specs.Laid.{Lays}
@@ -24,6 +25,10 @@ use Rattle.copying.specs.declared.Copied.the-variants.{Written, Refused as Unco
 use Rattle.mending.specs.Mending.{Mends}
 use Rattle.mending.specs.declared.Mended.{Mended}
 use Rattle.mending.specs.declared.Mended.the-variants.{Written as Mending, Refused as Unmended}
+use Rattle.pen.specs.declared.Stroke.{Stroke}
+use Rattle.pen.specs.declared.Stroke.the-variants.{Move, Line, Lift}
+use Rattle.strokes.specs.declared.Stroked.{Stroked}
+use Rattle.strokes.specs.declared.Stroked.the-variants.{Drawn, Refused as Undrawn}
 use Rattle.engine.specs.Read.{Reads}
 use Rattle.engine.specs.declared.ReadAnswer.{ReadAnswer as Read}
 use Rattle.engine.specs.declared.ReadAnswer.the-variants.{Plan, Refused as Unread}
@@ -35,6 +40,7 @@ use Rattle.answers.specs.declared.ListAnswer.{ListAnswer}
 use Rattle.answers.specs.declared.FrameAnswer.{FrameAnswer}
 use Rattle.answers.specs.declared.MendAnswer.{MendAnswer}
 use Rattle.answers.specs.declared.CopyAnswer.{CopyAnswer}
+use Rattle.answers.specs.declared.StrokeAnswer.{StrokeAnswer}
 
 unfoldable pub read-answer : Read → ReadAnswer
 read-answer (Plan n al) = record { number = 0; cell = 0; allowance = al; count = n }
@@ -70,6 +76,20 @@ copy-answer (Uncopied k c) = record { number = k; cell = c; length = 0 }
 unfoldable pub mend-answer : Mended → MendAnswer
 mend-answer (Mending n k) = record { number = 0; cell = 0; length = n; lines = k }
 mend-answer (Unmended k c) = record { number = k; cell = c; length = 0; lines = 0 }
+
+-- the float 0, where a case has no point
+abbrev pub no-point : Float
+no-point = ofBits binary64 0
+
+-- 1 a move, 2 a line, 3 a lift
+unfoldable pub pen-answer : Stroke → StrokeAnswer
+pen-answer (Move x y) = record { number = 0; cell = 0; what = 1; x = x; y = y }
+pen-answer (Line x y) = record { number = 0; cell = 0; what = 2; x = x; y = y }
+pen-answer Lift = record { number = 0; cell = 0; what = 3; x = no-point; y = no-point }
+
+unfoldable pub stroke-answer : Stroked → StrokeAnswer
+stroke-answer (Drawn s) = pen-answer s
+stroke-answer (Undrawn k c) = record { number = k; cell = c; what = 0; x = no-point; y = no-point }
 
 -- a call of Read, as `Reads` has it, with the struct for its answer
 pub record Filling (f : List ℕ) (t t′ : List Record) (r : ReadAnswer) : Type 0 where

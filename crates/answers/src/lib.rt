@@ -5,9 +5,11 @@ use ends::Ended;
 use fitting::Fitted;
 use layout::Laid;
 use mending::Mended;
+use pen::Stroke;
 use printing::Listed;
+use strokes::Stroked;
 ghost use mathlib.Core.Path.{_≡_};
-ghost use Rattle.answers.specs.Answers.{«read-answer», «laid-answer», «check-answer», «ends-answer», «list-answer», «frame-answer», «copy-answer», «mend-answer»};
+ghost use Rattle.answers.specs.Answers.{«read-answer», «laid-answer», «check-answer», «ends-answer», «list-answer», «frame-answer», «copy-answer», «mend-answer», «pen-answer», «stroke-answer»};
 
 // Number and cell of the refusal, or 0 and 0; the number of cells and the allowance.
 #[repr(C)]
@@ -88,6 +90,16 @@ pub struct MendAnswer {
     pub cell: u16,
     pub length: usize,
     pub lines: usize,
+}
+
+// Number and cell of the refusal, or 0 and 0; 1 a move, 2 a line, 3 a lift; the point moved to, or drawn to.
+#[repr(C)]
+pub struct StrokeAnswer {
+    pub number: u8,
+    pub cell: u16,
+    pub what: u8,
+    pub x: f64,
+    pub y: f64,
 }
 
 // The answer of Read as a struct.
@@ -275,6 +287,51 @@ pub fn told_mend(answer: Mended) -> MendAnswer
             cell,
             length: 0,
             lines: 0,
+        },
+    }
+}
+
+// A stroke as a struct.
+fn told_pen(stroke: Stroke) -> StrokeAnswer
+    ensures { λ r. ⌜ r ≡ pen-answer stroke ⌝ }
+{
+    match stroke {
+        Stroke::Move(x, y) => StrokeAnswer {
+            number: 0,
+            cell: 0,
+            what: 1,
+            x,
+            y,
+        },
+        Stroke::Line(x, y) => StrokeAnswer {
+            number: 0,
+            cell: 0,
+            what: 2,
+            x,
+            y,
+        },
+        Stroke::Lift => StrokeAnswer {
+            number: 0,
+            cell: 0,
+            what: 3,
+            x: 0.0,
+            y: 0.0,
+        },
+    }
+}
+
+// The answer of a stroke's call as a struct.
+pub fn told_stroke(answer: Stroked) -> StrokeAnswer
+    ensures { λ r. ⌜ r ≡ stroke-answer answer ⌝ }
+{
+    match answer {
+        Stroked::Drawn(stroke) => told_pen(stroke),
+        Stroked::Refused(number, cell) => StrokeAnswer {
+            number,
+            cell,
+            what: 0,
+            x: 0.0,
+            y: 0.0,
         },
     }
 }

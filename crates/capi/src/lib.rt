@@ -9,6 +9,7 @@ use answers::LayoutAnswer;
 use answers::ListAnswer;
 use answers::MendAnswer;
 use answers::ReadAnswer;
+use answers::StrokeAnswer;
 use answers::told_check;
 use answers::told_copy;
 use answers::told_ends;
@@ -17,13 +18,16 @@ use answers::told_layout;
 use answers::told_list;
 use answers::told_mend;
 use answers::told_read;
+use answers::told_stroke;
+use plan::Page;
 use plan::Record;
 ghost use mathlib.Core.Path.{_≡_};
 ghost use Rattle.plan.specs.Records.{«cells-of»};
 ghost use Rattle.planfile.specs.Reading.{«label-refusal», «label-part»};
 ghost use Rattle.checker.specs.Checked.{«checked-of»};
 ghost use Rattle.ends.specs.Ended.{«ended-of»};
-ghost use Rattle.answers.specs.Answers.{«check-answer», «ends-answer», Filling, Laying, ListFilling, Framing, CopyFilling, MendFilling};
+ghost use Rattle.strokes.specs.Stroked.{«stroked-of»};
+ghost use Rattle.answers.specs.Answers.{«check-answer», «ends-answer», «stroke-answer», Filling, Laying, ListFilling, Framing, CopyFilling, MendFilling};
 
 #[no_mangle]
 pub extern "C" fn kuzpalen_read(file: &[u8], table: &mut [Record]) -> ReadAnswer
@@ -120,4 +124,17 @@ pub extern "C" fn kuzpalen_mend(file: &[u8], out: &mut [u8], lines: &mut [u8]) -
 {
     let answer = engine::mend(file, out, lines);
     told_mend(answer)
+}
+
+#[no_mangle]
+pub extern "C" fn kuzpalen_stroke(
+    table: &[Record],
+    positions: &[i32],
+    page: Page,
+    s: usize,
+) -> StrokeAnswer
+    ensures { λ r. ⌜ r ≡ stroke-answer (stroked-of (cells-of (now (table .entry))) (now (positions .entry)) page s) ⌝ }
+{
+    let answer = plotting::stroke_at(table, positions, page, s);
+    told_stroke(answer)
 }

@@ -10,4 +10,5 @@ pub mod Steps
 pub mod Trees
 pub mod Fit
 pub mod Near
+pub mod Pages
 pub mod laws

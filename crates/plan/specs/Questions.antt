@@ -2,7 +2,7 @@
 -- A call's refusal is the first "no". Every definition computes. Assumes nothing.
 use mathlib.Core.List.{List, [], _∷_, _++_}
 use mathlib.Core.Bool.{Bool, true, false, _&&_, cond}
-use Prim.Native.Nat.{ℕ, zero, suc, _+_, _*_}
+use Prim.Native.Nat.{ℕ, zero, suc, _+_, _*_, _-_}
 use lib.ListN.{length, getD}
 use lib.Dec.{eqb, leb, ltb}
 use lib.IntN.{ℤ, pos}
@@ -13,6 +13,8 @@ use Rattle.plan.specs.Lists.{from, mem}
 use Rattle.plan.specs.Plan.{Table, parent, kind, W, D, children, level, row}
 use Rattle.plan.specs.Kinds.{known, allows, bordered}
 use Rattle.plan.specs.declared.Refusal.{Refusal}
+use Rattle.plan.specs.declared.Page.{Page}
+use Rattle.plan.specs.Pages.{fair}
 
 -- ---- what a call is given
 -- a lent buffer of a length that question 1 asks for, with the length that it has: a table to fill, Layout's scratch, the output of a listing; of document 02 the output of a clean copy
@@ -27,10 +29,11 @@ pub data Lent : Type 0 where
   absent : Lent
   long : ℕ → Lent
 
--- what a call is asked about besides: a cell that is named; a frame of so many squares
+-- what a call is asked about besides: a cell that is named; a frame of so many squares; a page and the number of a stroke on it
 pub data Subject : Type 0 where
   nothing : Subject
   named squares : ℕ → Subject
+  stroked : Page → ℕ → Subject
 
 -- the part of the label bytes that is a cell's label
 pub record Label : Type 0 where
@@ -74,6 +77,7 @@ pub data Question : Type 0 where
   buffers-long file-sized file-marked cells-counted positions-long letters-printable : Question
   parent-lower kind-known box-sized label-inside label-fits : Question
   children-allowed level-low rows-few frame-wide allowance-small coordinates-near cell-named : Question
+  page-fair stroke-numbered : Question
 
 -- the documents' number, which a refusal returns
 unfoldable pub number : Question → ℕ
@@ -95,6 +99,8 @@ number frame-wide = 19
 number allowance-small = 14
 number coordinates-near = 15
 number cell-named = 16
+number page-fair = 17
+number stroke-numbered = 18
 
 -- a question put once, or questions put to each cell in turn
 pub data Step : Type 0 where
@@ -117,6 +123,8 @@ sequence =
     ∷ once allowance-small
     ∷ each (coordinates-near ∷ [])
     ∷ once cell-named
+    ∷ once page-fair
+    ∷ once stroke-numbered
     ∷ []
 
 -- ---- the calls
@@ -124,6 +132,8 @@ pub data Call : Type 0 where
   read label layout check ends list frame : Call
   copy : Call
   mend : Call
+  stroke : Call
+  strip : Call
 
 -- the numbers of the questions that a call puts
 unfoldable pub puts : Call → List ℕ
@@ -138,6 +148,8 @@ puts frame = 1 ∷ 4 ∷ 6 ∷ 7 ∷ 8 ∷ 11 ∷ 12 ∷ 13 ∷ 19 ∷ []
 puts copy = 1 ∷ from 4 11
 -- of the mended file, as document 02, E11, says: "the refusal it would get"
 puts mend = from 1 14
+puts stroke = 1 ∷ 4 ∷ 6 ∷ 7 ∷ 8 ∷ 11 ∷ 12 ∷ 13 ∷ 15 ∷ 17 ∷ 18 ∷ []
+puts strip = 1 ∷ 4 ∷ 6 ∷ 7 ∷ 8 ∷ 11 ∷ 12 ∷ 13 ∷ 15 ∷ []
 
 -- whether the root may be named
 unfoldable pub root-too : Call → Bool
@@ -150,6 +162,8 @@ root-too list = true
 root-too frame = true
 root-too copy = true
 root-too mend = true
+root-too stroke = true
+root-too strip = true
 
 -- ---- what each question asks
 unfoldable pub roomy : Buffer → Bool
@@ -211,12 +225,32 @@ unfoldable pub in-table : (root : Bool) → (n : ℕ) → Subject → Bool
 in-table root n nothing = true
 in-table root n (named c) = ltb c n && cond root true (ltb 0 c)
 in-table root n (squares f) = true
+in-table root n (stroked g s) = true
 
 -- question 19 (document 02, E2): is the frame not 0
 unfoldable pub framed : Subject → Bool
 framed nothing = true
 framed (named c) = true
 framed (squares f) = leb 1 f
+framed (stroked g s) = true
+
+-- question 17 (document 02, E1): is the pitch from 0.25 to 16 and each margin from 0 to 100
+unfoldable pub on-page : Subject → Bool
+on-page nothing = true
+on-page (named c) = true
+on-page (squares f) = true
+on-page (stroked g s) = fair g
+
+-- "a sheet of n cells has 9n − 3 strokes" (document 02, E1)
+unfoldable pub strokes-of : (n : ℕ) → ℕ
+strokes-of n = 9 * n - 3
+
+-- question 18: is the number that of a stroke
+unfoldable pub numbered : (n : ℕ) → Subject → Bool
+numbered n nothing = true
+numbered n (named c) = true
+numbered n (squares f) = true
+numbered n (stroked g s) = ltb s (strokes-of n)
 
 module _ (call : Call) (g : Given) where
   -- the answer, at cell c where the question is put to each cell
@@ -242,6 +276,8 @@ module _ (call : Call) (g : Given) where
   holds allowance-small c = leb (g .allowance) most-allowance
   holds coordinates-near c = near (getD (g .coordinates) (2 * c) (pos 0)) && near (getD (g .coordinates) (2 * c + 1) (pos 0))
   holds cell-named c = in-table (root-too call) (length (g .table)) (g .subject)
+  holds page-fair c = on-page (g .subject)
+  holds stroke-numbered c = numbered (length (g .table)) (g .subject)
 
 -- ---- the first "no"
 -- nothing refused: 0 and 0
@@ -316,3 +352,13 @@ copy-given t labels letters al room =
       coordinates = [];
       subject = nothing;
     }
+
+-- what a stroke is given (document 02, E1): a table, positions, a page and the stroke's number
+unfoldable pub stroke-given : Table → (positions : List ℤ) → Page → (s : ℕ) → Given
+stroke-given t ps g s =
+    record { source = lent; table = t; allowance = 0; buffers = []; positions = long (length ps); coordinates = ps; subject = stroked g s }
+
+-- what a strip is given (document 02, E8), of which a question asks: a table and positions
+unfoldable pub strip-given : Table → (positions : List ℤ) → Given
+strip-given t ps =
+    record { source = lent; table = t; allowance = 0; buffers = []; positions = long (length ps); coordinates = ps; subject = nothing }

@@ -7,6 +7,7 @@ pub mod Kept
 pub mod Kinds
 pub mod Lists
 pub mod Near
+pub mod Pages
 pub mod Paths
 pub mod Plan
 pub mod Questions

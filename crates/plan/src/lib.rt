@@ -40,3 +40,11 @@ pub struct Refusal {
     pub number: u8,
     pub cell: u16,
 }
+
+// The page of a plotter, in millimetres: the pitch of the lattice, and both margins.
+#[repr(C)]
+pub struct Page {
+    pub pitch: f64,
+    pub margin_x: f64,
+    pub margin_y: f64,
+}

@@ -45,8 +45,24 @@ pub struct Ends {
     pub to: (i32, i32),
 }
 
+/// Millimetres: the pitch from 0.25 to 16, each margin from 0 to 100.
+#[repr(C)]
+#[derive(Clone, Copy, Debug, PartialEq)]
+pub struct Page {
+    pub pitch: f64,
+    pub margin_x: f64,
+    pub margin_y: f64,
+}
+
+#[derive(Clone, Copy, Debug, PartialEq)]
+pub enum Stroke {
+    Move(f64, f64),
+    Line(f64, f64),
+    Lift,
+}
+
 mod raw {
-    use super::Record;
+    use super::{Page, Record};
 
     #[repr(C)]
     pub struct ReadAnswer {
@@ -127,6 +143,15 @@ mod raw {
         pub lines: usize,
     }
 
+    #[repr(C)]
+    pub struct StrokeAnswer {
+        pub number: u8,
+        pub cell: u16,
+        pub what: u8,
+        pub x: f64,
+        pub y: f64,
+    }
+
     extern "C" {
         pub fn kuzpalen_read(file: *const u8, file_len: usize, table: *mut Record, table_len: usize) -> ReadAnswer;
         pub fn kuzpalen_label(file: *const u8, file_len: usize, cell: usize) -> LabelPart;
@@ -179,6 +204,14 @@ mod raw {
             text: *mut u8,
             text_len: usize,
         ) -> MendAnswer;
+        pub fn kuzpalen_stroke(
+            table: *const Record,
+            table_len: usize,
+            positions: *const i32,
+            positions_len: usize,
+            page: Page,
+            s: usize,
+        ) -> StrokeAnswer;
     }
 }
 
@@ -292,4 +325,20 @@ pub fn mend(file: &[u8], out: &mut [u8], text: &mut [u8]) -> Result<(usize, usiz
         raw::kuzpalen_mend(file.as_ptr(), file.len(), out.as_mut_ptr(), out.len(), text.as_mut_ptr(), text.len())
     };
     unless(r.number, r.cell, (r.length, r.lines))
+}
+
+/// What a stroke is (include/kuzpalen.h).
+const STROKE_MOVE: u8 = 1;
+const STROKE_LINE: u8 = 2;
+
+/// Stroke number s, from 0, of a sheet that is drawn on a page.
+pub fn stroke(table: &[Record], positions: &[i32], page: Page, s: usize) -> Result<Stroke, Refusal> {
+    // SAFETY: the pointers are good for their lengths.
+    let r = unsafe { raw::kuzpalen_stroke(table.as_ptr(), table.len(), positions.as_ptr(), positions.len(), page, s) };
+    let stroke = match r.what {
+        STROKE_MOVE => Stroke::Move(r.x, r.y),
+        STROKE_LINE => Stroke::Line(r.x, r.y),
+        _ => Stroke::Lift,
+    };
+    unless(r.number, r.cell, stroke)
 }

@@ -14,6 +14,7 @@ mod plan;
 mod plan_file;
 pub mod rng;
 mod rules;
+mod strokes;
 
 pub use copy::{clean_form, content, copy, Content, COPY};
 pub use frame::frame;
@@ -23,3 +24,4 @@ pub use mend::{lines, mend, mended, Altered, LINES, MENDED};
 pub use plan::{Cell, Plan, Refusal, MAX_CELLS, MAX_WIDTH, ROOT};
 pub use plan_file::{label, label_refusal, read, Form, FORMS};
 pub use rules::{check, ends, measure, Ends, Measure, Verdict, MAX_COORDINATE};
+pub use strokes::{stroke, Page, Stroke};

@@ -1,0 +1,20 @@
+use native.Mathlib.Omega.{arith}
+use Rattle.corners.specs.laws.Corners.{bias-low}
+use borrow.Author.Needs.{needs}
+use Rattle.corners.proofs.y_of.Statement.{statement}
+use Rattle.corners.proofs.y_of.Tie as tie
+
+mul-raise-at : tie.Need-mul-raise-at
+mul-raise-at c = search needs
+
+add-raise-at : tie.Need-add-raise-at
+add-raise-at c = search needs
+
+raise-at-requires : tie.Need-raise-at-requires
+raise-at-requires c κs = search needs
+
+returns : tie.Need-returns
+returns c = (c .raise-at .ensures, omega (arith, c .raise-at .ensures, bias-low _ (c .before .pre .y)))
+
+pub y-of-spec : {M : Type 1} → statement M
+y-of-spec = tie.close (tie.spec mul-raise-at add-raise-at raise-at-requires returns)
