@@ -1,0 +1,4 @@
+pub mod Points
+pub mod Strip
+pub mod Worked
+pub mod laws
