@@ -1,3 +1,4 @@
+pub mod Boundary
 pub mod Points
 pub mod Strip
 pub mod Worked

@@ -5,3 +5,4 @@ pub mod Puts
 pub mod Sheet
 pub mod Stripped
 pub mod Points
+pub mod Promised
