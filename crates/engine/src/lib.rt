@@ -17,6 +17,7 @@ ghost use Rattle.fitting.specs.Fitted.{Frames};
 ghost use Rattle.checker.specs.Checked.{«checked-of»};
 ghost use Rattle.ends.specs.Ended.{«ended-of»};
 ghost use Rattle.printing.specs.Printing.{Lists};
+ghost use Rattle.strips.specs.Stripped.{Strips};
 ghost use Rattle.engine.specs.Read.{Reads, «read-of»};
 ghost use Rattle.engine.specs.Label.{«label-of»};
 
@@ -111,4 +112,12 @@ pub fn frame(table: &[Record], squares: u32, scratch: &mut [u32]) -> Fitted
 {
     let t = columns_of(table);
     fitting::frame(t, squares, scratch)
+}
+
+// Strip: a row of a drawn sheet, from a column on, is written into the bytes, eight columns a byte; the refusal, or 0 and 0.
+pub fn strip(table: &[Record], positions: &[i32], row: u32, first: u32, bytes: &mut [u8]) -> Refusal
+    ensures { λ r. ⌜ Strips (cells-of (now (table .entry))) (now (positions .entry)) row first (now (bytes .entry)) (now (bytes .exit)) r ⌝ }
+{
+    let t = columns_of(table);
+    strips::strip(t, positions, row, first, bytes)
 }

@@ -16,10 +16,9 @@ pub record Row : Type 0 where
   pub first : ℕ
   pub bytes : List ℕ
 
--- the same row, with as many bytes of the strip
-unfoldable pub computed : Row → Row
-computed r =
-    record { table = r .table; positions = r .positions; row = r .row; first = r .first; bytes = strip-of (r .table) (placed (r .positions)) (r .row) (r .first) (length (r .bytes)) }
+-- as many bytes of the strip
+unfoldable pub computed : Row → List ℕ
+computed r = strip-of (r .table) (placed (r .positions)) (r .row) (r .first) (length (r .bytes))
 
 unfoldable pub cell : (parent kind width depth : ℕ) → Cell
 cell p k w d = record { parent = p; kind = k; width = w; depth = d; rank = 0 }

@@ -12,7 +12,7 @@ use Rattle.plan.specs.Columns.{table-of}
 use Rattle.plan.specs.Records.{cells-of}
 use Rattle.plan.specs.declared.Record.{Record}
 use Rattle.plan.specs.declared.Columns.{Columns}
-use Rattle.plan.specs.Questions.{Buffer, scratch, all-roomy, in-file, puts, asked, or-else, refusal, layout, check, ends, frame, layout-given, check-given, ends-given, frame-given}
+use Rattle.plan.specs.Questions.{Buffer, scratch, all-roomy, in-file, puts, asked, or-else, refusal, layout, check, ends, frame, strip, layout-given, check-given, ends-given, frame-given, strip-given}
 use Rattle.plan.specs.laws.Crowded.{crowded, refusal-crowded, crowded-refuses}
 use Rattle.plan.specs.declared.Refusal.{Refusal}
 use Rattle.layout.specs.Laid.{laid-of, positions-after, Lays}
@@ -28,6 +28,7 @@ use Rattle.checker.specs.declared.Checked.the-variants as checks
 use Rattle.ends.specs.Ended.{ended-of}
 use Rattle.ends.specs.declared.Ended.{Ended}
 use Rattle.ends.specs.declared.Ended.the-variants as ended
+use Rattle.strips.specs.Stripped.{bytes-after, Strips}
 use Rattle.records.specs.Apart.{lent-columns}
 use Rattle.records.specs.laws.Apart.{of-records}
 
@@ -68,6 +69,18 @@ ends-crowded : (ps : List ℤ) (c : ℕ) (u : Table) → most-cells < length u �
 unfolding ended-of ends-given in-file puts mem some
 ends-crowded ps c u h = rw (refusal-crowded ends (ends-given u ps c) (λ _. refl) refl refl h, ne-eqb (no [] .number) 0 (crowded-refuses _))
 
+module _ (ps : List ℤ) (row first : ℕ) (bs bs′ : List ℕ) (d : Refusal) where
+  strip-crowded : (u : Table) → most-cells < length u → refusal strip (strip-given u ps) ≡ no []
+  unfolding strip-given in-file puts mem some
+  strip-crowded u h = refusal-crowded strip (strip-given u ps) (λ _. refl) refl refl h
+
+  strips-crowded : (u v : Table) → most-cells < length u → most-cells < length v → Strips u ps row first bs bs′ d → Strips v ps row first bs bs′ d
+  unfolding bytes-after
+  strips-crowded u v p q g =
+      let e : d ≡ no [] = g .answers ∙ strip-crowded u p in
+      let z : ¬ (d .number ≡ 0) = rw e (crowded-refuses _) in
+      record { answers = e ∙ sym (strip-crowded v q); bytes = rw (ne-eqb (d .number) 0 z) (rw (ne-eqb (d .number) 0 z) at (g .bytes)) }
+
 module _ (t : List Record) (r : Columns) (e : r ≡ lent-columns t) where
   pub layout-lent : (al : ℕ) (s s′ : List ℕ) (ps ps′ : List ℤ) (d : Laid) → Lays (table-of r) al s s′ ps ps′ d → Lays (cells-of t) al s s′ ps ps′ d
   layout-lent al s s′ ps ps′ d h = of-records (λ u. Lays u al s s′ ps ps′ d) t (lays-crowded al s s′ ps ps′ d) (rw e at h)
@@ -80,3 +93,6 @@ module _ (t : List Record) (r : Columns) (e : r ≡ lent-columns t) where
 
   pub frame-lent : (f : ℕ) (s s′ : List ℕ) (d : Fitted) → Frames (table-of r) f s s′ d → Frames (cells-of t) f s s′ d
   frame-lent f s s′ d h = of-records (λ u. Frames u f s s′ d) t (frames-crowded f s s′ d) (rw e at h)
+
+  pub strip-lent : (ps : List ℤ) (row first : ℕ) (bs bs′ : List ℕ) (d : Refusal) → Strips (table-of r) ps row first bs bs′ d → Strips (cells-of t) ps row first bs bs′ d
+  strip-lent ps row first bs bs′ d h = of-records (λ u. Strips u ps row first bs bs′ d) t (strips-crowded ps row first bs bs′ d) (rw e at h)
