@@ -5,6 +5,7 @@ use Prim.Native.Nat.{ℕ}
 use lib.IntN.{ℤ, pos}
 use Rattle.plan.specs.Plan.{Table}
 use Rattle.plan.specs.declared.Record.{Record}
+use Rattle.plan.specs.declared.Refusal.{Refusal}
 use Rattle.layout.specs.Laid.{Lays}
 use Rattle.layout.specs.declared.Laid.{Laid}
 use Rattle.layout.specs.declared.Laid.the-variants.{Sheet, Refused as Unlaid}
@@ -18,6 +19,7 @@ use Rattle.printing.specs.declared.Listed.the-variants.{Text, Refused as Unlist
 use Rattle.fitting.specs.Fitted.{Frames}
 use Rattle.fitting.specs.declared.Fitted.{Fitted}
 use Rattle.fitting.specs.declared.Fitted.the-variants.{Allowance, None, Refused as Unfitted}
+use Rattle.strips.specs.Stripped.{Strips}
 use Rattle.engine.specs.Read.{Reads}
 use Rattle.engine.specs.declared.ReadAnswer.{ReadAnswer as Read}
 use Rattle.engine.specs.declared.ReadAnswer.the-variants.{Plan, Refused as Unread}
@@ -27,6 +29,7 @@ use Rattle.answers.specs.declared.CheckAnswer.{CheckAnswer}
 use Rattle.answers.specs.declared.EndsAnswer.{EndsAnswer}
 use Rattle.answers.specs.declared.ListAnswer.{ListAnswer}
 use Rattle.answers.specs.declared.FrameAnswer.{FrameAnswer}
+use Rattle.answers.specs.declared.StripAnswer.{StripAnswer}
 
 unfoldable pub read-answer : Read → ReadAnswer
 read-answer (Plan n al) = record { number = 0; cell = 0; allowance = al; count = n }
@@ -78,3 +81,12 @@ pub record Framing (t : Table) (squares : ℕ) (s s′ : List ℕ) (r : FrameAns
   pub fitted : Fitted
   pub frames : Frames t squares s s′ fitted
   pub answers : r ≡ frame-answer fitted
+
+unfoldable pub strip-answer : Refusal → StripAnswer
+strip-answer r = record { number = r .number; cell = r .cell }
+
+-- a call of Strip, as `Strips` has it, with the struct for its answer
+pub record Stripping (t : Table) (ps : List ℤ) (row first : ℕ) (bs bs′ : List ℕ) (r : StripAnswer) : Type 0 where
+  pub refused : Refusal
+  pub strips : Strips t ps row first bs bs′ refused
+  pub answers : r ≡ strip-answer refused

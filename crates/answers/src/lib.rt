@@ -3,9 +3,10 @@ use checker::Checked;
 use ends::Ended;
 use fitting::Fitted;
 use layout::Laid;
+use plan::Refusal;
 use printing::Listed;
 ghost use mathlib.Core.Path.{_≡_};
-ghost use Rattle.answers.specs.Answers.{«read-answer», «laid-answer», «check-answer», «ends-answer», «list-answer», «frame-answer»};
+ghost use Rattle.answers.specs.Answers.{«read-answer», «laid-answer», «check-answer», «ends-answer», «list-answer», «frame-answer», «strip-answer»};
 
 // Number and cell of the refusal, or 0 and 0; the number of cells and the allowance.
 #[repr(C)]
@@ -77,6 +78,13 @@ pub struct FrameAnswer {
     pub cell: u16,
     pub outcome: u8,
     pub allowance: u32,
+}
+
+// Number and cell of the refusal, or 0 and 0.
+#[repr(C)]
+pub struct StripAnswer {
+    pub number: u8,
+    pub cell: u16,
 }
 
 // The answer of Read as a struct.
@@ -219,5 +227,15 @@ pub fn told_frame(answer: Fitted) -> FrameAnswer
             outcome: 0,
             allowance: 0,
         },
+    }
+}
+
+// The answer of Strip as a struct.
+pub fn told_strip(answer: Refusal) -> StripAnswer
+    ensures { λ r. ⌜ r ≡ strip-answer answer ⌝ }
+{
+    StripAnswer {
+        number: answer.number,
+        cell: answer.cell,
     }
 }

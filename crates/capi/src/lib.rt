@@ -7,19 +7,21 @@ use answers::LabelPart;
 use answers::LayoutAnswer;
 use answers::ListAnswer;
 use answers::ReadAnswer;
+use answers::StripAnswer;
 use answers::told_check;
 use answers::told_ends;
 use answers::told_frame;
 use answers::told_layout;
 use answers::told_list;
 use answers::told_read;
+use answers::told_strip;
 use plan::Record;
 ghost use mathlib.Core.Path.{_≡_};
 ghost use Rattle.plan.specs.Records.{«cells-of»};
 ghost use Rattle.planfile.specs.Reading.{«label-refusal», «label-part»};
 ghost use Rattle.checker.specs.Checked.{«checked-of»};
 ghost use Rattle.ends.specs.Ended.{«ended-of»};
-ghost use Rattle.answers.specs.Answers.{«check-answer», «ends-answer», Filling, Laying, ListFilling, Framing};
+ghost use Rattle.answers.specs.Answers.{«check-answer», «ends-answer», Filling, Laying, ListFilling, Framing, Stripping};
 
 #[no_mangle]
 pub extern "C" fn kuzpalen_read(file: &[u8], table: &mut [Record]) -> ReadAnswer
@@ -95,4 +97,18 @@ pub extern "C" fn kuzpalen_frame(table: &[Record], squares: u32, scratch: &mut [
 {
     let answer = engine::frame(table, squares, scratch);
     told_frame(answer)
+}
+
+#[no_mangle]
+pub extern "C" fn kuzpalen_strip(
+    table: &[Record],
+    positions: &[i32],
+    row: u32,
+    first: u32,
+    bytes: &mut [u8],
+) -> StripAnswer
+    ensures { λ r. ⌜ Stripping (cells-of (now (table .entry))) (now (positions .entry)) row first (now (bytes .entry)) (now (bytes .exit)) r ⌝ }
+{
+    let answer = engine::strip(table, positions, row, first, bytes);
+    told_strip(answer)
 }
