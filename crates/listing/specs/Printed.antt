@@ -66,3 +66,12 @@ cell-line c x y w d label = line (decimal c ∷ signed x ∷ signed y ∷ decima
 -- the line of a refusal
 unfoldable pub refused-line : (number cell : ℕ) → Bytes
 refused-line k c = line (refused-word ∷ decimal k ∷ decimal c ∷ [])
+
+-- ---- a sheet as a portable bitmap (document 02, E8)
+-- the word `P4`
+abbrev pub bitmap-word : Bytes
+bitmap-word = 80 ∷ 52 ∷ []
+
+-- its first line, which the rows follow
+unfoldable pub bitmap-line : (columns rows : ℕ) → Bytes
+bitmap-line c r = line (bitmap-word ∷ decimal c ∷ decimal r ∷ [])

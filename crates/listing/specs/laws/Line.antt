@@ -6,6 +6,7 @@ use native.Mathlib.Omega.{arith}
 use lib.IntN.{ℤ}
 use lib.ListN.{length}
 use Rattle.listing.specs.Printed.{Bytes, space, line-feed, sheet-word, refused-word, decimal, signed, line, sheet-line, label-field, cell-line, refused-line}
+use Rattle.listing.specs.Printed.{bitmap-word, bitmap-line}
 use Rattle.listing.specs.Line.{spaced}
 
 pub spaced-empty : (s : Bytes) → length s ≡ 0 → spaced s ≡ []
@@ -35,3 +36,8 @@ pub cell-line-is : (c : ℕ) (x y : ℤ) (w d : ℕ) (l : Bytes)
 unfolding cell-line line label-field spaced
 cell-line-is c x y w d [] = regroup (decimal c) (space ∷ signed x) (space ∷ signed y) (space ∷ decimal w) (space ∷ decimal d) [] _
 cell-line-is c x y w d (b ∷ l) = regroup (decimal c) (space ∷ signed x) (space ∷ signed y) (space ∷ decimal w) (space ∷ decimal d) (space ∷ b ∷ l) _
+
+-- the first line of a bitmap
+pub bitmap-line-is : (c r : ℕ) → bitmap-word ++ (space ∷ decimal c) ++ (space ∷ decimal r) ++ (line-feed ∷ []) ≡ bitmap-line c r
+unfolding bitmap-line line
+bitmap-line-is c r = simp append-assoc
