@@ -1,19 +1,7 @@
 use Rattle.strip.specs.laws.Sizes.{laid-narrow}
 use borrow.Author.Needs.{needs}
-use Rattle.strip.proofs.main.Statement.{statement}
-use Rattle.strip.proofs.main.Tie as tie
-
-slice-aggregate-read-full : tie.Need-slice-aggregate-read-full
-slice-aggregate-read-full c = search needs
-
-read-full-requires : tie.Need-read-full-requires
-read-full-requires c κs = search needs
-
-array-share-prefix-file : tie.Need-array-share-prefix-file
-array-share-prefix-file c = search needs
-
-slice-aggregate-read : tie.Need-slice-aggregate-read
-slice-aggregate-read c = search needs
+use Rattle.strip.proofs.print_plan.Statement.{statement}
+use Rattle.strip.proofs.print_plan.Tie as tie
 
 read-requires : tie.Need-read-requires
 read-requires c κs = search needs
@@ -48,17 +36,11 @@ layout-requires c κs = search needs
 enum-known-width : tie.Need-enum-known-width
 enum-known-width c = search needs
 
-slice-aggregate-print : tie.Need-slice-aggregate-print
-slice-aggregate-print c = search needs
+slice-aggregate-print-sheet : tie.Need-slice-aggregate-print-sheet
+slice-aggregate-print-sheet c = search needs
 
-print-requires : tie.Need-print-requires
-print-requires c κs = laid-narrow _ _ _ _ _ _ _ _ _ (c .before .before .before .before .before .before .layout .ensures) (c .before .before .width .given .1)
-
-slice-aggregate-write-all : tie.Need-slice-aggregate-write-all
-slice-aggregate-write-all c = search needs
-
-write-all-requires : tie.Need-write-all-requires
-write-all-requires c κs = search needs
+print-sheet-requires : tie.Need-print-sheet-requires
+print-sheet-requires c κs = laid-narrow _ _ _ _ _ _ _ _ _ (c .before .before .before .before .before .before .layout .ensures) (c .before .before .width .given .1)
 
 enum-known-number : tie.Need-enum-known-number
 enum-known-number c = search needs
@@ -81,17 +63,10 @@ returns-2 c = search needs
 returns-3 : tie.Need-returns-3
 returns-3 c = search needs
 
-returns-4 : tie.Need-returns-4
-returns-4 c = search needs
-
-pub main-spec : {M : Type 1} → statement M
-main-spec =
+pub print-plan-spec : {M : Type 1} → statement M
+print-plan-spec =
     tie.close
     (tie.spec
-    slice-aggregate-read-full
-    read-full-requires
-    array-share-prefix-file
-    slice-aggregate-read
     read-requires
     cast-refused-line
     cast-refused-line-2
@@ -103,15 +78,12 @@ main-spec =
     slice-aggregate-layout-2
     layout-requires
     enum-known-width
-    slice-aggregate-print
-    print-requires
-    slice-aggregate-write-all
-    write-all-requires
+    slice-aggregate-print-sheet
+    print-sheet-requires
     enum-known-number
     cast-refused-line-3
     cast-refused-line-4
     refused-line-requires-2
     print-line-requires-2
     returns-2
-    returns-3
-    returns-4)
+    returns-3)

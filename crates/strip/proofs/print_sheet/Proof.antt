@@ -2,8 +2,8 @@ use mathlib.Core.Path.{sym}
 use native.Mathlib.Omega.{arith}
 use lib.Seq.{length-take-le}
 use borrow.Author.Needs.{needs}
-use Rattle.strip.proofs.print.Statement.{statement}
-use Rattle.strip.proofs.print.Tie as tie
+use Rattle.strip.proofs.print_sheet.Statement.{statement}
+use Rattle.strip.proofs.print_sheet.Tie as tie
 
 add-bitmap-line : tie.Need-add-bitmap-line
 add-bitmap-line c = search needs
@@ -35,8 +35,8 @@ print-rows-requires c κs = search needs
 returns-2 : tie.Need-returns-2
 returns-2 c = search needs
 
-pub print-spec : {M : Type 1} → statement M
-print-spec =
+pub print-sheet-spec : {M : Type 1} → statement M
+print-sheet-spec =
     tie.close
     (tie.spec
     add-bitmap-line
