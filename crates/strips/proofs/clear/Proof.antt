@@ -1,5 +1,6 @@
 use Rattle.strips.specs.laws.Puts.{Cleared, cleared-starts, cleared-turns, cleared-ends}
 use lib.ListN.{length}
+use native.Mathlib.Omega.{arith}
 use Prim.Native.Nat.{_-_}
 use borrow.Author.Needs.{needs}
 use Rattle.strips.proofs.clear.Statement.{statement}
@@ -24,13 +25,13 @@ loop-less : tie.Need-loop-less Inv-loop μ-loop
 loop-less c = search needs
 
 loop-again : tie.Need-loop-again Inv-loop μ-loop
-loop-again c = cleared-turns (c .before .loop .inv) (c .loop-test .taken)
+loop-again c = cleared-turns (c .before .loop .inv) (omega (arith, c .loop-test .taken))
 
 same-length : tie.Need-same-length Inv-loop μ-loop
 same-length c = search needs
 
 returns : tie.Need-returns Inv-loop μ-loop
-returns c = cleared-ends (c .before .loop .inv) (c .loop-test .left)
+returns c = cleared-ends (c .before .loop .inv) (omega (arith, c .loop-test .left))
 
 pub clear-spec : {M : Type 1} → statement M
 clear-spec =
