@@ -8,7 +8,7 @@
  * call answers on every input; none keeps a pointer, allocates or fails otherwise.
  *
  * Every answer but a label's part begins with a refusal: `number` is 0, or the number of the first
- * question answered "no" (1 to 16, 19), and `cell` is then the lowest cell at fault, 0 where no cell is
+ * question answered "no" (1 to 19), and `cell` is then the lowest cell at fault, 0 where no cell is
  * concerned. All other fields of a refusal are 0, and every lent buffer is then as it was before the call.
  */
 #ifndef KUZPALEN_H
@@ -98,6 +98,25 @@ typedef struct {
     uint32_t allowance;    /* 0 to 65535 with the first, else 0 */
 } kuzpalen_frame_answer;
 
+/* The page of a plotter, in millimetres. A margin of -0.0 is a margin from 0. */
+typedef struct {
+    double pitch;          /* the length of a lattice unit: 0.25 to 16 */
+    double margin_x;       /* 0 to 100 */
+    double margin_y;       /* 0 to 100 */
+} kuzpalen_page;
+
+#define KUZPALEN_STROKE_MOVE 1u  /* what a stroke is: a move of the pen to a point, */
+#define KUZPALEN_STROKE_LINE 2u  /* a line to a point, */
+#define KUZPALEN_STROKE_LIFT 3u  /* or a lift of the pen. 0 with a refusal */
+
+typedef struct {
+    uint8_t number;
+    uint16_t cell;
+    uint8_t what;          /* KUZPALEN_STROKE_MOVE, KUZPALEN_STROKE_LINE or KUZPALEN_STROKE_LIFT */
+    double x;              /* the point, in millimetres from the page's upper left corner; 0 for a lift */
+    double y;
+} kuzpalen_stroke_answer;
+
 typedef struct {
     uint8_t number;
     uint16_t cell;
@@ -161,6 +180,18 @@ kuzpalen_list_answer kuzpalen_list(const uint8_t *file, size_t file_len,
  * costs at most 17 Layouts. */
 kuzpalen_frame_answer kuzpalen_frame(const kuzpalen_record *table, size_t table_len, uint32_t squares,
                                      uint32_t *scratch, size_t scratch_len);
+
+/* Stroke: number `s`, from 0, of the 9n - 3 strokes that draw a sheet of n cells on a page. Each box, in the
+ * order of the cells: a move to its upper left corner, lines to its upper right, lower right, lower left and
+ * upper left corner, a lift. Then each connector, in the order of the children's numbers: a move to the end
+ * at the parent, a line to the end at the child, a lift; the ends are those of Ends. A lattice x is taken
+ * less the least x of all cells, a y as it is; turned into a double, times the pitch, rounded once, plus the
+ * margin, rounded once (IEEE 754, to the nearest, ties to even): the bits are those of these two operations.
+ * Positions as for Check, by questions 1 and 15; any placement will do. Question 17 refuses a pitch or a
+ * margin out of its range, a NaN too; question 18 an `s` of 9n - 3 or more. */
+kuzpalen_stroke_answer kuzpalen_stroke(const kuzpalen_record *table, size_t table_len,
+                                       const int32_t *positions, size_t positions_len,
+                                       kuzpalen_page page, size_t s);
 
 /* Strip: one lattice row of a drawn sheet, for a raster printer. Byte i holds the eight columns from
  * `first` + 8i on, the leftmost in the highest bit; columns are counted from 0 at the least x of all cells,

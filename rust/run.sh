@@ -20,6 +20,8 @@ cargo test --offline --quiet --profile checked -p reference
 if command -v cc >/dev/null; then
     cc -Wall -Wextra -o target/smoke smoke.c ../target/staticlib/libcapi.a
     ./target/smoke
+    cc -Wall -Wextra -ffp-contract=off -o target/strokes strokes.c ../target/staticlib/libcapi.a
+    ./target/strokes
 fi
 if [ -x "$sheet" ]; then
     ./target/checked/listing "$sheet" 1000 "$seed"

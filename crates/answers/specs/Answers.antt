@@ -3,6 +3,7 @@ use mathlib.Core.Path.{_≡_}
 use mathlib.Core.List.{List}
 use Prim.Native.Nat.{ℕ}
 use lib.IntN.{ℤ, pos}
+use lib.Ieee.{Float, binary64, ofBits}
 use Rattle.plan.specs.Plan.{Table}
 use Rattle.plan.specs.declared.Record.{Record}
 use Rattle.plan.specs.declared.Refusal.{Refusal}
@@ -19,6 +20,10 @@ use Rattle.printing.specs.declared.Listed.the-variants.{Text, Refused as Unlist
 use Rattle.fitting.specs.Fitted.{Frames}
 use Rattle.fitting.specs.declared.Fitted.{Fitted}
 use Rattle.fitting.specs.declared.Fitted.the-variants.{Allowance, None, Refused as Unfitted}
+use Rattle.pen.specs.declared.Stroke.{Stroke}
+use Rattle.pen.specs.declared.Stroke.the-variants.{Move, Line, Lift}
+use Rattle.strokes.specs.declared.Stroked.{Stroked}
+use Rattle.strokes.specs.declared.Stroked.the-variants.{Drawn, Refused as Undrawn}
 use Rattle.strips.specs.Stripped.{Strips}
 use Rattle.engine.specs.Read.{Reads}
 use Rattle.engine.specs.declared.ReadAnswer.{ReadAnswer as Read}
@@ -29,6 +34,7 @@ use Rattle.answers.specs.declared.CheckAnswer.{CheckAnswer}
 use Rattle.answers.specs.declared.EndsAnswer.{EndsAnswer}
 use Rattle.answers.specs.declared.ListAnswer.{ListAnswer}
 use Rattle.answers.specs.declared.FrameAnswer.{FrameAnswer}
+use Rattle.answers.specs.declared.StrokeAnswer.{StrokeAnswer}
 use Rattle.answers.specs.declared.StripAnswer.{StripAnswer}
 
 unfoldable pub read-answer : Read → ReadAnswer
@@ -57,6 +63,20 @@ unfoldable pub frame-answer : Fitted → FrameAnswer
 frame-answer (Allowance a) = record { number = 0; cell = 0; outcome = 1; allowance = a }
 frame-answer None = record { number = 0; cell = 0; outcome = 2; allowance = 0 }
 frame-answer (Unfitted k c) = record { number = k; cell = c; outcome = 0; allowance = 0 }
+
+-- the float 0, where a case has no point
+abbrev pub no-point : Float
+no-point = ofBits binary64 0
+
+-- 1 a move, 2 a line, 3 a lift
+unfoldable pub pen-answer : Stroke → StrokeAnswer
+pen-answer (Move x y) = record { number = 0; cell = 0; what = 1; x = x; y = y }
+pen-answer (Line x y) = record { number = 0; cell = 0; what = 2; x = x; y = y }
+pen-answer Lift = record { number = 0; cell = 0; what = 3; x = no-point; y = no-point }
+
+unfoldable pub stroke-answer : Stroked → StrokeAnswer
+stroke-answer (Drawn s) = pen-answer s
+stroke-answer (Undrawn k c) = record { number = k; cell = c; what = 0; x = no-point; y = no-point }
 
 -- a call of Read, as `Reads` has it, with the struct for its answer
 pub record Filling (f : List ℕ) (t t′ : List Record) (r : ReadAnswer) : Type 0 where

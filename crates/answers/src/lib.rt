@@ -3,10 +3,12 @@ use checker::Checked;
 use ends::Ended;
 use fitting::Fitted;
 use layout::Laid;
+use pen::Stroke;
 use plan::Refusal;
 use printing::Listed;
+use strokes::Stroked;
 ghost use mathlib.Core.Path.{_≡_};
-ghost use Rattle.answers.specs.Answers.{«read-answer», «laid-answer», «check-answer», «ends-answer», «list-answer», «frame-answer», «strip-answer»};
+ghost use Rattle.answers.specs.Answers.{«read-answer», «laid-answer», «check-answer», «ends-answer», «list-answer», «frame-answer», «pen-answer», «stroke-answer», «strip-answer»};
 
 // Number and cell of the refusal, or 0 and 0; the number of cells and the allowance.
 #[repr(C)]
@@ -78,6 +80,16 @@ pub struct FrameAnswer {
     pub cell: u16,
     pub outcome: u8,
     pub allowance: u32,
+}
+
+// Number and cell of the refusal, or 0 and 0; 1 a move, 2 a line, 3 a lift; the point moved to, or drawn to.
+#[repr(C)]
+pub struct StrokeAnswer {
+    pub number: u8,
+    pub cell: u16,
+    pub what: u8,
+    pub x: f64,
+    pub y: f64,
 }
 
 // Number and cell of the refusal, or 0 and 0.
@@ -226,6 +238,51 @@ pub fn told_frame(answer: Fitted) -> FrameAnswer
             cell,
             outcome: 0,
             allowance: 0,
+        },
+    }
+}
+
+// A stroke as a struct.
+fn told_pen(stroke: Stroke) -> StrokeAnswer
+    ensures { λ r. ⌜ r ≡ pen-answer stroke ⌝ }
+{
+    match stroke {
+        Stroke::Move(x, y) => StrokeAnswer {
+            number: 0,
+            cell: 0,
+            what: 1,
+            x,
+            y,
+        },
+        Stroke::Line(x, y) => StrokeAnswer {
+            number: 0,
+            cell: 0,
+            what: 2,
+            x,
+            y,
+        },
+        Stroke::Lift => StrokeAnswer {
+            number: 0,
+            cell: 0,
+            what: 3,
+            x: 0.0,
+            y: 0.0,
+        },
+    }
+}
+
+// The answer of a stroke's call as a struct.
+pub fn told_stroke(answer: Stroked) -> StrokeAnswer
+    ensures { λ r. ⌜ r ≡ stroke-answer answer ⌝ }
+{
+    match answer {
+        Stroked::Drawn(stroke) => told_pen(stroke),
+        Stroked::Refused(number, cell) => StrokeAnswer {
+            number,
+            cell,
+            what: 0,
+            x: 0.0,
+            y: 0.0,
         },
     }
 }

@@ -7,6 +7,7 @@ use answers::LabelPart;
 use answers::LayoutAnswer;
 use answers::ListAnswer;
 use answers::ReadAnswer;
+use answers::StrokeAnswer;
 use answers::StripAnswer;
 use answers::told_check;
 use answers::told_ends;
@@ -14,6 +15,8 @@ use answers::told_frame;
 use answers::told_layout;
 use answers::told_list;
 use answers::told_read;
+use answers::told_stroke;
+use plan::Page;
 use answers::told_strip;
 use plan::Record;
 ghost use mathlib.Core.Path.{_≡_};
@@ -21,7 +24,8 @@ ghost use Rattle.plan.specs.Records.{«cells-of»};
 ghost use Rattle.planfile.specs.Reading.{«label-refusal», «label-part»};
 ghost use Rattle.checker.specs.Checked.{«checked-of»};
 ghost use Rattle.ends.specs.Ended.{«ended-of»};
-ghost use Rattle.answers.specs.Answers.{«check-answer», «ends-answer», Filling, Laying, ListFilling, Framing, Stripping};
+ghost use Rattle.strokes.specs.Stroked.{«stroked-of»};
+ghost use Rattle.answers.specs.Answers.{«check-answer», «ends-answer», «stroke-answer», Filling, Laying, ListFilling, Framing, Stripping};
 
 #[no_mangle]
 pub extern "C" fn kuzpalen_read(file: &[u8], table: &mut [Record]) -> ReadAnswer
@@ -97,6 +101,19 @@ pub extern "C" fn kuzpalen_frame(table: &[Record], squares: u32, scratch: &mut [
 {
     let answer = engine::frame(table, squares, scratch);
     told_frame(answer)
+}
+
+#[no_mangle]
+pub extern "C" fn kuzpalen_stroke(
+    table: &[Record],
+    positions: &[i32],
+    page: Page,
+    s: usize,
+) -> StrokeAnswer
+    ensures { λ r. ⌜ r ≡ stroke-answer (stroked-of (cells-of (now (table .entry))) (now (positions .entry)) page s) ⌝ }
+{
+    let answer = plotting::stroke_at(table, positions, page, s);
+    told_stroke(answer)
 }
 
 #[no_mangle]

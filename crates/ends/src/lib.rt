@@ -28,7 +28,7 @@ pub enum Ended {
 }
 
 // Half a width: the nearer whole number, a tie to the even one.
-fn half(width: u16) -> u32
+pub fn half(width: u16) -> u32
     ensures { λ r. ⌜ r ≡ half width ⌝ }
 {
     let down = (width as u32) / 2;

@@ -45,8 +45,24 @@ pub struct Ends {
     pub to: (i32, i32),
 }
 
+/// Millimetres: the pitch from 0.25 to 16, each margin from 0 to 100.
+#[repr(C)]
+#[derive(Clone, Copy, Debug, PartialEq)]
+pub struct Page {
+    pub pitch: f64,
+    pub margin_x: f64,
+    pub margin_y: f64,
+}
+
+#[derive(Clone, Copy, Debug, PartialEq)]
+pub enum Stroke {
+    Move(f64, f64),
+    Line(f64, f64),
+    Lift,
+}
+
 mod raw {
-    use super::Record;
+    use super::{Page, Record};
 
     #[repr(C)]
     pub struct ReadAnswer {
@@ -113,6 +129,15 @@ mod raw {
     }
 
     #[repr(C)]
+    pub struct StrokeAnswer {
+        pub number: u8,
+        pub cell: u16,
+        pub what: u8,
+        pub x: f64,
+        pub y: f64,
+    }
+
+    #[repr(C)]
     pub struct StripAnswer {
         pub number: u8,
         pub cell: u16,
@@ -153,6 +178,14 @@ mod raw {
             scratch: *mut u32,
             scratch_len: usize,
         ) -> FrameAnswer;
+        pub fn kuzpalen_stroke(
+            table: *const Record,
+            table_len: usize,
+            positions: *const i32,
+            positions_len: usize,
+            page: Page,
+            s: usize,
+        ) -> StrokeAnswer;
         pub fn kuzpalen_strip(
             table: *const Record,
             table_len: usize,
@@ -250,6 +283,22 @@ pub fn frame(table: &[Record], squares: u32, scratch: &mut [u32]) -> Result<Opti
         raw::kuzpalen_frame(table.as_ptr(), table.len(), squares, scratch.as_mut_ptr(), scratch.len())
     };
     unless(r.number, r.cell, (r.outcome == FRAME_ALLOWANCE).then_some(r.allowance))
+}
+
+/// What a stroke is (include/kuzpalen.h).
+const STROKE_MOVE: u8 = 1;
+const STROKE_LINE: u8 = 2;
+
+/// Stroke number s, from 0, of a sheet that is drawn on a page.
+pub fn stroke(table: &[Record], positions: &[i32], page: Page, s: usize) -> Result<Stroke, Refusal> {
+    // SAFETY: the pointers are good for their lengths.
+    let r = unsafe { raw::kuzpalen_stroke(table.as_ptr(), table.len(), positions.as_ptr(), positions.len(), page, s) };
+    let stroke = match r.what {
+        STROKE_MOVE => Stroke::Move(r.x, r.y),
+        STROKE_LINE => Stroke::Line(r.x, r.y),
+        _ => Stroke::Lift,
+    };
+    unless(r.number, r.cell, stroke)
 }
 
 /// Strip: a row from a column on, counted from 0 at the sheet's least x, into the bytes; eight columns a byte, the leftmost in the highest bit.

@@ -258,6 +258,70 @@ impl Run {
         self.count("Check", answer);
     }
 
+    /// A few strokes of a sheet on one page, the last one and the number after it among them, bit by bit.
+    fn strokes(&mut self, rng: &mut Rng, cells: &[Cell], positions: &[i32]) {
+        let page = make::page(rng);
+        let many = (9 * cells.len()).saturating_sub(3);
+        let any = rng.index(many + 1);
+        for s in [any, rng.index(many + 1), rng.index(6), many.saturating_sub(1 + rng.index(3)), many, rng.next() as usize] {
+            let expected = reference::stroke(cells, positions, &page, s);
+            let table = self.rooms.table.lend(&records(cells), rng.once_in(2));
+            let lent = self.rooms.positions.lend(positions, rng.once_in(2));
+            let lent_page = bindings::Page { pitch: page.pitch, margin_x: page.margin_x, margin_y: page.margin_y };
+            let got = bindings::stroke(table, lent, lent_page, s)
+                .map(|stroke| match stroke {
+                    bindings::Stroke::Move(x, y) => reference::Stroke::Move(x, y),
+                    bindings::Stroke::Line(x, y) => reference::Stroke::Line(x, y),
+                    bindings::Stroke::Lift => reference::Stroke::Lift,
+                })
+                .map_err(|r| Refusal { number: r.number as u32, cell: r.cell as u32 });
+            let (table, lent) = (table.to_vec(), lent.to_vec());
+            self.same("a stroke", &got, &expected, &(s, page, positions, cells));
+            self.same("the buffers after a stroke", &(lent.as_slice(), table), &(positions, records(cells)), &cells);
+            self.note_widths("Stroke", cells, &expected);
+            self.note_coordinates("Stroke", positions, cells.len(), &expected);
+            self.note_page(&page, &expected);
+            let answer = match expected {
+                Ok(stroke) => {
+                    let place = if s < 6 * cells.len() { "a box" } else { "a connector" };
+                    match stroke {
+                        reference::Stroke::Move(..) => format!("move of {place}"),
+                        reference::Stroke::Line(..) => format!("line of {place}"),
+                        reference::Stroke::Lift => format!("lift of {place}"),
+                    }
+                }
+                Err(r) => format!("refused {:2}", r.number),
+            };
+            self.count("Stroke", answer);
+        }
+    }
+
+    /// The limits of question 17, and one step beyond each.
+    fn note_page(&mut self, page: &reference::Page, expected: &Result<reference::Stroke, Refusal>) {
+        let fair = match expected {
+            Ok(_) | Err(Refusal { number: 18, .. }) => true,
+            Err(Refusal { number: 17, .. }) => false,
+            _ => return,
+        };
+        let up = |x: f64| f64::from_bits(x.to_bits() + 1);
+        let down = |x: f64| f64::from_bits(x.to_bits() - 1);
+        let pitches = [("0.25", 0.25), ("16", 16.0), ("below 0.25", down(0.25)), ("above 16", up(16.0)), ("infinite", f64::INFINITY)];
+        for (name, pitch) in pitches {
+            if page.pitch == pitch {
+                self.note("Stroke", format!("pitch {name} {}", if fair { "fair" } else { "unfair" }));
+            }
+        }
+        let margins = [("0", 0.0f64), ("-0", -0.0), ("100", 100.0), ("above 100", up(100.0)), ("below -0", -f64::from_bits(1)), ("infinite", f64::INFINITY)];
+        for (name, margin) in margins {
+            if page.margin_x.to_bits() == margin.to_bits() || page.margin_y.to_bits() == margin.to_bits() {
+                self.note("Stroke", format!("margin {name} {}", if fair { "fair" } else { "unfair" }));
+            }
+        }
+        if page.pitch.is_nan() || page.margin_x.is_nan() || page.margin_y.is_nan() {
+            self.note("Stroke", format!("NaN {}", if fair { "fair" } else { "unfair" }));
+        }
+    }
+
     fn ends(&mut self, rng: &mut Rng, cells: &[Cell], positions: &[i32], cell: usize) {
         let expected = reference::ends(cells, positions, cell);
         let table = self.rooms.table.lend(&records(cells), rng.once_in(2));
@@ -447,6 +511,10 @@ impl Run {
             let positions = if rng.once_in(2) { &ours } else { &foreign };
             self.ends(rng, &cells, positions, cell);
         }
+        for _ in 0..2 {
+            let positions = if rng.once_in(2) { &ours } else { &foreign };
+            self.strokes(rng, &cells, positions);
+        }
         // Boxes anywhere, over each other, some of them above row 0.
         let heap: Vec<i32> = (0..2 * cells.len()).map(|k| rng.between(-30 + 26 * (k as i64 % 2), 30) as i32).collect();
         let low: Vec<i32> = (0..2 * cells.len()).map(|k| if k % 2 == 0 { 0 } else { 250 + rng.index(20) as i32 }).collect();
@@ -561,7 +629,7 @@ fn some_table(rng: &mut Rng) -> Vec<Cell> {
 /// The answers that each call can give: all must have been seen in a long run.
 fn unseen(seen: &Seen) -> Vec<String> {
     let mut all: Vec<(&str, String)> = Vec::new();
-    let refusals: [(&str, &[u32]); 8] = [
+    let refusals: [(&str, &[u32]); 9] = [
         ("Read", &[1, 2, 3]),
         ("Label", &[2, 3]),
         ("Layout", &[1, 4, 6, 7, 8, 11, 12, 13, 14]),
@@ -569,6 +637,7 @@ fn unseen(seen: &Seen) -> Vec<String> {
         ("Ends", &[1, 4, 6, 7, 8, 11, 12, 13, 15, 16]),
         ("List", &[1]),
         ("Frame", &[1, 4, 6, 7, 8, 11, 12, 13, 19]),
+        ("Stroke", &[1, 4, 6, 7, 8, 11, 12, 13, 15, 17, 18]),
         ("Strip", &[1, 4, 6, 7, 8, 11, 12, 13, 15]),
     ];
     for (call, numbers) in refusals {
@@ -589,10 +658,15 @@ fn unseen(seen: &Seen) -> Vec<String> {
     all.extend(strips.map(|a| ("Strip", a.into())));
     all.extend(["0", "more than 0", "none"].map(|a| ("Frame", a.into())));
     all.extend([("Layout", "choice laid"), ("Check", "choice kept"), ("Check", "choice S2"), ("Layout", "near widest")].map(|(c, a)| (c, a.into())));
-    for call in ["Read", "Layout", "Check", "Ends", "Frame", "Strip"] {
+    for place in ["a box", "a connector"] {
+        all.extend(["move", "line", "lift"].map(|a| ("Stroke", format!("{a} of {place}"))));
+    }
+    all.extend(["pitch 0.25", "pitch 16", "margin 0", "margin -0", "margin 100"].map(|a| ("Stroke", format!("{a} fair"))));
+    all.extend(["pitch below 0.25", "pitch above 16", "pitch infinite", "margin above 100", "margin below -0", "margin infinite", "NaN"].map(|a| ("Stroke", format!("{a} unfair"))));
+    for call in ["Read", "Layout", "Check", "Ends", "Frame", "Stroke", "Strip"] {
         all.extend([255, 256, 1_023, 1_024].map(|w| (call, format!("width {w}"))));
     }
-    for call in ["Check", "Ends", "Strip"] {
+    for call in ["Check", "Ends", "Stroke", "Strip"] {
         all.extend([262_143, 262_144, -262_143, -262_144].map(|x| (call, format!("at {x}"))));
     }
     for ranks in ["moved", "turned", "tied"] {

@@ -4,6 +4,7 @@ use crate::layout::{distances_by_pairs, place};
 use crate::plan::{border, Cell, Plan, MAX_CELLS, MAX_WIDTH, ROOT};
 use crate::plan_file::{Form, FORMS};
 use crate::rng::Rng;
+use crate::strokes::Page;
 
 /// The number of sons that a cell may take on while a plan grows.
 const MAX_SONS: usize = 16;
@@ -380,4 +381,34 @@ pub fn foreign(rng: &mut Rng, cells: &[Cell], allowance: u32) -> Vec<i32> {
         }
     }
     p
+}
+
+/// The next float towards infinity, and towards minus infinity, of a positive one.
+fn beside(x: f64) -> [f64; 2] {
+    [f64::from_bits(x.to_bits() + 1), f64::from_bits(x.to_bits() - 1)]
+}
+
+/// A page: mostly a fair one, often at a limit, or one step beside it; now and then any floats.
+pub fn page(rng: &mut Rng) -> Page {
+    let pitch = match rng.index(12) {
+        0 => 0.25,
+        1 => 16.0,
+        2 => rng.pick(&[beside(0.25)[0], beside(16.0)[1], 0.1 + 0.2, 0.7, 1.0 / 3.0]),
+        3 if rng.once_in(2) => rng.pick(&[beside(0.25)[1], beside(16.0)[0], 0.0, -0.0, -1.0, f64::INFINITY, -f64::INFINITY, f64::NAN]),
+        4 if rng.once_in(4) => f64::from_bits(rng.next()),
+        _ => 0.25 + (rng.next() >> 11) as f64 / (1u64 << 53) as f64 * 15.75,
+    };
+    Page { pitch, margin_x: margin(rng), margin_y: margin(rng) }
+}
+
+fn margin(rng: &mut Rng) -> f64 {
+    match rng.index(12) {
+        0 => 0.0,
+        1 => -0.0,
+        2 => 100.0,
+        3 => rng.pick(&[f64::from_bits(1), f64::MIN_POSITIVE, 1e-17, 0.1, beside(100.0)[1]]),
+        4 if rng.once_in(3) => rng.pick(&[beside(100.0)[0], -f64::from_bits(1), -1.0, f64::INFINITY, -f64::INFINITY, f64::NAN]),
+        5 if rng.once_in(6) => f64::from_bits(rng.next()),
+        _ => (rng.next() >> 11) as f64 / (1u64 << 53) as f64 * 100.0,
+    }
 }

@@ -12,6 +12,7 @@ mod plan;
 mod plan_file;
 pub mod rng;
 mod rules;
+mod strokes;
 mod strip;
 
 pub use frame::frame;
@@ -20,4 +21,5 @@ pub use listing::{list, listing, LISTING};
 pub use plan::{Cell, Plan, Refusal, MAX_CELLS, MAX_WIDTH, ROOT};
 pub use plan_file::{label, label_refusal, read, Form, FORMS};
 pub use rules::{check, ends, measure, Ends, Measure, Verdict, MAX_COORDINATE};
+pub use strokes::{stroke, Page, Stroke};
 pub use strip::strip;

@@ -117,7 +117,7 @@ fn pair_faults(plan: &Plan, p: &Placement, allowance: i64, out: &mut Vec<(u32, u
 }
 
 /// Question 15.
-pub fn ask_positions(n: usize, positions: &[i32]) -> Result<Placement, Refusal> {
+pub(crate) fn ask_positions(n: usize, positions: &[i32]) -> Result<Placement, Refusal> {
     let inside = |v: i32| (-MAX_COORDINATE..=MAX_COORDINATE).contains(&(v as i64));
     if let Some(c) = (0..n).find(|&c| !inside(positions[2 * c]) || !inside(positions[2 * c + 1])) {
         return refuse(15, c);
@@ -137,7 +137,7 @@ pub fn check(table: &[Cell], positions: &[i32], allowance: u32) -> Result<Verdic
 }
 
 /// Half a width (document 02, E3): to the nearer whole number, a tie going to the even one.
-fn half(width: u16) -> i64 {
+pub(crate) fn half(width: u16) -> i64 {
     (f64::from(width) / 2.0).round_ties_even() as i64
 }
 

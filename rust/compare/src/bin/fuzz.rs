@@ -131,7 +131,7 @@ fn list_call(rng: &mut Rng) -> Result<(), &'static str> {
     Ok(())
 }
 
-/// Layout, Check and Ends.
+/// Layout, Check, Ends and strokes.
 fn table_calls(rng: &mut Rng) -> Result<(), &'static str> {
     let table = lent(&some_table(rng));
     let room = if rng.once_in(10) { rng.index(600) } else { 2 * table.len() + rng.index(3) };
@@ -151,6 +151,15 @@ fn table_calls(rng: &mut Rng) -> Result<(), &'static str> {
         return Err("Check does not keep Layout's sheet");
     }
     let _ = bindings::check(&table, &lent(&before), allowance);
+    let page = make::page(rng);
+    let page = bindings::Page { pitch: page.pitch, margin_x: page.margin_x, margin_y: page.margin_y };
+    for s in [rng.index(9), rng.index(3_000), rng.next() as usize] {
+        let stroke = bindings::stroke(&table, &positions, page, s);
+        let refused = stroke.err().map_or(0, |r| r.number);
+        if laid.is_ok() && refused != 17 && stroke.is_ok() != (s < 9 * table.len() - 3) {
+            return Err("a stroke disagrees with Layout");
+        }
+    }
     for cell in [1, rng.index(300), rng.next() as usize] {
         let ends = bindings::ends(&table, &positions, cell);
         if laid.is_ok() && ends.is_ok() != (cell > 0 && cell < table.len()) {

@@ -1,0 +1,6 @@
+pub mod Paper
+pub mod Strokes
+pub mod Orderly
+pub mod Theorems
+pub mod Worked
+pub mod laws

@@ -1,0 +1,4 @@
+pub mod Paper
+pub mod Strokes
+pub mod Orderly
+pub mod Worked

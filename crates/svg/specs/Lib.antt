@@ -1,0 +1,4 @@
+pub mod Words
+pub mod Drawing
+pub mod Sizes
+pub mod laws
