@@ -67,10 +67,6 @@ bytes-cut f first (suc m) k =
     rw (e, g, bytes-cut f (first + 8) m k)
 
 module _ (t : Table) (p : Placement) (row first : ℕ) where
-  pub strip-length : (k : ℕ) → length (strip-of t p row first k) ≡ k
-  unfolding strip-of
-  strip-length k = bytes-length (dot t p row) first k
-
   -- bit 7 − j of byte i is column first + 8i + j
   pub strip-bit : (k i j : ℕ) → i < k → j < 8 → getD (strip-of t p row first k) i 0 / 2 ^ (7 - j) % 2 ≡ digit (dot t p row (first + (8 * i + j)))
   unfolding strip-of

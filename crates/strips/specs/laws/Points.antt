@@ -1,7 +1,7 @@
 -- What is printed: a point on the boundary of some box, and none outside the sheet. Assumes nothing.
 use mathlib.Core.Path.{_≡_}
 use mathlib.Core.Bool.{false}
-use mathlib.Core.Logic.{_⊎_, inl, inr}
+use mathlib.Core.Logic.{inl, inr}
 use Prim.Native.Nat.{ℕ}
 use lib.IntN.{ℤ, pos}
 use lib.Signed.{_≤ℤ_, _<ℤ_}
@@ -9,7 +9,7 @@ use Rattle.whole.specs.laws.Whole.{whole, sum, diff}
 use Rattle.whole.specs.Says.{Says}
 use Rattle.whole.specs.laws.Says.{that-is, both, either, says-leZ, says-eqZ, is-false}
 use Rattle.plan.specs.laws.Lists.{says-some}
-use Rattle.plan.specs.Plan.{Table, Is, Sound, W, D, cells, subtree}
+use Rattle.plan.specs.Plan.{Table, Sound, W, D, cells, subtree}
 use Rattle.plan.specs.laws.Plan.{subtree-show, cells-read, cells-show}
 use Rattle.plan.specs.laws.Paths.{below-within, below-root}
 use Rattle.rules.specs.Placement.{Placement, right, base, bottom, width, rows, most}

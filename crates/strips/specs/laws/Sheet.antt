@@ -6,7 +6,7 @@ use Prim.Native.Nat.{ℕ, zero, suc, _+_, _*_, _-_, _≤_, _<_}
 use native.Mathlib.Omega.{arith}
 use lib.ListN.{length, getD}
 use lib.IntN.{ℤ, pos, _+ℤ_, _-ℤ_}
-use lib.Signed.{_≤ℤ_, leZ}
+use lib.Signed.{leZ}
 use Rattle.whole.specs.laws.Whole.{whole, sum, diff, neg-plus, neg-minus}
 use Rattle.whole.specs.Says.{Says, eqZ}
 use Rattle.whole.specs.laws.Says.{that-is, both, either, says-leZ, says-eqZ, same-test}
@@ -15,13 +15,11 @@ use Rattle.whole.specs.Range.{InRange}
 use Rattle.plan.specs.declared.Columns.{Columns}
 use Rattle.plan.specs.Limits.{farthest}
 use Rattle.plan.specs.Lists.{some, from}
-use Rattle.plan.specs.laws.Lists.{from-show}
 use Rattle.plan.specs.Plan.{cells}
 use Rattle.plan.specs.Near.{Near}
 use Rattle.plan.specs.Columns.{table-of}
 use Rattle.plan.specs.laws.Tables.{length-is, width-is, depth-is}
-use Rattle.rules.specs.Placement.{placed, right, base, least}
-use Rattle.rules.specs.laws.Extremes.{least-all}
+use Rattle.rules.specs.Placement.{placed, right, base}
 use Rattle.corners.specs.Corners.{left, x-up, y-up, Leftmost}
 use Rattle.corners.specs.laws.Corners.{left-low, left-is}
 use Rattle.raster.specs.Points.{on-box, printed, dot}

@@ -101,6 +101,7 @@ fn calls() {
             file_calls(shape, cells.len(), &file(Form::Wide, &text, &cells, 10), ", wide form");
             table_calls(shape, &cells.iter().map(record).collect::<Vec<_>>(), ", ranks");
         }
+        wide_strips(shape);
     }
 }
 
@@ -151,6 +152,15 @@ fn table_calls(shape: Shape, records: &[Record], note: &str) {
         || { let _ = black_box(bindings::frame(black_box(records), sheet.width, &mut scratch)); },
         || { let _ = black_box(plain::frame(black_box(records), sheet.width, &mut other)); },
     ));
+}
+
+/// Strips of a sheet with boxes of up to 1,023.
+fn wide_strips(shape: Shape) {
+    let cells = table(&mut Rng::new(SEED, 1_023), shape, 256, &Sizes { max_width: 1_023, max_depth: 3 });
+    let records: Vec<Record> = cells.iter().map(record).collect();
+    let mut positions = vec![0; 2 * records.len()];
+    let sheet = bindings::layout(&records, 10, &mut vec![0; 16_384], &mut positions).expect("a valid plan");
+    strip_calls(shape, &records, &positions, sheet, ", wide boxes");
 }
 
 /// Every row of a sheet, by masks, and with each point set for itself: the time of all rows together.
