@@ -1,6 +1,6 @@
 #!/usr/bin/env bash
-# The programs `sheet` and `strip` and the script sheet.sh from outside: what they print, where, and with which status; and what they
-# do when the output cannot be written. Needs target/bin/sheet and target/bin/strip. The gate runs it after `rt ci`.
+# The programs `sheet`, `plot` and `strip` and the script sheet.sh from outside: what they print, where, and with which status; and what they
+# do when the output cannot be written. Needs target/bin/sheet, target/bin/plot and target/bin/strip. The gate runs it after `rt ci`.
 set -u
 cd "$(dirname "$0")/.."
 sheet=target/bin/sheet
@@ -160,9 +160,58 @@ same "status of a first run" 0 $got
 same "first line of what a first run says" "sheet.sh: proving the program and the crates that it stands on, once; this takes some minutes" "$(head -n 1 "$work/err")"
 same "the rest of what a first run says" "rt: plan proved (7 s)" "$(tail -n +2 "$work/err")"
 
+# ---- the program plot: a drawing in SVG, or the line of a refusal
+plot=target/bin/plot
+[ -x "$plot" ] || { echo "tests/program.sh: $plot is not built: rt check plot"; exit 1; }
+"$plot" < plans/pond.plan > "$work/out" 2> "$work/err"
+same "status of plot" 0 $?
+same_files "the drawing of plans/pond.plan" docs/pond.svg "$work/out"
+same_files "standard error of plot" "$work/empty" "$work/err"
+"$plot" 2 10 0.5 < plans/B.plan > "$work/out"
+same "the drawing of sheet B" '<svg xmlns="http://www.w3.org/2000/svg" width="38.000mm" height="9.000mm" viewBox="0 0 38.000 9.000">
+<g fill="none" stroke="black" stroke-width="0.35" stroke-linejoin="round">
+<path d="M18.000 0.500L26.000 0.500L26.000 2.500L18.000 2.500L18.000 0.500"/>
+<path d="M10.000 4.500L16.000 4.500L16.000 6.500L10.000 6.500L10.000 4.500"/>
+<path d="M18.000 4.500L28.000 4.500L28.000 6.500L18.000 6.500L18.000 4.500"/>
+<path d="M22.000 2.500L14.000 4.500"/>
+<path d="M22.000 2.500L22.000 4.500"/>
+</g>
+<g font-family="monospace" font-size="2.000"><g font-size="70%">
+</g></g>
+</svg>' "$(cat "$work/out")"
+for plan in plans/*.plan; do
+    "$plot" 0.7 0.3 0.1 < "$plan" > "$work/out"
+    n=$("$sheet" < "$plan" | tail -n +2 | wc -l)
+    same "boxes and connectors of $plan" "$((2 * n - 1))" "$(grep -c '^<path d="M[0-9. L]*"/>$' "$work/out")"
+    same "lines of boxes and connectors of $plan" "$((5 * n - 1))" "$(grep '^<path' "$work/out" | tr -cd L | wc -c)"
+    same "labels of $plan" "$("$sheet" < "$plan" | tail -n +2 | cut -d ' ' -f 6- | grep -c .)" "$(grep -c '^<text ' "$work/out")"
+done
+{ printf 'a<b&c>'; head -c 38 plans/printed.plan | tail -c 32; } > "$work/marked.plan"
+same "labels with marks" '>a&lt;</text> >b</text> >&amp;c&gt;</text>' "$("$plot" < "$work/marked.plan" | sed -n 's/^<text .*">/>/p' | tr '\n' ' ' | sed 's/ $//')"
+for case in "short 2 0" "long 2 0" "kind 7 0" "child 7 1"; do
+    set -- $case
+    same "the drawing of the plan $1" "refused $2 $3" "$("$plot" < "$work/$1.plan")"
+done
+for page in 0.249 16.001 0 "4 100.001" "4 0 100.001"; do
+    same "the drawing on the page $page" "refused 17 0" "$("$plot" $page < plans/A.plan)"
+done
+for page in 0.25 16 16.000 "4 100" "4 0 100.000" .5 4.; do
+    same "the drawing on the page $page" "<svg" "$("$plot" $page < plans/A.plan | head -c 4)"
+done
+for page in x -1 1.2.3 0.2500 1e1 "" 12345678901234567 "4 a" "4 0 b" "4 0 0 0"; do
+    if [ -n "$page" ]; then "$plot" $page < plans/A.plan > "$work/out" 2> "$work/err"; else "$plot" "" < plans/A.plan > "$work/out" 2> "$work/err"; fi
+    same_files "output of plot with the arguments '$page'" "$work/empty" "$work/out"
+    same "lines on standard error of plot with the arguments '$page'" 1 "$(wc -l < "$work/err")"
+done
+"$plot" < plans/full.plan > /dev/full 2> "$work/err"
+same "standard error of plot to a full device" "plot: the drawing could not be written whole" "$(cat "$work/err")"
+if strace -o "$work/trace" true 2> "$work/err"; then
+    strace -o "$work/trace" -e trace=write,writev,pwrite64,sendto "$plot" < plans/full.plan > "$work/out"
+    same "writes of a drawing" 1 "$(grep -c '^[a-z0-9]*(' "$work/trace")"
+fi
+
 # ---- the program `strip`: its points are those of the boxes that `sheet` lists and that `plot` draws
 strip=target/bin/strip
-plot=target/bin/plot
 [ -x "$strip" ] || { echo "tests/program.sh: $strip is not built: rt check strip"; exit 1; }
 for plan in plans/*.plan; do
     "$strip" < "$plan" > "$work/out" 2> "$work/err"
@@ -174,11 +223,9 @@ for plan in plans/*.plan; do
     tests/points.py bitmap "$work/out" > "$work/points"
     tests/points.py listing "${plan%.plan}.txt" > "$work/listed"
     same_files "the points of the bitmap of $plan" "$work/listed" "$work/points"
-    if [ -x "$plot" ]; then
-        "$plot" 1 0 0 < "$plan" > "$work/drawing"
-        tests/points.py drawing "$work/drawing" > "$work/drawn"
-        same_files "the points of the bitmap of $plan, and the boxes that are drawn" "$work/drawn" "$work/points"
-    fi
+    "$plot" 1 0 0 < "$plan" > "$work/drawing"
+    tests/points.py drawing "$work/drawing" > "$work/drawn"
+    same_files "the points of the bitmap of $plan, and the boxes that are drawn" "$work/drawn" "$work/points"
 done
 for case in "short 2 0" "long 2 0" "kind 7 0" "child 7 1" "wider 8 0" "no-mark 3 0"; do
     set -- $case

@@ -63,26 +63,16 @@ fn read_byte(d: Digits, b: u8) -> Digits {
     }
 }
 
-// So many times n, for an n that has been read.
-fn times(n: u32, by: u32) -> u32 {
-    if MOST < n {
-        return NONE;
-    }
-    if 1000 < by {
-        return NONE;
-    }
+// A number whose last digit stands at a place, in thousandths.
+fn in_thousandths(n: u32, place: u32) -> u32 {
     if 999999 < n {
         return NONE;
     }
-    n * by
-}
-
-fn in_thousandths(d: Digits) -> u32 {
-    match d.place {
-        4 => times(d.number, 1),
-        3 => times(d.number, 10),
-        2 => times(d.number, 100),
-        _ => times(d.number, 1000),
+    match place {
+        4 => n,
+        3 => n * 10,
+        2 => n * 100,
+        _ => n * 1000,
     }
 }
 
@@ -100,7 +90,7 @@ fn thousandths(text: &[u8]) -> u32 {
         d = read_byte(d, text[i]);
         i += 1;
     }
-    in_thousandths(d)
+    in_thousandths(d.number, d.place)
 }
 
 // Argument i, or what is meant where it is not there.
