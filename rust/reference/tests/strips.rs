@@ -61,9 +61,9 @@ fn overlapping() {
 fn cut_and_refused() {
     for number in 0..500 {
         let mut rng = Rng::new(SEED, number);
-        let n = rng.between(1, 12) as usize;
-        let table = any_table(&mut rng, n);
-        let positions: Vec<i32> = (0..2 * n).map(|k| rng.between(-40 * (k as i64 % 2 ^ 1), 40) as i32).collect();
+        let cells = rng.between(1, 12) as usize;
+        let table = any_table(&mut rng, cells);
+        let positions: Vec<i32> = (0..2 * table.len()).map(|k| rng.between(-40 * (k as i64 % 2 ^ 1), 40) as i32).collect();
         let (row, first) = (rng.index(40) as u32, rng.index(60) as u32);
         let whole = bytes(&table, &positions, row, first, 9);
         for cut in 0..=9 {
