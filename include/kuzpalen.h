@@ -133,6 +133,11 @@ typedef struct {
     double y;
 } kuzpalen_stroke_answer;
 
+typedef struct {
+    uint8_t number;
+    uint16_t cell;
+} kuzpalen_strip_answer;
+
 /* A plan file is of one of two forms, which its last two bytes tell, or question 3 refuses. Both have the
  * label bytes first, then the records, then a trailer of 8 bytes. Hexadecimal 53 54: records of 8 bytes,
  * parent (2), kind, width, depth, label length, label start (2), and so widths to 255. Hexadecimal 53 55:
@@ -229,6 +234,17 @@ kuzpalen_mend_answer kuzpalen_mend(const uint8_t *file, size_t file_len,
 kuzpalen_stroke_answer kuzpalen_stroke(const kuzpalen_record *table, size_t table_len,
                                        const int32_t *positions, size_t positions_len,
                                        kuzpalen_page page, size_t s);
+
+/* Strip: one lattice row of a drawn sheet, for a raster printer. Byte i holds the eight columns from
+ * `first` + 8i on, the leftmost in the highest bit; columns are counted from 0 at the least x of all cells,
+ * rows are y. A bit is set exactly if that point is on the boundary of some box; connectors are not printed,
+ * and points outside the sheet give 0, as do columns past what 32 bits hold. The bytes may be of any number,
+ * 0 too, and all are written. A strip may be made in parts: the part from byte m on has the first column
+ * `first` + 8m, where that fits 32 bits. Positions as for Check, by questions 1 and 15; a refusal leaves the
+ * bytes as they were. It costs the bytes, and the boxes that meet the row. */
+kuzpalen_strip_answer kuzpalen_strip(const kuzpalen_record *table, size_t table_len,
+                                     const int32_t *positions, size_t positions_len,
+                                     uint32_t row, uint32_t first, uint8_t *bytes, size_t bytes_len);
 
 #ifdef __cplusplus
 }

@@ -101,6 +101,15 @@ static int mend_good(void) {
         && mended.lines == strlen(lines) - 1 && memcmp(text, lines, strlen(lines)) == 0;
 }
 
+static int strip_good(const kuzpalen_record *table, const int32_t *p) {
+    uint8_t row[3] = {7, 7, 7};
+    int good = kuzpalen_strip(table, 3, p, 6, 0, 0, row, 2).number == 0 && row[0] == 0x0f && row[1] == 0x80 && row[2] == 7;
+    good = good && kuzpalen_strip(table, 3, p, 6, 2, 3, row, 1).number == 0 && row[0] == 0xfe;
+    good = good && kuzpalen_strip(table, 3, p, 6, 2, UINT32_MAX, row, 2).number == 0 && row[0] == 0 && row[1] == 0;
+    row[0] = 7;
+    return good && kuzpalen_strip(table, 3, p, 5, 0, 0, row, 3).number == 1 && row[0] == 7;
+}
+
 int main(void) {
     static uint32_t scratch[KUZPALEN_SCRATCH];
     kuzpalen_record table[3] = {
@@ -112,6 +121,7 @@ int main(void) {
     kuzpalen_layout_answer laid = kuzpalen_layout(table, 3, 0, scratch, KUZPALEN_SCRATCH, p, 6);
     kuzpalen_check_answer kept = kuzpalen_check(table, 3, p, 6, 0);
     kuzpalen_ends_answer ends = kuzpalen_ends(table, 3, p, 6, 1);
+    int strip = strip_good(table, p);
     p[2] = -3;
     kuzpalen_check_answer broken = kuzpalen_check(table, 3, p, 6, 0);
     int good = laid.number == 0 && laid.width == 9 && laid.rows == 4 && p[0] == 0 && p[1] == 0 && p[3] == 2
@@ -131,7 +141,7 @@ int main(void) {
     p[2] = -KUZPALEN_FARTHEST - 1;
     kuzpalen_ends_answer far = kuzpalen_ends(table, 3, p, 6, 2);
     good = good && far.number == 15 && far.cell == 1;
-    good = good && file_good() && wide_good() && listing_good() && copy_good() && mend_good();
+    good = good && strip && file_good() && wide_good() && listing_good() && copy_good() && mend_good();
     puts(good ? "sheet B from C: good" : "sheet B from C: DIFFERENCE");
     return good ? 0 : 1;
 }

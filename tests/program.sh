@@ -252,4 +252,36 @@ if strace -o "$work/trace" true 2> "$work/err"; then
     same "writes of a drawing" 1 "$(grep -c '^[a-z0-9]*(' "$work/trace")"
 fi
 
+# ---- the program `strip`: its points are those of the boxes that `sheet` lists and that `plot` draws
+strip=target/bin/strip
+[ -x "$strip" ] || { echo "tests/program.sh: $strip is not built: rt check strip"; exit 1; }
+for plan in plans/*.plan; do
+    "$strip" < "$plan" > "$work/out" 2> "$work/err"
+    same "status of strip for $plan" 0 $?
+    same_files "standard error of strip for $plan" "$work/empty" "$work/err"
+    read -r _ _ _ width rows < "${plan%.plan}.txt"
+    same "the first line of the bitmap of $plan" "P4 $((width + 1)) $rows" "$(head -n 1 "$work/out")"
+    same "the length of the bitmap of $plan" $(($(head -n 1 "$work/out" | wc -c) + (width / 8 + 1) * rows)) "$(wc -c < "$work/out")"
+    tests/points.py bitmap "$work/out" > "$work/points"
+    tests/points.py listing "${plan%.plan}.txt" > "$work/listed"
+    same_files "the points of the bitmap of $plan" "$work/listed" "$work/points"
+    "$plot" 1 0 0 < "$plan" > "$work/drawing"
+    tests/points.py drawing "$work/drawing" > "$work/drawn"
+    same_files "the points of the bitmap of $plan, and the boxes that are drawn" "$work/drawn" "$work/points"
+done
+for case in "short 2 0" "long 2 0" "kind 7 0" "child 7 1" "wider 8 0" "no-mark 3 0"; do
+    set -- $case
+    same "what strip prints of the plan $1" "refused $2 $3" "$("$strip" < "$work/$1.plan")"
+done
+line="strip: the bitmap could not be written whole"
+for plan in plans/full.plan plans/widest.plan "$work/short.plan"; do
+    "$strip" < "$plan" > /dev/full 2> "$work/err"
+    one_line "the bitmap of $plan to a full device"
+    "$strip" < "$plan" >&- 2> "$work/err"
+    one_line "the bitmap of $plan to a closed output"
+done
+# It stops at the first row that cannot be written.
+(trap '' PIPE; "$strip" < plans/widest.plan 2> "$work/err" | head -c 40000 > "$work/out")
+one_line "the bitmap of plans/widest.plan to a reader that stops"
+
 echo "the programs and sheet.sh: $checks checks, no difference"

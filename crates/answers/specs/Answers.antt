@@ -6,6 +6,7 @@ use lib.IntN.{ℤ, pos}
 use lib.Ieee.{Float, binary64, ofBits}
 use Rattle.plan.specs.Plan.{Table}
 use Rattle.plan.specs.declared.Record.{Record}
+use Rattle.plan.specs.declared.Refusal.{Refusal}
 use Rattle.layout.specs.Laid.{Lays}
 use Rattle.layout.specs.declared.Laid.{Laid}
 use Rattle.layout.specs.declared.Laid.the-variants.{Sheet, Refused as Unlaid}
@@ -29,6 +30,7 @@ use Rattle.pen.specs.declared.Stroke.{Stroke}
 use Rattle.pen.specs.declared.Stroke.the-variants.{Move, Line, Lift}
 use Rattle.strokes.specs.declared.Stroked.{Stroked}
 use Rattle.strokes.specs.declared.Stroked.the-variants.{Drawn, Refused as Undrawn}
+use Rattle.strips.specs.Stripped.{Strips}
 use Rattle.engine.specs.Read.{Reads}
 use Rattle.engine.specs.declared.ReadAnswer.{ReadAnswer as Read}
 use Rattle.engine.specs.declared.ReadAnswer.the-variants.{Plan, Refused as Unread}
@@ -41,6 +43,7 @@ use Rattle.answers.specs.declared.FrameAnswer.{FrameAnswer}
 use Rattle.answers.specs.declared.MendAnswer.{MendAnswer}
 use Rattle.answers.specs.declared.CopyAnswer.{CopyAnswer}
 use Rattle.answers.specs.declared.StrokeAnswer.{StrokeAnswer}
+use Rattle.answers.specs.declared.StripAnswer.{StripAnswer}
 
 unfoldable pub read-answer : Read → ReadAnswer
 read-answer (Plan n al) = record { number = 0; cell = 0; allowance = al; count = n }
@@ -126,3 +129,12 @@ pub record MendFilling (f out out′ lines lines′ : List ℕ) (r : MendAnswer)
   pub mended : Mended
   pub mends : Mends f out out′ lines lines′ mended
   pub answers : r ≡ mend-answer mended
+
+unfoldable pub strip-answer : Refusal → StripAnswer
+strip-answer r = record { number = r .number; cell = r .cell }
+
+-- a call of Strip, as `Strips` has it, with the struct for its answer
+pub record Stripping (t : Table) (ps : List ℤ) (row first : ℕ) (bs bs′ : List ℕ) (r : StripAnswer) : Type 0 where
+  pub refused : Refusal
+  pub strips : Strips t ps row first bs bs′ refused
+  pub answers : r ≡ strip-answer refused

@@ -6,10 +6,11 @@ use fitting::Fitted;
 use layout::Laid;
 use mending::Mended;
 use pen::Stroke;
+use plan::Refusal;
 use printing::Listed;
 use strokes::Stroked;
 ghost use mathlib.Core.Path.{_≡_};
-ghost use Rattle.answers.specs.Answers.{«read-answer», «laid-answer», «check-answer», «ends-answer», «list-answer», «frame-answer», «copy-answer», «mend-answer», «pen-answer», «stroke-answer»};
+ghost use Rattle.answers.specs.Answers.{«read-answer», «laid-answer», «check-answer», «ends-answer», «list-answer», «frame-answer», «copy-answer», «mend-answer», «pen-answer», «stroke-answer», «strip-answer»};
 
 // Number and cell of the refusal, or 0 and 0; the number of cells and the allowance.
 #[repr(C)]
@@ -100,6 +101,13 @@ pub struct StrokeAnswer {
     pub what: u8,
     pub x: f64,
     pub y: f64,
+}
+
+// Number and cell of the refusal, or 0 and 0.
+#[repr(C)]
+pub struct StripAnswer {
+    pub number: u8,
+    pub cell: u16,
 }
 
 // The answer of Read as a struct.
@@ -333,5 +341,15 @@ pub fn told_stroke(answer: Stroked) -> StrokeAnswer
             x: 0.0,
             y: 0.0,
         },
+    }
+}
+
+// The answer of Strip as a struct.
+pub fn told_strip(answer: Refusal) -> StripAnswer
+    ensures { λ r. ⌜ r ≡ strip-answer answer ⌝ }
+{
+    StripAnswer {
+        number: answer.number,
+        cell: answer.cell,
     }
 }

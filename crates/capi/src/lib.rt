@@ -9,6 +9,7 @@ use answers::LayoutAnswer;
 use answers::ListAnswer;
 use answers::MendAnswer;
 use answers::ReadAnswer;
+use answers::StripAnswer;
 use answers::StrokeAnswer;
 use answers::told_check;
 use answers::told_copy;
@@ -18,6 +19,7 @@ use answers::told_layout;
 use answers::told_list;
 use answers::told_mend;
 use answers::told_read;
+use answers::told_strip;
 use answers::told_stroke;
 use plan::Page;
 use plan::Record;
@@ -27,7 +29,7 @@ ghost use Rattle.planfile.specs.Reading.{«label-refusal», «label-part»};
 ghost use Rattle.checker.specs.Checked.{«checked-of»};
 ghost use Rattle.ends.specs.Ended.{«ended-of»};
 ghost use Rattle.strokes.specs.Stroked.{«stroked-of»};
-ghost use Rattle.answers.specs.Answers.{«check-answer», «ends-answer», «stroke-answer», Filling, Laying, ListFilling, Framing, CopyFilling, MendFilling};
+ghost use Rattle.answers.specs.Answers.{«check-answer», «ends-answer», «stroke-answer», Filling, Laying, ListFilling, Framing, CopyFilling, MendFilling, Stripping};
 
 #[no_mangle]
 pub extern "C" fn kuzpalen_read(file: &[u8], table: &mut [Record]) -> ReadAnswer
@@ -137,4 +139,18 @@ pub extern "C" fn kuzpalen_stroke(
 {
     let answer = plotting::stroke_at(table, positions, page, s);
     told_stroke(answer)
+}
+
+#[no_mangle]
+pub extern "C" fn kuzpalen_strip(
+    table: &[Record],
+    positions: &[i32],
+    row: u32,
+    first: u32,
+    bytes: &mut [u8],
+) -> StripAnswer
+    ensures { λ r. ⌜ Stripping (cells-of (now (table .entry))) (now (positions .entry)) row first (now (bytes .entry)) (now (bytes .exit)) r ⌝ }
+{
+    let answer = engine::strip(table, positions, row, first, bytes);
+    told_strip(answer)
 }

@@ -1,12 +1,12 @@
 -- THE THREE DEMANDS AT THE CALLS: statements only; each proof is one name. A reader needs the definitions of crate plan (sequence, puts, holds), of crate
--- rules (placement, S1 to S5, verdict), `sheet`, what each call answers (Reads, Lays, checked-of, ended-of, label-of and label-refusal, Lists, Frames, Copies, Mends) and Outcomes. Every call's
+-- rules (placement, S1 to S5, verdict), `sheet`, what each call answers (Reads, Lays, checked-of, ended-of, label-of and label-refusal, Lists, Frames, Copies, Mends, Strips) and Outcomes. Every call's
 -- contract is one of those, so what is said of them is said of what the call answers and leaves in the lent buffers. Assumes nothing.
 use mathlib.Core.Path.{_≡_}
 use mathlib.Core.List.{List, [], _∷_, _++_, map}
 use mathlib.Core.Logic.{_↔_}
-use Prim.Native.Nat.{ℕ, _*_, _≤_, _<_}
+use Prim.Native.Nat.{ℕ, _+_, _*_, _-_, _/_, _%_, _^_, _≤_, _<_}
 use lib.ListN.{length, getD, take, drop, replicate}
-use lib.IntN.{ℤ, pos, _-ℤ_}
+use lib.IntN.{ℤ, pos, _+ℤ_, _-ℤ_}
 use lib.Signed.{_≤ℤ_, _<ℤ_}
 use Rattle.plan.specs.Limits.{most-cells, scratch-size, most-file, most-allowance, lines-size}
 use Rattle.plan.specs.Plan.{Table, Is}
@@ -50,6 +50,16 @@ use Rattle.mending.specs.Mending.{mend-refusal, Mends, MendGives}
 use Rattle.mending.specs.laws.Answer as mends
 use Rattle.mending.specs.declared.Mended.{Mended}
 use Rattle.mending.specs.declared.Mended.the-variants as mending
+use Rattle.plan.specs.Questions.{strip, strip-given}
+use Rattle.plan.specs.declared.Refusal.{Refusal}
+use Rattle.rules.specs.Placement.{rows}
+use Rattle.corners.specs.Corners.{left}
+use Rattle.raster.specs.Boundary.{OnSome}
+use Rattle.raster.specs.Strip.{strip-of}
+use Rattle.raster.specs.Worked as strips
+use Rattle.raster.specs.laws.Worked as strips-laws
+use Rattle.strips.specs.Stripped.{Strips}
+use Rattle.strips.specs.laws.Promised as stripping
 use Rattle.engine.specs.declared.ReadAnswer.{ReadAnswer}
 use Rattle.engine.specs.declared.ReadAnswer.the-variants.{Plan, Refused}
 use Rattle.engine.specs.Read.{read-refusal, Reads}
@@ -242,3 +252,36 @@ module _ (f out out′ lines lines′ : List ℕ) (r : Mended) (m : Mends f out 
   -- A file that Read accepts comes out byte for byte equal, with no lines.
   pub mend-same : would-get f ≡ none → most-file ≤ length out → lines-size ≤ length lines → (r ≡ mending.Written (length f) 0) × (out′ ≡ f ++ drop (length f) out) × (lines′ ≡ lines)
   mend-same = mends.same f out out′ lines lines′ r m
+
+-- ==== STRIPS FOR THE RASTER PRINTER (document 02, E8): a row of a drawn sheet, from a column on
+module _ (t : Table) (ps : List ℤ) (row first : ℕ) (bs bs′ : List ℕ) (r : Refusal) (g : Strips t ps row first bs bs′ r) where
+  -- A refusal is answered by its number and cell, and leaves the bytes as they were.
+  pub strip-refuses : ¬ (refusal strip (strip-given t ps) .number ≡ 0) → (r ≡ refusal strip (strip-given t ps)) × (bs′ ≡ bs)
+  strip-refuses = stripping.unchanged t ps row first bs bs′ r g
+
+  -- Where no question refuses:
+  module _ (z : refusal strip (strip-given t ps) ≡ none) where
+    -- 0 and 0 are answered, and every lent byte is the strip's;
+    pub strip-gives : (r ≡ none) × (bs′ ≡ strip-of t (placed ps) row first (length bs))
+    strip-gives = stripping.gives t ps row first bs bs′ r g z
+
+    -- bit 7 − j of byte i is column first + 8i + j, counted from the least x: it is set exactly if that point is on the boundary of some box;
+    pub strip-sets : (i j : ℕ) → i < length bs → j < 8
+        → (getD bs′ i 0 / 2 ^ (7 - j) % 2 ≡ 1) ↔ OnSome t (placed ps) (left t (placed ps) +ℤ pos (first + (8 * i + j))) (pos row)
+    strip-sets = stripping.sets t ps row first bs bs′ r g z
+
+    -- it is 0 right of the sheet, and below it.
+    pub strip-beyond : (i j : ℕ) → i < length bs → j < 8 → width t (placed ps) <ℤ pos (first + (8 * i + j)) → getD bs′ i 0 / 2 ^ (7 - j) % 2 ≡ 0
+    strip-beyond = stripping.beyond t ps row first bs bs′ r g z
+
+    pub strip-below : (i j : ℕ) → i < length bs → j < 8 → rows t (placed ps) ≤ℤ pos row → getD bs′ i 0 / 2 ^ (7 - j) % 2 ≡ 0
+    strip-below = stripping.below t ps row first bs bs′ r g z
+
+-- A strip cut between any two of its bytes gives two strips that join into the whole, where the second's first column is one that a call can be given.
+pub strip-joins : (t : Table) (ps : List ℤ) (row first : ℕ) (cs ds cs′ ds′ whole : List ℕ) (q r s : Refusal)
+    → Strips t ps row first cs cs′ q → Strips t ps row (first + 8 * length cs) ds ds′ r → Strips t ps row first (cs ++ ds) whole s → whole ≡ cs′ ++ ds′
+strip-joins = stripping.joins
+
+-- Worked strips: an upright box, ◆B, boxes that overlap, one that begins above row 0; odd first columns, one near 2^32.
+pub strip-worked : map strips.computed strips.rows ≡ map (λ (r : strips.Row). r .bytes) strips.rows
+strip-worked = strips-laws.worked

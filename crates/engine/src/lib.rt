@@ -22,6 +22,7 @@ ghost use Rattle.ends.specs.Ended.{«ended-of»};
 ghost use Rattle.printing.specs.Printing.{Lists};
 ghost use Rattle.mending.specs.Mending.{Mends};
 ghost use Rattle.copying.specs.Copied.{Copies};
+ghost use Rattle.strips.specs.Stripped.{Strips};
 ghost use Rattle.engine.specs.Read.{Reads, «read-of»};
 ghost use Rattle.engine.specs.Label.{«label-of»};
 
@@ -131,4 +132,12 @@ pub fn mend(file: &[u8], out: &mut [u8], lines: &mut [u8]) -> Mended
     ensures { λ r. ⌜ Mends (now (file .entry)) (now (out .entry)) (now (out .exit)) (now (lines .entry)) (now (lines .exit)) r ⌝ }
 {
     mending::mend(file, out, lines)
+}
+
+// Strip: a row of a drawn sheet, from a column on, is written into the bytes, eight columns a byte; the refusal, or 0 and 0.
+pub fn strip(table: &[Record], positions: &[i32], row: u32, first: u32, bytes: &mut [u8]) -> Refusal
+    ensures { λ r. ⌜ Strips (cells-of (now (table .entry))) (now (positions .entry)) row first (now (bytes .entry)) (now (bytes .exit)) r ⌝ }
+{
+    let t = columns_of(table);
+    strips::strip(t, positions, row, first, bytes)
 }

@@ -3,6 +3,7 @@ use mathlib.Core.Path.{_≡_, refl}
 use mathlib.Core.List.{[], _∷_}
 use lib.IntN.{pos, negsuc}
 use Rattle.listing.specs.Printed.{digits, decimal, signed, line, sheet-line, label-field, cell-line, refused-line}
+use Rattle.listing.specs.Printed.{bitmap-line}
 
 -- `0`, `10` and `65535`
 nought : decimal 0 ≡ 48 ∷ []
@@ -41,3 +42,8 @@ unlabelled = refl
 refusal : refused-line 13 7 ≡ 114 ∷ 101 ∷ 102 ∷ 117 ∷ 115 ∷ 101 ∷ 100 ∷ 32 ∷ 49 ∷ 51 ∷ 32 ∷ 55 ∷ 10 ∷ []
 unfolding refused-line line decimal digits
 refusal = refl
+
+-- `P4 10 4`
+bitmap : bitmap-line 10 4 ≡ 80 ∷ 52 ∷ 32 ∷ 49 ∷ 48 ∷ 32 ∷ 52 ∷ 10 ∷ []
+unfolding bitmap-line line decimal digits
+bitmap = refl

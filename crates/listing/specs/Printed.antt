@@ -75,3 +75,12 @@ mended-line c v e w d = line (decimal c ∷ decimal v ∷ decimal e ∷ decimal 
 unfoldable pub lines-joined : List Bytes → Bytes
 lines-joined [] = []
 lines-joined (l ∷ ls) = l ++ lines-joined ls
+
+-- ---- a sheet as a portable bitmap (document 02, E8)
+-- the word `P4`
+abbrev pub bitmap-word : Bytes
+bitmap-word = 80 ∷ 52 ∷ []
+
+-- its first line, which the rows follow
+unfoldable pub bitmap-line : (columns rows : ℕ) → Bytes
+bitmap-line c r = line (bitmap-word ∷ decimal c ∷ decimal r ∷ [])

@@ -8,6 +8,7 @@ ghost use lib.Signed.{_<ℤ_};
 ghost use Rattle.whole.specs.Whole.{minus};
 ghost use Rattle.plan.specs.Limits.{«most-label»};
 ghost use Rattle.listing.specs.Printed.{space, decimal, signed, «sheet-line», «cell-line», «refused-line», «mended-line»};
+ghost use Rattle.listing.specs.Printed.{«bitmap-line»};
 ghost use Rattle.listing.specs.Line.{spaced, «line-size», «line-of», text, Whole};
 ghost use Rattle.listing.specs.Put.{Put};
 
@@ -199,4 +200,19 @@ pub fn put_line(line: Line, out: &mut [u8], at: usize) -> usize
         i += 1;
     }
     at + i
+}
+
+// The first line of a bitmap: its columns and its rows.
+pub fn bitmap_line(columns: u32, rows: u32) -> Line
+    ensures { λ r. ⌜ (r ≡ line-of (bitmap-line columns rows)) × (r .length ≤ line-size) ⌝ }
+{
+    let mut out = [0u8; LINE_SIZE];
+    let a = copy(b"P4", &mut out, 0);
+    let b = field(columns, &mut out, a);
+    let c = field(rows, &mut out, b);
+    let end = put(LINE_FEED, &mut out, c);
+    Line {
+        bytes: out,
+        length: end,
+    }
 }

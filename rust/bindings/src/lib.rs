@@ -152,6 +152,12 @@ mod raw {
         pub y: f64,
     }
 
+    #[repr(C)]
+    pub struct StripAnswer {
+        pub number: u8,
+        pub cell: u16,
+    }
+
     extern "C" {
         pub fn kuzpalen_read(file: *const u8, file_len: usize, table: *mut Record, table_len: usize) -> ReadAnswer;
         pub fn kuzpalen_label(file: *const u8, file_len: usize, cell: usize) -> LabelPart;
@@ -212,6 +218,16 @@ mod raw {
             page: Page,
             s: usize,
         ) -> StrokeAnswer;
+        pub fn kuzpalen_strip(
+            table: *const Record,
+            table_len: usize,
+            positions: *const i32,
+            positions_len: usize,
+            row: u32,
+            first: u32,
+            bytes: *mut u8,
+            bytes_len: usize,
+        ) -> StripAnswer;
     }
 }
 
@@ -341,4 +357,22 @@ pub fn stroke(table: &[Record], positions: &[i32], page: Page, s: usize) -> Resu
         _ => Stroke::Lift,
     };
     unless(r.number, r.cell, stroke)
+}
+
+/// Strip: a row from a column on, counted from 0 at the sheet's least x, into the bytes; eight columns a byte, the leftmost in the highest bit.
+pub fn strip(table: &[Record], positions: &[i32], row: u32, first: u32, bytes: &mut [u8]) -> Result<(), Refusal> {
+    // SAFETY: the pointers are good for their lengths, and the one that is written shares nothing.
+    let r = unsafe {
+        raw::kuzpalen_strip(
+            table.as_ptr(),
+            table.len(),
+            positions.as_ptr(),
+            positions.len(),
+            row,
+            first,
+            bytes.as_mut_ptr(),
+            bytes.len(),
+        )
+    };
+    unless(r.number, r.cell, ())
 }

@@ -477,6 +477,63 @@ impl Run {
         self.count("Mend", answer);
     }
 
+    /// Strip; a row whole, and the same row cut at each of its bytes.
+    fn strip(&mut self, rng: &mut Rng, cells: &[Cell], positions: &[i32]) {
+        let (row, first) = (some_row(rng), some_column(rng, cells, positions));
+        let length = if rng.once_in(50) { rng.pick(&[0, 100]) } else { rng.index(13) };
+        let mut theirs = vec![rng.next() as u8; length];
+        let before = theirs.clone();
+        let table = self.rooms.table.lend(&records(cells), rng.once_in(2));
+        let lent = self.rooms.positions.lend(positions, rng.once_in(2));
+        let ours = self.rooms.out.lend(&theirs, rng.once_in(2));
+        let refused = |r: bindings::Refusal| Refusal { number: r.number as u32, cell: r.cell as u32 };
+        let got = bindings::strip(table, lent, row, first, ours).map_err(refused);
+        let mut parts = Vec::new();
+        for cut in 0..=length {
+            let mut joined = before.clone();
+            let (left, right) = joined.split_at_mut(cut);
+            let Some(second) = first.checked_add(8 * cut as u32) else { break };
+            let halves = [bindings::strip(table, lent, row, first, left), bindings::strip(table, lent, row, second, right)];
+            parts.push((halves.map(|h| h.map_err(refused)), joined));
+        }
+        let (table, lent, ours) = (table.to_vec(), lent.to_vec(), ours.to_vec());
+        let expected = reference::strip(cells, positions, row, first, &mut theirs);
+        let input = (row, first, length, positions, cells);
+        self.same("Strip's answer", &got, &expected, &input);
+        self.same("the bytes after Strip", &ours, &theirs, &input);
+        self.same("the buffers after Strip", &(lent.as_slice(), table), &(positions, records(cells)), &input);
+        for (cut, (halves, joined)) in parts.iter().enumerate() {
+            self.same("the answers for a strip cut in two", halves, &[expected, expected], &(cut, input));
+            self.same("a strip cut in two", joined, &theirs, &(cut, input));
+        }
+        self.note_widths("Strip", cells, &expected);
+        self.note_coordinates("Strip", positions, cells.len(), &expected);
+        if expected.is_ok() {
+            self.note_strip(positions, row, first, parts.len() <= length, &theirs);
+        }
+        self.count("Strip", named(&expected));
+    }
+
+    /// What is to be seen in strips.
+    fn note_strip(&mut self, positions: &[i32], row: u32, first: u32, past: bool, bytes: &[u8]) {
+        let blank = bytes.iter().all(|b| *b == 0);
+        let seen = [
+            ("no byte", bytes.is_empty()),
+            ("blank", blank && !bytes.is_empty()),
+            ("whole bytes", bytes.contains(&255)),
+            ("points, first column odd", !blank && first % 2 == 1),
+            ("points, least x not 0", !blank && positions.iter().step_by(2).min() != Some(&0)),
+            ("points below row 255", !blank && row > 255),
+            ("past the last column that fits", past),
+            ("row of 32 bits", row == u32::MAX),
+        ];
+        for (what, is) in seen {
+            if is {
+                self.note("Strip", what);
+            }
+        }
+    }
+
     /// A file of either form, valid or damaged, through Read, Label, List, Copy and Mend.
     fn a_file(&mut self, rng: &mut Rng) {
         let form = rng.pick(&FORMS);
@@ -559,7 +616,7 @@ impl Run {
         self.copy(rng, &cells, &letters, allowance);
     }
 
-    /// A table, valid or damaged, through Layout, Check, Ends and Frame.
+    /// A table, valid or damaged, through Layout, Check, Ends, Strip and Frame.
     fn a_table(&mut self, rng: &mut Rng) {
         let widest = rng.once_in(1_000);
         let mut cells = match () {
@@ -604,9 +661,43 @@ impl Run {
             let positions = if rng.once_in(2) { &ours } else { &foreign };
             self.strokes(rng, &cells, positions);
         }
+        // Boxes anywhere, over each other, some of them above row 0.
+        let heap: Vec<i32> = (0..2 * cells.len()).map(|k| rng.between(-30 + 26 * (k as i64 % 2), 30) as i32).collect();
+        let low: Vec<i32> = (0..2 * cells.len()).map(|k| if k % 2 == 0 { 0 } else { 250 + rng.index(20) as i32 }).collect();
+        for positions in [&ours, &foreign, &heap, if rng.once_in(8) { &low } else { &heap }] {
+            self.strip(rng, &cells, positions);
+        }
         // A large plan's seventeen sheets take the reference long.
         if cells.len() <= 60 || rng.once_in(4) {
             self.frame(rng, &cells);
+        }
+    }
+}
+
+/// A row of the sheet, or near it; now and then any, or the last.
+fn some_row(rng: &mut Rng) -> u32 {
+    match rng.index(20) {
+        0 => rng.next() as u32,
+        1 => u32::MAX,
+        2..=4 => 240 + rng.index(40) as u32,
+        5..=9 => rng.index(40) as u32,
+        _ => rng.index(8) as u32,
+    }
+}
+
+/// A first column at the sheet's beginning, at a box's edge, near the last that there is, or any.
+fn some_column(rng: &mut Rng, cells: &[Cell], positions: &[i32]) -> u32 {
+    let least = positions.iter().take(2 * cells.len()).step_by(2).min().copied().unwrap_or(0) as i64;
+    match rng.index(20) {
+        0 => rng.next() as u32,
+        1 => u32::MAX - rng.index(100) as u32,
+        2..=7 => 0,
+        8..=13 => rng.index(40) as u32,
+        _ => {
+            let cell = rng.index(cells.len().max(1));
+            let x = positions.get(2 * cell).copied().unwrap_or(0) as i64;
+            let edge = if rng.once_in(2) { cells.get(cell).map_or(0, |c| c.width as i64) } else { 0 };
+            (x - least + edge + rng.between(-20, 2)).clamp(0, u32::MAX as i64) as u32
         }
     }
 }
@@ -693,7 +784,7 @@ fn some_table(rng: &mut Rng) -> Vec<Cell> {
 /// The answers that each call can give: all must have been seen in a long run.
 fn unseen(seen: &Seen) -> Vec<String> {
     let mut all: Vec<(&str, String)> = Vec::new();
-    let refusals: [(&str, &[u32]); 10] = [
+    let refusals: [(&str, &[u32]); 11] = [
         ("Read", &[1, 2, 3]),
         ("Label", &[2, 3]),
         ("Layout", &[1, 4, 6, 7, 8, 11, 12, 13, 14]),
@@ -704,11 +795,12 @@ fn unseen(seen: &Seen) -> Vec<String> {
         ("Copy", &[1, 4, 5, 6, 7, 8, 9, 10, 11, 12, 13, 14]),
         ("Mend", &[1, 2, 3]),
         ("Stroke", &[1, 4, 6, 7, 8, 11, 12, 13, 15, 17, 18]),
+        ("Strip", &[1, 4, 6, 7, 8, 11, 12, 13, 15]),
     ];
     for (call, numbers) in refusals {
         all.extend(numbers.iter().map(|n| (call, format!("refused {n:2}"))));
     }
-    all.extend(["Layout", "Ends"].map(|call| (call, "accepted".into())));
+    all.extend(["Layout", "Ends", "Strip"].map(|call| (call, "accepted".into())));
     all.extend([2, 3].map(|n| ("List", format!("prints {n:>4}"))));
     for form in FORMS {
         all.extend(["Read", "Label"].map(|call| (call, format!("{form:?} accepted"))));
@@ -724,6 +816,8 @@ fn unseen(seen: &Seen) -> Vec<String> {
     }
     all.push(("Check", "kept".into()));
     all.extend((1..=5).map(|s| ("Check", format!("broken S{s}"))));
+    let strips = ["no byte", "blank", "whole bytes", "points, first column odd", "points, least x not 0", "points below row 255", "past the last column that fits", "row of 32 bits"];
+    all.extend(strips.map(|a| ("Strip", a.into())));
     all.extend(["0", "more than 0", "none"].map(|a| ("Frame", a.into())));
     all.extend([("Layout", "choice laid"), ("Check", "choice kept"), ("Check", "choice S2"), ("Layout", "near widest")].map(|(c, a)| (c, a.into())));
     all.extend(["labels shared", "bytes unused", "more letters than a file has", "an empty label last", "of a copy", "of the same content"].map(|a| ("Copy", a.into())));
@@ -732,10 +826,10 @@ fn unseen(seen: &Seen) -> Vec<String> {
     }
     all.extend(["pitch 0.25", "pitch 16", "margin 0", "margin -0", "margin 100"].map(|a| ("Stroke", format!("{a} fair"))));
     all.extend(["pitch below 0.25", "pitch above 16", "pitch infinite", "margin above 100", "margin below -0", "margin infinite", "NaN"].map(|a| ("Stroke", format!("{a} unfair"))));
-    for call in ["Read", "Layout", "Check", "Ends", "Frame", "Copy", "Stroke"] {
+    for call in ["Read", "Layout", "Check", "Ends", "Frame", "Copy", "Stroke", "Strip"] {
         all.extend([255, 256, 1_023, 1_024].map(|w| (call, format!("width {w}"))));
     }
-    for call in ["Check", "Ends", "Stroke"] {
+    for call in ["Check", "Ends", "Stroke", "Strip"] {
         all.extend([262_143, 262_144, -262_143, -262_144].map(|x| (call, format!("at {x}"))));
     }
     for ranks in ["moved", "turned", "tied"] {

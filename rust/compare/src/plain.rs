@@ -500,6 +500,81 @@ impl Text<'_> {
     }
 }
 
+fn or_at(bytes: &mut [u8], i: usize, mask: u8) {
+    if let Some(byte) = bytes.get_mut(i) {
+        *byte |= mask;
+    }
+}
+
+/// One column of a strip.
+fn put_one(bytes: &mut [u8], column: i64) {
+    if column >= 0 {
+        or_at(bytes, column as usize / 8, 128 >> (column % 8));
+    }
+}
+
+/// The columns of a strip from low to high.
+fn put_run(bytes: &mut [u8], low: i64, high: i64) {
+    if high < 0 {
+        return;
+    }
+    let (low, high) = (low.max(0) as usize, high as usize);
+    let (a, b) = (low / 8, high / 8);
+    let (tail, head) = (255 >> (low % 8), 255 << (7 - high % 8));
+    if a == b {
+        or_at(bytes, a, tail & head);
+        return;
+    }
+    or_at(bytes, a, tail);
+    let end = b.min(bytes.len());
+    if a + 1 < end {
+        bytes[a + 1..end].fill(255);
+    }
+    or_at(bytes, b, head);
+}
+
+fn ask_strip(table: &[Record], positions: &[i32]) -> Result<(), Refusal> {
+    ask_table(table, positions.len())?;
+    ask_positions(positions, table.len())
+}
+
+/// Of each box that meets the row: its left and right end, counted from the first column, and whether the row is one of its edges.
+fn meeting<'a>(table: &'a [Record], positions: &'a [i32], row: u32, first: u32) -> impl Iterator<Item = (i64, i64, bool)> + 'a {
+    let least = positions[..2 * table.len()].iter().step_by(2).min().copied().unwrap_or(0) as i64;
+    let (row, zero) = (row as i64, least + first as i64);
+    table.iter().zip(positions.chunks_exact(2)).filter_map(move |(r, p)| {
+        let (x, y) = (p[0] as i64 - zero, p[1] as i64);
+        let base = y + r.depth as i64;
+        (y <= row && row <= base).then(|| (x, x + r.width as i64, row == y || row == base))
+    })
+}
+
+/// Strip, by masks.
+pub fn strip(table: &[Record], positions: &[i32], row: u32, first: u32, bytes: &mut [u8]) -> Result<(), Refusal> {
+    ask_strip(table, positions)?;
+    bytes.fill(0);
+    for (left, right, edge) in meeting(table, positions, row, first) {
+        if edge {
+            put_run(bytes, left, right);
+        } else {
+            put_one(bytes, left);
+            put_one(bytes, right);
+        }
+    }
+    Ok(())
+}
+
+/// The same, with each point set for itself.
+pub fn strip_by_points(table: &[Record], positions: &[i32], row: u32, first: u32, bytes: &mut [u8]) -> Result<(), Refusal> {
+    ask_strip(table, positions)?;
+    bytes.fill(0);
+    for (left, right, edge) in meeting(table, positions, row, first) {
+        let step = if edge { 1 } else { (right - left) as usize };
+        (left..=right).step_by(step).for_each(|column| put_one(bytes, column));
+    }
+    Ok(())
+}
+
 pub fn list(file: &[u8], out: &mut [u8]) -> Result<usize, Refusal> {
     if out.len() < LISTING {
         return refuse(1, 0);

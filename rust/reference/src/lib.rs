@@ -15,6 +15,7 @@ mod plan_file;
 pub mod rng;
 mod rules;
 mod strokes;
+mod strip;
 
 pub use copy::{clean_form, content, copy, Content, COPY};
 pub use frame::frame;
@@ -25,3 +26,4 @@ pub use plan::{Cell, Plan, Refusal, MAX_CELLS, MAX_WIDTH, ROOT};
 pub use plan_file::{label, label_refusal, read, Form, FORMS};
 pub use rules::{check, ends, measure, Ends, Measure, Verdict, MAX_COORDINATE};
 pub use strokes::{stroke, Page, Stroke};
+pub use strip::strip;

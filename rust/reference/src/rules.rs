@@ -116,6 +116,7 @@ fn pair_faults(plan: &Plan, p: &Placement, allowance: i64, out: &mut Vec<(u32, u
     }
 }
 
+/// Question 15.
 pub(crate) fn ask_positions(n: usize, positions: &[i32]) -> Result<Placement, Refusal> {
     let inside = |v: i32| (-MAX_COORDINATE..=MAX_COORDINATE).contains(&(v as i64));
     if let Some(c) = (0..n).find(|&c| !inside(positions[2 * c]) || !inside(positions[2 * c + 1])) {

@@ -13,7 +13,7 @@ use Rattle.plan.specs.Records.{bare, cells-of}
 use Rattle.plan.specs.declared.Record.{Record}
 use Rattle.plan.specs.declared.Columns.{Columns}
 use Rattle.plan.specs.declared.Lettered.{Lettered}
-use Rattle.plan.specs.Questions.{Buffer, scratch, all-roomy, in-file, puts, asked, or-else, refusal, layout, check, ends, frame, layout-given, check-given, ends-given, frame-given, copy-output, copy, copy-given}
+use Rattle.plan.specs.Questions.{Buffer, scratch, all-roomy, in-file, puts, asked, or-else, refusal, layout, check, ends, frame, strip, layout-given, check-given, ends-given, frame-given, copy-output, copy, copy-given, strip-given}
 use Rattle.plan.specs.laws.Crowded.{crowded, refusal-crowded, crowded-refuses}
 use Rattle.plan.specs.declared.Refusal.{Refusal}
 use Rattle.layout.specs.Laid.{laid-of, positions-after, Lays}
@@ -34,6 +34,7 @@ use Rattle.content.specs.Clean.{copy-refusal}
 use Rattle.copying.specs.Copied.{copied-of, output-after, Copies}
 use Rattle.copying.specs.declared.Copied.{Copied}
 use Rattle.copying.specs.declared.Copied.the-variants as copied
+use Rattle.strips.specs.Stripped.{bytes-after, Strips}
 use Rattle.records.specs.Apart.{lent-columns, lent-lettered, records-in}
 use Rattle.records.specs.laws.Apart.{of-records, of-lettered}
 
@@ -74,6 +75,18 @@ ends-crowded : (ps : List ℤ) (c : ℕ) (u : Table) → most-cells < length u �
 unfolding ended-of ends-given in-file puts mem some
 ends-crowded ps c u h = rw (refusal-crowded ends (ends-given u ps c) (λ _. refl) refl refl h, ne-eqb (no [] .number) 0 (crowded-refuses _))
 
+module _ (ps : List ℤ) (row first : ℕ) (bs bs′ : List ℕ) (d : Refusal) where
+  strip-crowded : (u : Table) → most-cells < length u → refusal strip (strip-given u ps) ≡ no []
+  unfolding strip-given in-file puts mem some
+  strip-crowded u h = refusal-crowded strip (strip-given u ps) (λ _. refl) refl refl h
+
+  strips-crowded : (u v : Table) → most-cells < length u → most-cells < length v → Strips u ps row first bs bs′ d → Strips v ps row first bs bs′ d
+  unfolding bytes-after
+  strips-crowded u v p q g =
+      let e : d ≡ no [] = g .answers ∙ strip-crowded u p in
+      let z : ¬ (d .number ≡ 0) = rw e (crowded-refuses _) in
+      record { answers = e ∙ sym (strip-crowded v q); bytes = rw (ne-eqb (d .number) 0 z) (rw (ne-eqb (d .number) 0 z) at (g .bytes)) }
+
 module _ (t : List Record) (r : Columns) (e : r ≡ lent-columns t) where
   pub layout-lent : (al : ℕ) (s s′ : List ℕ) (ps ps′ : List ℤ) (d : Laid) → Lays (table-of r) al s s′ ps ps′ d → Lays (cells-of t) al s s′ ps ps′ d
   layout-lent al s s′ ps ps′ d h = of-records (λ u. Lays u al s s′ ps ps′ d) t (lays-crowded al s s′ ps ps′ d) (rw e at h)
@@ -109,3 +122,6 @@ module _ (letters : List ℕ) (al : ℕ) (out out′ : List ℕ) (d : Copied) wh
 
   pub copy-lent : (t : List Record) (r : Lettered) → r ≡ lent-lettered t → Copies (records-in r) letters al out out′ d → Copies t letters al out out′ d
   copy-lent t r e h = of-lettered (λ u. Copies u letters al out out′ d) t copies-crowded (rw e at h)
+
+  pub strip-lent : (ps : List ℤ) (row first : ℕ) (bs bs′ : List ℕ) (d : Refusal) → Strips (table-of r) ps row first bs bs′ d → Strips (cells-of t) ps row first bs bs′ d
+  strip-lent ps row first bs bs′ d h = of-records (λ u. Strips u ps row first bs bs′ d) t (strips-crowded ps row first bs bs′ d) (rw e at h)

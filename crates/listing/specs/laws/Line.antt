@@ -7,6 +7,7 @@ use lib.IntN.{ℤ}
 use lib.ListN.{length}
 use lib.Seq.{take-append-seam}
 use Rattle.listing.specs.Printed.{Bytes, space, line-feed, sheet-word, refused-word, decimal, signed, line, sheet-line, label-field, cell-line, refused-line, mended-line, lines-joined}
+use Rattle.listing.specs.Printed.{bitmap-word, bitmap-line}
 use Rattle.listing.specs.Line.{spaced, line-of, text}
 
 pub spaced-empty : (s : Bytes) → length s ≡ 0 → spaced s ≡ []
@@ -53,3 +54,8 @@ pub joined-append : (ls ms : List Bytes) → lines-joined (ls ++ ms) ≡ lines-j
 unfolding lines-joined
 joined-append [] ms = refl
 joined-append (l ∷ ls) ms = ap (λ (t : Bytes). l ++ t) (joined-append ls ms) ∙ sym (append-assoc l (lines-joined ls) (lines-joined ms))
+
+-- the first line of a bitmap
+pub bitmap-line-is : (c r : ℕ) → bitmap-word ++ (space ∷ decimal c) ++ (space ∷ decimal r) ++ (line-feed ∷ []) ≡ bitmap-line c r
+unfolding bitmap-line line
+bitmap-line-is c r = simp append-assoc

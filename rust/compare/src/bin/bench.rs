@@ -101,6 +101,7 @@ fn calls() {
             file_calls(shape, cells.len(), &file(Form::Wide, &text, &cells, 10), ", wide form");
             table_calls(shape, &cells.iter().map(record).collect::<Vec<_>>(), ", ranks");
         }
+        wide_strips(shape);
     }
 }
 
@@ -134,6 +135,7 @@ fn table_calls(shape: Shape, records: &[Record], note: &str) {
     assert_eq!(bindings::ends(records, &positions, n - 1), plain::ends(records, &positions, n - 1));
     assert_eq!(bindings::frame(records, sheet.width, &mut scratch), plain::frame(records, sheet.width, &mut scratch));
 
+    strip_calls(shape, records, &positions, sheet, note);
     line(&format!("Layout{note}"), shape, n, sheet, race(
         || { let _ = black_box(bindings::layout(black_box(records), 10, &mut scratch, &mut positions)); },
         || { let _ = black_box(plain::layout(black_box(records), 10, &mut other, &mut same)); },
@@ -150,4 +152,36 @@ fn table_calls(shape: Shape, records: &[Record], note: &str) {
         || { let _ = black_box(bindings::frame(black_box(records), sheet.width, &mut scratch)); },
         || { let _ = black_box(plain::frame(black_box(records), sheet.width, &mut other)); },
     ));
+}
+
+/// Strips of a sheet with boxes of up to 1,023.
+fn wide_strips(shape: Shape) {
+    let cells = table(&mut Rng::new(SEED, 1_023), shape, 256, &Sizes { max_width: 1_023, max_depth: 3 });
+    let records: Vec<Record> = cells.iter().map(record).collect();
+    let mut positions = vec![0; 2 * records.len()];
+    let sheet = bindings::layout(&records, 10, &mut vec![0; 16_384], &mut positions).expect("a valid plan");
+    strip_calls(shape, &records, &positions, sheet, ", wide boxes");
+}
+
+/// Every row of a sheet, by masks, and with each point set for itself: the time of all rows together.
+fn strip_calls(shape: Shape, records: &[Record], positions: &[i32], sheet: Sheet, note: &str) {
+    type Strip = fn(&[Record], &[i32], u32, u32, &mut [u8]) -> Result<(), bindings::Refusal>;
+    let length = sheet.width as usize / 8 + 1;
+    let all = |strip: Strip, bytes: &mut [u8]| {
+        for row in 0..sheet.rows {
+            let _ = black_box(strip(black_box(records), positions, row, 0, bytes));
+        }
+    };
+    let (mut ours, mut theirs) = (vec![0; length], vec![0; length]);
+    for row in 0..sheet.rows {
+        assert_eq!(bindings::strip(records, positions, row, 0, &mut ours), Ok(()));
+        for other in [plain::strip as Strip, plain::strip_by_points as Strip] {
+            assert_eq!(other(records, positions, row, 0, &mut theirs), Ok(()));
+            assert_eq!(ours, theirs);
+        }
+    }
+    for (what, other) in [("Strip, all rows", plain::strip as Strip), ("Strip, all rows, against points", plain::strip_by_points as Strip)] {
+        let times = race(|| all(bindings::strip, &mut ours), || all(other, &mut theirs));
+        line(&format!("{what}{note}"), shape, records.len(), sheet, times);
+    }
 }

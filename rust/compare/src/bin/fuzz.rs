@@ -172,6 +172,27 @@ fn table_calls(rng: &mut Rng) -> Result<(), &'static str> {
     Ok(())
 }
 
+/// Strip, of Layout's positions and of any.
+fn strip_calls(rng: &mut Rng) -> Result<(), &'static str> {
+    let table = lent(&some_table(rng));
+    let far = rng.pick(&[30, 262_143, 262_200]);
+    let mut positions: Box<[i32]> = (0..2 * table.len() + rng.index(3)).map(|_| rng.between(-far, far) as i32).collect();
+    let laid = bindings::layout(&table, make::allowance(rng), &mut lent(&vec![0; SCRATCH]), &mut positions);
+    let fill = rng.next() as u8;
+    let mut bytes = lent(&vec![fill; rng.index(40)]);
+    let row = if rng.once_in(10) { rng.next() as u32 } else { rng.index(300) as u32 };
+    let first = if rng.once_in(4) { rng.next() as u32 } else { rng.index(100) as u32 };
+    let done = bindings::strip(&table, &positions, row, first, &mut bytes);
+    if done.is_err() && bytes.iter().any(|b| *b != fill) {
+        return Err("Strip refuses, and writes");
+    }
+    match laid {
+        Ok(_) if done.is_err() => Err("Strip refuses Layout's sheet"),
+        Ok(sheet) if (row >= sheet.rows || first > sheet.width) && bytes.iter().any(|b| *b != 0) => Err("Strip prints outside the sheet"),
+        _ => Ok(()),
+    }
+}
+
 /// Frame, and what it says against Layout.
 fn frame_calls(rng: &mut Rng) -> Result<(), &'static str> {
     let table = lent(&some_table(rng));
@@ -246,12 +267,13 @@ fn library(end: Instant, seed: u64) -> u64 {
     let mut number = 0;
     while Instant::now() < end {
         let mut rng = Rng::new(seed, number);
-        let done = match number % 7 {
+        let done = match number % 8 {
             0 | 1 => table_calls(&mut rng),
             2 => file_calls(&mut rng),
             3 => list_call(&mut rng),
             4 => copy_calls(&mut rng),
             5 => mend_calls(&mut rng),
+            6 => strip_calls(&mut rng),
             _ => frame_calls(&mut rng),
         };
         done.unwrap_or_else(|what| fault(what, seed, number));

@@ -1,0 +1,5 @@
+pub mod Boundary
+pub mod Points
+pub mod Strip
+pub mod Worked
+pub mod laws

@@ -1,0 +1,3 @@
+pub mod Stripped
+pub mod Picture
+pub mod laws
