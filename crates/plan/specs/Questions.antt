@@ -15,9 +15,10 @@ use Rattle.plan.specs.Kinds.{known, allows, bordered}
 use Rattle.plan.specs.declared.Refusal.{Refusal}
 
 -- ---- what a call is given
--- a lent buffer of a length that question 1 asks for, with the length that it has: a table to fill, Layout's scratch, the output of a listing
+-- a lent buffer of a length that question 1 asks for, with the length that it has: a table to fill, Layout's scratch, the output of a listing, the output of a clean copy
 pub data Buffer : Type 0 where
   to-fill scratch output : ℕ → Buffer
+  copy-output : ℕ → Buffer
 
 -- the length of the positions, where the call has them
 pub data Lent : Type 0 where
@@ -29,7 +30,7 @@ pub data Subject : Type 0 where
   nothing : Subject
   named squares : ℕ → Subject
 
--- the part of the file's label bytes that is a cell's label
+-- the part of the label bytes that is a cell's label
 pub record Label : Type 0 where
   pub start : ℕ
   pub size : ℕ
@@ -44,10 +45,17 @@ pub record File : Type 0 where
   -- of each record
   pub labels : List Label
 
--- a table lent, or a table in a file
+-- label bytes, how many of them there are, and of each record its part
+pub record Lettering : Type 0 where
+  pub letters : List ℕ
+  pub room : ℕ
+  pub labels : List Label
+
+-- a table lent, a table in a file, or a table lent with its label bytes (document 02, E4)
 pub data Source : Type 0 where
   lent : Source
   file : File → Source
+  lettered : Lettering → Source
 
 pub record Given : Type 0 where
   pub source : Source
@@ -112,6 +120,7 @@ sequence =
 -- ---- the calls
 pub data Call : Type 0 where
   read label layout check ends list frame : Call
+  copy : Call
   join : Call
 
 -- the numbers of the questions that a call puts
@@ -124,6 +133,7 @@ puts ends = 1 ∷ 4 ∷ 6 ∷ 7 ∷ 8 ∷ 11 ∷ 12 ∷ 13 ∷ 15 ∷ 16 ∷ []
 -- what is wrong with the file it prints, as document 01 says
 puts list = 1 ∷ []
 puts frame = 1 ∷ 4 ∷ 6 ∷ 7 ∷ 8 ∷ 11 ∷ 12 ∷ 13 ∷ 19 ∷ []
+puts copy = 1 ∷ from 4 11
 -- of three tables, in a sequence of their own (crate graft)
 puts join = 1 ∷ 4 ∷ 6 ∷ 7 ∷ 8 ∷ 11 ∷ 12 ∷ 13 ∷ 16 ∷ []
 
@@ -136,6 +146,7 @@ root-too layout = true
 root-too check = true
 root-too list = true
 root-too frame = true
+root-too copy = true
 root-too join = true
 
 -- ---- what each question asks
@@ -143,6 +154,7 @@ unfoldable pub roomy : Buffer → Bool
 roomy (to-fill m) = leb most-cells m
 roomy (scratch m) = leb scratch-size m
 roomy (output m) = leb listing-size m
+roomy (copy-output m) = leb most-file m
 
 unfoldable pub all-roomy : List Buffer → Bool
 all-roomy [] = true
@@ -155,6 +167,13 @@ enough (long m) n = leb n m
 unfoldable pub in-file : Source → (File → Bool) → Bool
 in-file lent test = true
 in-file (file f) test = test f
+in-file (lettered l) test = true
+
+-- questions 5, 9 and 10 are put to the label bytes of a file, those before its records, or to those that were lent
+unfoldable pub on-labels : Source → (Lettering → Bool) → Bool
+on-labels lent test = true
+on-labels (file f) test = test (record { letters = f .letters; room = f .begin; labels = f .labels })
+on-labels (lettered l) test = test l
 
 unfoldable pub every : (ℕ → Bool) → List ℕ → Bool
 every test [] = true
@@ -163,8 +182,8 @@ every test (v ∷ vs) = let r = every test vs in cond (test v) r false
 abbrev pub no-label : Label
 no-label = record { start = 0; size = 0 }
 
-abbrev pub label-at : File → ℕ → Label
-label-at f c = getD (f .labels) c no-label
+abbrev pub label-at : Lettering → ℕ → Label
+label-at l c = getD (l .labels) c no-label
 
 -- question 6: is p a parent for cell c, 65,535 for cell 0, else less than the cell's own number
 unfoldable pub lower : ℕ → ℕ → Bool
@@ -175,6 +194,7 @@ lower (suc m) p = ltb p (suc m)
 unfoldable pub widest-in : Source → ℕ
 widest-in lent = most-width
 widest-in (file f) = widest (form-of (f .mark))
+widest-in (lettered l) = most-width
 
 unfoldable pub sized : (most width depth : ℕ) → Bool
 sized m w d = between 1 m w && between 1 most-depth d
@@ -205,13 +225,13 @@ module _ (call : Call) (g : Given) where
       between 1 most-cells (length (g .table))
       && in-file (g .source) (λ f. eqb (f .begin + record-size (form-of (f .mark)) * length (g .table) + trailer-size) (f .size))
   holds positions-long c = enough (g .positions) (2 * length (g .table))
-  holds letters-printable c = in-file (g .source) (λ f. every (between first-letter last-letter) (f .letters))
+  holds letters-printable c = on-labels (g .source) (λ l. every (between first-letter last-letter) (l .letters))
   holds parent-lower c = lower c (parent (g .table) c)
   holds kind-known c = known (kind (g .table) c)
   holds box-sized c = sized (widest-in (g .source)) (W (g .table) c) (D (g .table) c)
   holds label-inside c =
-      in-file (g .source) (λ f. leb (label-at f c .size) most-label && leb (label-at f c .start + label-at f c .size) (f .begin))
-  holds label-fits c = in-file (g .source) (λ f. bordered (kind (g .table) c) (label-at f c .size) (W (g .table) c))
+      on-labels (g .source) (λ l. leb (label-at l c .size) most-label && leb (label-at l c .start + label-at l c .size) (l .room))
+  holds label-fits c = on-labels (g .source) (λ l. bordered (kind (g .table) c) (label-at l c .size) (W (g .table) c))
   holds children-allowed c = allows (kind (g .table) c) (length (children (g .table) c))
   holds level-low c = leb (level (g .table) c) most-level
   holds rows-few c = leb (row (g .table) c + D (g .table) c) last-row
@@ -280,3 +300,16 @@ list-given room = record { source = lent; table = []; allowance = 0; buffers = o
 unfoldable pub frame-given : Table → (squares scratch : ℕ) → Given
 frame-given t f s =
     record { source = lent; table = t; allowance = 0; buffers = scratch s ∷ []; positions = absent; coordinates = []; subject = squares f }
+
+-- what the clean copy is given (document 02, E4): a table, of each record its label, the lent label bytes, an allowance and an output of so many bytes
+unfoldable pub copy-given : Table → List Label → (letters : List ℕ) → (allowance output : ℕ) → Given
+copy-given t labels letters al room =
+    record {
+      source = lettered (record { letters = letters; room = length letters; labels = labels });
+      table = t;
+      allowance = al;
+      buffers = copy-output room ∷ [];
+      positions = absent;
+      coordinates = [];
+      subject = nothing;
+    }

@@ -28,6 +28,13 @@ pub struct Columns {
     pub rank: [u8; MOST_CELLS],
 }
 
+// The same numbers, with the columns of the two label fields, for calls that take labels along.
+pub struct Lettered {
+    pub columns: Columns,
+    pub label_length: [u8; MOST_CELLS],
+    pub label_start: [u16; MOST_CELLS],
+}
+
 // A question's number and the lowest cell at fault; 0 and 0 where nothing is refused.
 pub struct Refusal {
     pub number: u8,
