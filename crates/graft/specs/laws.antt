@@ -1,2 +1,5 @@
 pub mod Joined
 pub mod Lists
+pub mod Paths
+pub mod Placed
+pub mod Reaches

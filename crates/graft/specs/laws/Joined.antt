@@ -122,7 +122,7 @@ module _ (t u : Table) (c : ℕ) where
   second-rank = second-kept (λ (x : Cell). x .rank) (λ p x. refl)
 
 -- ---- parents and children
-filed-is : (t : Table) (c s : ℕ) → 1 ≤ length t → T (mem s (filed t c)) → Is t s
+pub filed-is : (t : Table) (c s : ℕ) → 1 ≤ length t → T (mem s (filed t c)) → Is t s
 unfolding filed
 filed-is t c s l m = omega (arith, from-read 1 (pred (length t)) s (keep-read (λ s. eqb (parent t s) c) (from 1 (pred (length t))) s m .there))
 
