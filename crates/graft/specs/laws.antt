@@ -3,3 +3,4 @@ pub mod Lists
 pub mod Paths
 pub mod Placed
 pub mod Reaches
+pub mod Sequence
