@@ -1,4 +1,5 @@
 pub mod Joined
 pub mod Placed
 pub mod Sequence
+pub mod FirstNo
 pub mod laws

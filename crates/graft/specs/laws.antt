@@ -1,4 +1,6 @@
+pub mod FirstNo
 pub mod Joined
+pub mod Laid
 pub mod Lists
 pub mod Paths
 pub mod Placed
