@@ -1,4 +1,5 @@
 pub mod FirstNo
+pub mod Hung
 pub mod Joined
 pub mod Laid
 pub mod Lists
@@ -6,3 +7,4 @@ pub mod Paths
 pub mod Placed
 pub mod Reaches
 pub mod Sequence
+pub mod Worked

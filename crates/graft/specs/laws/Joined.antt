@@ -6,8 +6,7 @@ use mathlib.Core.Bool.{Bool, false, true}
 use Prim.Native.Nat.{ℕ, zero, suc, pred, _+_, _-_, _≤_, _<_}
 use native.Mathlib.Omega.{arith}
 use native.Mathlib.Decide.{ℕ-discrete, decLt}
-use lib.ListN.{length, getD, length-map, length-append, List·getD-append}
-use lib.Seq.{getD-append-add}
+use lib.ListN.{length, getD, length-map}
 use lib.Dec.{T, eqb}
 use borrow.Author.Tests.{eq-eqb, ne-eqb}
 use Rattle.plan.specs.Lists.{from, keep, sort, mem}
@@ -17,7 +16,8 @@ use Rattle.plan.specs.Plan.{Cell, Table, Is, Sound, blank, parent, kind, W, D, 
 use Rattle.plan.specs.Records.{bare, cells-of}
 use Rattle.plan.specs.declared.Record.{Record}
 use Rattle.graft.specs.Joined.{raised, hung, hung-behind, cell-under, record-under, joined, joined-records}
-use Rattle.graft.specs.laws.Lists.{getD-map, from-split, keep-after, keep-same, keep-none, keep-raised, up, eqb-raised, sort-raised}
+use Rattle.graft.specs.laws.Hung.{length-behind, behind-first, behind-root, behind-later}
+use Rattle.graft.specs.laws.Lists.{from-split, keep-after, keep-same, keep-none, keep-raised, up, eqb-raised, sort-raised}
 
 abbrev father : Cell → ℕ
 father x = x .parent
@@ -38,37 +38,21 @@ joined-cells t u c = map-append bare t _ ∙ rw (hung-cells (length t) c u, leng
 
 -- ---- cells
 module _ (t u : Table) (c : ℕ) where
-  length-hung : (n : ℕ) (u : Table) → length (hung father cell-under n c u) ≡ length u
-  unfolding hung
-  length-hung n [] = refl
-  length-hung n (x ∷ u) = ap suc (length-map u (raised father cell-under n))
-
   pub length-joined : length (joined t u c) ≡ length t + length u
-  unfolding joined hung-behind
-  length-joined = omega (arith, length-append t (hung father cell-under (length t) c u), length-hung (length t) u)
+  unfolding joined
+  length-joined = length-behind father cell-under t u c
 
-  pub first-cell : (a : ℕ) → Is t a → getD (joined t u c) a blank ≡ getD t a blank
-  unfolding joined hung-behind
-  first-cell a i = List·getD-append t (hung father cell-under (length t) c u) blank a i
+  first-cell : (a : ℕ) → Is t a → getD (joined t u c) a blank ≡ getD t a blank
+  unfolding joined
+  first-cell a i = behind-first father cell-under t u c blank a i
 
-  hung-root : (n : ℕ) (u : Table) → 1 ≤ length u → getD (hung father cell-under n c u) 0 blank ≡ cell-under c (getD u 0 blank)
-  unfolding hung
-  hung-root n [] h = absurd (omega arith)
-  hung-root n (x ∷ u) h = refl
+  root-cell : 1 ≤ length u → getD (joined t u c) (length t + 0) blank ≡ cell-under c (getD u 0 blank)
+  unfolding joined
+  root-cell h = behind-root father cell-under t u c blank h
 
-  hung-cell : (n : ℕ) (u : Table) (b : ℕ) → 1 ≤ b → Is u b → getD (hung father cell-under n c u) b blank ≡ raised father cell-under n (getD u b blank)
-  unfolding hung
-  hung-cell n [] b l h = absurd (omega arith)
-  hung-cell n (x ∷ u) zero l h = absurd (omega arith)
-  hung-cell n (x ∷ u) (suc b) l h = getD-map (raised father cell-under n) u b blank (omega arith)
-
-  pub root-cell : 1 ≤ length u → getD (joined t u c) (length t + 0) blank ≡ cell-under c (getD u 0 blank)
-  unfolding joined hung-behind
-  root-cell h = getD-append-add t (hung father cell-under (length t) c u) 0 blank ∙ hung-root (length t) u h
-
-  pub second-cell : (b : ℕ) → 1 ≤ b → Is u b → getD (joined t u c) (length t + b) blank ≡ raised father cell-under (length t) (getD u b blank)
-  unfolding joined hung-behind
-  second-cell b l h = getD-append-add t (hung father cell-under (length t) c u) b blank ∙ hung-cell (length t) u b l h
+  second-cell : (b : ℕ) → 1 ≤ b → Is u b → getD (joined t u c) (length t + b) blank ≡ raised father cell-under (length t) (getD u b blank)
+  unfolding joined
+  second-cell b l h = behind-later father cell-under t u c blank b l h
 
   -- the first's cells as they were
   pub first-parent : (a : ℕ) → Is t a → parent (joined t u c) a ≡ parent t a

@@ -5,17 +5,11 @@ use mathlib.Core.Bool.{Bool, true, false, cond}
 use Prim.Native.Nat.{ℕ, zero, suc, _+_, _≤_, _<_}
 use native.Mathlib.Omega.{arith}
 use native.Mathlib.Decide.{ℕ-discrete}
-use lib.ListN.{length, getD}
 use lib.Dec.{T, eqb, leb}
 use borrow.Author.Tests.{eq-eqb, ne-eqb}
 use Rattle.plan.specs.Lists.{from, keep, insert, sort, mem}
 use Rattle.plan.specs.laws.Lists.{mem-here, mem-there}
 use Rattle.plan.specs.laws.Sort.{sort-read}
-
-pub getD-map {ℓ} : {A : Type ℓ} (f : A → A) (xs : List A) (i : ℕ) (z : A) → i < length xs → getD (map f xs) i z ≡ f (getD xs i z)
-getD-map f [] i z h = absurd (omega arith)
-getD-map f (x ∷ xs) zero z h = refl
-getD-map f (x ∷ xs) (suc i) z h = getD-map f xs i z (omega arith)
 
 pub from-split : (k d e : ℕ) → from k (d + e) ≡ from k d ++ from (k + d) e
 unfolding from
