@@ -1,7 +1,7 @@
 -- Document 01, "File", with the wide form of document 02, E7: what the bytes of a plan file say. Every definition is total; the questions say which files are plans. Assumes nothing.
 use mathlib.Core.List.{List, [], map}
 use Prim.Native.Nat.{ℕ, _+_, _-_, _*_}
-use lib.ListN.{length, getD, take}
+use lib.ListN.{length, take}
 use Rattle.plan.specs.Limits.{trailer-size}
 use Rattle.plan.specs.Forms.{form-of, record-size}
 use Rattle.plan.specs.Lists.{from}
@@ -9,45 +9,30 @@ use Rattle.plan.specs.Records.{cells-of}
 use Rattle.plan.specs.Questions.{Buffer, absent, Subject, Label, file, Given}
 use Rattle.plan.specs.declared.Record.{Record}
 use Rattle.plan.specs.declared.forms.Form.{Form}
-use Rattle.plan.specs.declared.forms.Form.the-variants.{Old, Wide}
 use Rattle.planfile.specs.declared.Trailer.{Trailer}
+use Rattle.planfile.specs.Fields.{number-at, parent-place, kind-place, width-place, depth-place, length-place, rank-place, start-place, begin-place, count-place, allowance-place, mark-place}
 
--- numbers of two bytes have the low byte first
-unfoldable pub pair : List ℕ → ℕ → ℕ
-pair f at = getD f at 0 + 256 * getD f (at + 1) 0
-
--- the trailer, the last 8 bytes, which points back: bytes 0-1 the place where the records begin, 2-3 n, 4-5 the allowance, 6-7 the mark
+-- the trailer, the last 8 bytes, which points back
 unfoldable pub trailer-of : List ℕ → Trailer
 trailer-of f =
     let at = length f - trailer-size in
-    record { begin = pair f at; count = pair f (at + 2); allowance = pair f (at + 4); mark = pair f (at + 6) }
+    record { begin = number-at begin-place f at; count = number-at count-place f at; allowance = number-at allowance-place f at; mark = number-at mark-place f at }
 
 -- the mark decides the form
 abbrev pub form : List ℕ → Form
 form f = form-of (trailer-of f .mark)
 
--- the record at a place. Old form: bytes 0-1 father, 2 kind, 3 W, 4 D, 5 label length, 6-7 label start;
--- wide form: 0-1 father, 2 kind, 3 D, 4-5 W, 6 label length, 7 rank (document 02, E13; the old form has 0), 8-9 label start
+-- the record at a place
 unfoldable pub record-at : Form → List ℕ → ℕ → Record
-record-at Old f at =
+record-at form f at =
     record {
-      parent = pair f at;
-      kind = getD f (at + 2) 0;
-      width = getD f (at + 3) 0;
-      depth = getD f (at + 4) 0;
-      rank = 0;
-      «label_length» = getD f (at + 5) 0;
-      «label_start» = pair f (at + 6);
-    }
-record-at Wide f at =
-    record {
-      parent = pair f at;
-      kind = getD f (at + 2) 0;
-      depth = getD f (at + 3) 0;
-      width = pair f (at + 4);
-      rank = getD f (at + 7) 0;
-      «label_length» = getD f (at + 6) 0;
-      «label_start» = pair f (at + 8);
+      parent = number-at (parent-place form) f at;
+      kind = number-at (kind-place form) f at;
+      width = number-at (width-place form) f at;
+      depth = number-at (depth-place form) f at;
+      rank = number-at (rank-place form) f at;
+      «label_length» = number-at (length-place form) f at;
+      «label_start» = number-at (start-place form) f at;
     }
 
 -- record c of the file

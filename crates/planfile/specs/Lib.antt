@@ -1,3 +1,4 @@
+pub mod Fields
 pub mod Format
 pub mod Reading
 pub mod FileSteps

@@ -7,7 +7,8 @@ ghost use Prim.Native.Nat.{_+_, _*_, _≤_, _<_};
 ghost use lib.ListN.{length, getD};
 ghost use Rattle.plan.specs.Limits.{«old-size», «wide-size»};
 ghost use Rattle.plan.specs.Forms.{«record-size»};
-ghost use Rattle.planfile.specs.Format.{pair, «record-at»};
+ghost use Rattle.planfile.specs.Fields.{pair};
+ghost use Rattle.planfile.specs.Format.{«record-at»};
 
 pub struct Cursor {
     pub at: usize,

@@ -1,6 +1,6 @@
 // The plan file: Read, Label and Label's refusal.
 mod cursor;
-mod questions;
+pub mod questions;
 mod table;
 
 use crate::cursor::Cursor;

@@ -65,7 +65,7 @@ fn printable(letter: u8) -> bool
 }
 
 // Question 5. No way out of the loop, so that the compiler tests many bytes at once.
-fn letters_printable(file: &[u8], begin: usize) -> bool
+pub fn letters_printable(file: &[u8], begin: usize) -> bool
     requires { ⌜ begin ≤ length (now file) ⌝ }
     ensures { λ r. ⌜ r ≡ every (between first-letter last-letter) (take begin (now (file .entry))) ⌝ }
 {
@@ -110,7 +110,7 @@ fn record_refusal(
 }
 
 // Questions 6 to 10, record by record.
-fn records_refusal<'a>(
+pub fn records_refusal<'a>(
     form: Form,
     begin: usize,
     parents: &'a [u16; MOST_CELLS],

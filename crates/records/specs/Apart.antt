@@ -7,6 +7,7 @@ use lib.ListN.{length, getD, set, replicate}
 use Rattle.plan.specs.Limits.{most-cells}
 use Rattle.plan.specs.declared.Record.{Record}
 use Rattle.plan.specs.declared.Columns.{Columns}
+use Rattle.plan.specs.declared.Lettered.{Lettered}
 use Rattle.planfile.specs.Reading.{column}
 
 -- stands past the end of a table
@@ -37,10 +38,28 @@ clipped count = cond (ltb most-cells count) 0 count
 abbrev pub lent-columns : List Record → Columns
 lent-columns t = columns t (length t) (clipped (length t))
 
--- ---- as the code makes them
-abbrev pub blank : ℕ → Columns
-blank count = record { count = count; parent = replicate most-cells 0; kind = replicate most-cells 0; width = replicate most-cells 0; depth = replicate most-cells 0; rank = replicate most-cells 0 }
+-- those and the columns of the label fields
+unfoldable pub lettering : List Record → (count n : ℕ) → Lettered
+lettering t count n =
+    record { columns = columns t count n; «label_length» = column (λ c. lent-at t c .«label_length») n; «label_start» = column (λ c. lent-at t c .«label_start») n }
 
-abbrev pub with-record : Columns → ℕ → Record → Columns
-with-record t c r =
-    record { count = t .count; parent = set (t .parent) c (r .parent); kind = set (t .kind) c (r .kind); width = set (t .width) c (r .width); depth = set (t .depth) c (r .depth); rank = set (t .rank) c (r .rank) }
+abbrev pub lent-lettered : List Record → Lettered
+lent-lettered t = lettering t (length t) (clipped (length t))
+
+-- ---- as the code makes them
+abbrev pub blank : ℕ → Lettered
+blank count =
+    record {
+      columns = record { count = count; parent = replicate most-cells 0; kind = replicate most-cells 0; width = replicate most-cells 0; depth = replicate most-cells 0; rank = replicate most-cells 0 };
+      «label_length» = replicate most-cells 0;
+      «label_start» = replicate most-cells 0;
+    }
+
+abbrev pub with-record : Lettered → ℕ → Record → Lettered
+with-record l c r =
+    let t = l .columns in
+    record {
+      columns = record { count = t .count; parent = set (t .parent) c (r .parent); kind = set (t .kind) c (r .kind); width = set (t .width) c (r .width); depth = set (t .depth) c (r .depth); rank = set (t .rank) c (r .rank) };
+      «label_length» = set (l .«label_length») c (r .«label_length»);
+      «label_start» = set (l .«label_start») c (r .«label_start»);
+    }

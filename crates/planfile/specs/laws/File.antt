@@ -9,7 +9,7 @@ use Rattle.plan.specs.Limits.{most-cells, most-allowance}
 use Rattle.plan.specs.Lists.{from, some, mem}
 use Rattle.plan.specs.Plan.{Cell, Table, blank, parent, kind, W, D}
 use Rattle.plan.specs.Records.{bare, cells-of}
-use Rattle.plan.specs.Questions.{Buffer, to-fill, Subject, nothing, named, Call, Given, Step, read, label, no-label, parent-lower, kind-known, box-sized, label-inside, label-fits, children-allowed, level-low, rows-few, each, sequence, puts, root-too, number, enough, roomy, all-roomy, in-table, in-file, widest-in, holds, asked, or-else, at-each, ask, refusal}
+use Rattle.plan.specs.Questions.{Buffer, to-fill, Subject, nothing, named, Call, Given, Step, read, label, no-label, parent-lower, kind-known, box-sized, label-inside, label-fits, children-allowed, level-low, rows-few, each, sequence, puts, root-too, number, enough, roomy, all-roomy, in-table, in-file, on-labels, widest-in, holds, asked, or-else, at-each, ask, refusal}
 use Rattle.plan.specs.laws.Columns.{length-from, getD-from}
 use Rattle.plan.specs.laws.Questions.{each-same}
 use Rattle.plan.specs.laws.Kept.{asked-last, asked-true, none-first, and-true, or-assoc, put, with-each, kept, all-of, in-turn, refusal-kept, turn-ends, turn-once, turn-tree}
@@ -73,7 +73,7 @@ module _ (f : List ℕ) where
     g = file-given f bs s
 
     at-record : (c : ℕ) → c < n → all-of call g (parent-lower ∷ kind-known ∷ box-sized ∷ label-inside ∷ label-fits ∷ []) c ≡ entry-refusal f c
-    unfolding all-of ask holds number in-file widest-in file-given cell-refusal record-refusal
+    unfolding all-of ask holds number in-file on-labels widest-in file-given cell-refusal record-refusal
     at-record c h = rw (parent-is c h, kind-is c h, width-is c h, depth-is c h, label-is c h) (simp (or-assoc, asked-last 9))
 
     turn-body : (ss : List Step) → in-turn call g (each (parent-lower ∷ kind-known ∷ box-sized ∷ label-inside ∷ label-fits ∷ []) ∷ each (children-allowed ∷ []) ∷ each (level-low ∷ []) ∷ each (rows-few ∷ []) ∷ ss)
@@ -85,7 +85,7 @@ module _ (f : List ℕ) where
 
   -- ---- Read
   pub read-refusal : (room : ℕ) → refusal read (file-given f (to-fill room ∷ []) nothing) ≡ or-else (asked 1 (leb most-cells room) 0) (file-refusal f)
-  unfolding kept put with-each sequence number puts mem some from ask holds roomy all-roomy enough in-file file-given file-refusal header-refusal body-refusal
+  unfolding kept put with-each sequence number puts mem some from ask holds roomy all-roomy enough in-file on-labels file-given file-refusal header-refusal body-refusal
   read-refusal room =
       let bs = to-fill room ∷ [] in
       let g = file-given f bs nothing in
@@ -94,7 +94,7 @@ module _ (f : List ℕ) where
 
   -- ---- Label
   pub label-refusal-is : (c : ℕ) → label-refusal f c ≡ or-else (file-refusal f) (asked 16 (ltb c n) 0)
-  unfolding label-refusal kept put with-each sequence number puts mem some from ask holds enough in-table in-file root-too file-given file-refusal header-refusal body-refusal
+  unfolding label-refusal kept put with-each sequence number puts mem some from ask holds enough in-table in-file on-labels root-too file-given file-refusal header-refusal body-refusal
   label-refusal-is c =
       let g = file-given f [] (named c) in
       refusal-kept label g

@@ -11,7 +11,8 @@ use Rattle.plan.specs.laws.Form.{no-records, next-record}
 use Rattle.plan.specs.declared.Record.{Record}
 use Rattle.plan.specs.declared.forms.Form.{Form}
 use Rattle.plan.specs.declared.forms.Form.the-variants.{Old, Wide}
-use Rattle.planfile.specs.Format.{pair, record-at, trailer-of}
+use Rattle.planfile.specs.Fields.{pair, number-at, parent-place, kind-place, width-place, depth-place, length-place, rank-place, start-place, begin-place, count-place, allowance-place, mark-place}
+use Rattle.planfile.specs.Format.{record-at, trailer-of}
 use Rattle.planfile.specs.Reading.{column, columns-of}
 use Rattle.planfile.specs.declared.Reading.{Reading}
 use Rattle.plan.specs.Questions.{none}
@@ -20,8 +21,9 @@ use Rattle.planfile.specs.declared.Trailer.{Trailer}
 pub read-old : (f : List ℕ) (at a b c d e p k w h l s : ℕ) → p ≡ pair f at → a ≡ at + 2 → k ≡ getD f a 0 → b ≡ a + 1 → w ≡ getD f b 0 → c ≡ b + 1 → h ≡ getD f c 0
     → d ≡ c + 1 → l ≡ getD f d 0 → e ≡ d + 1 → s ≡ pair f e
     → _≡_ {A = Record} (record { parent = p; kind = k; width = w; depth = h; rank = 0; «label_length» = l; «label_start» = s }) (record-at Old f at)
-unfolding record-at
+unfolding record-at number-at parent-place kind-place width-place depth-place length-place rank-place start-place
 read-old f at a b c d e p k w h l s ep ea ek eb ew ec eh ed el ee es =
+    let z : at + 0 ≡ at = omega arith in
     let b′ : b ≡ at + 3 = omega arith in
     let c′ : c ≡ at + 4 = omega arith in
     let d′ : d ≡ at + 5 = omega arith in
@@ -31,8 +33,9 @@ read-old f at a b c d e p k w h l s ep ea ek eb ew ec eh ed el ee es =
 pub read-wide : (f : List ℕ) (at a b c d e g p k h w l z s : ℕ) → p ≡ pair f at → a ≡ at + 2 → k ≡ getD f a 0 → b ≡ a + 1 → h ≡ getD f b 0 → c ≡ b + 1 → w ≡ pair f c
     → d ≡ c + 2 → l ≡ getD f d 0 → e ≡ d + 1 → z ≡ getD f e 0 → g ≡ e + 1 → s ≡ pair f g
     → _≡_ {A = Record} (record { parent = p; kind = k; width = w; depth = h; rank = z; «label_length» = l; «label_start» = s }) (record-at Wide f at)
-unfolding record-at
+unfolding record-at number-at parent-place kind-place width-place depth-place length-place rank-place start-place
 read-wide f at a b c d e g p k h w l z s ep ea ek eb eh ec ew ed el ee ez eg es =
+    let z : at + 0 ≡ at = omega arith in
     let b′ : b ≡ at + 3 = omega arith in
     let c′ : c ≡ at + 4 = omega arith in
     let d′ : d ≡ at + 6 = omega arith in
@@ -42,8 +45,9 @@ read-wide f at a b c d e g p k h w l z s ep ea ek eb eh ec ew ed el ee ez eg es 
 
 pub read-trailer : (f : List ℕ) (at a b c s n al m : ℕ) → at ≡ length f - trailer-size → s ≡ pair f at → a ≡ at + 2 → n ≡ pair f a → b ≡ a + 2 → al ≡ pair f b → c ≡ b + 2 → m ≡ pair f c
     → _≡_ {A = Trailer} (record { begin = s; count = n; allowance = al; mark = m }) (trailer-of f)
-unfolding trailer-of
-read-trailer f at a b c s n al m z es ea en eb el ec em =
+unfolding trailer-of number-at begin-place count-place allowance-place mark-place
+read-trailer f at a b c s n al m q es ea en eb el ec em =
+    let z : at + 0 ≡ at = omega arith in
     let b′ : b ≡ at + 4 = omega arith in
     let c′ : c ≡ at + 6 = omega arith in
     cc

@@ -19,7 +19,7 @@ use Rattle.plan.specs.laws.Columns.{table-length}
 use Rattle.plan.specs.declared.Record.{Record}
 use Rattle.planfile.specs.Reading.{column}
 use Rattle.planfile.specs.laws.Examined.{column-at}
-use Rattle.records.specs.Apart.{lent-at, columns, clipped, lent-columns, blank, with-record}
+use Rattle.records.specs.Apart.{lent-at, columns, clipped, lent-columns, lettering, blank, with-record}
 
 -- ---- record by record
 pub clipped-fits : (n : ℕ) → (clipped n ≤ n) × (clipped n ≤ most-cells)
@@ -30,13 +30,17 @@ clipped-fits n = go (ltb most-cells n) refl
     go true e = (zero-le, zero-le)
     go false e = (le-refl n, ltb-false most-cells n e)
 
-pub columns-none : (t : List Record) (n : ℕ) → blank n ≡ columns t n 0
-unfolding columns column
-columns-none t n = refl
+pub lettering-none : (t : List Record) (n : ℕ) → blank n ≡ lettering t n 0
+unfolding lettering columns column
+lettering-none t n = refl
 
-pub columns-more : (t : List Record) (n c : ℕ) → with-record (columns t n c) c (lent-at t c) ≡ columns t n (c + 1)
-unfolding columns column
-columns-more t n c = rw add-one
+pub lettering-more : (t : List Record) (n c : ℕ) → with-record (lettering t n c) c (lent-at t c) ≡ lettering t n (c + 1)
+unfolding lettering columns column
+lettering-more t n c = rw add-one
+
+pub lettering-columns : (t : List Record) (count n : ℕ) → lettering t count n .columns ≡ columns t count n
+unfolding lettering
+lettering-columns t count n = refl
 
 -- ---- the table
 cells-same : (g : ℕ → Cell) (k : ℕ) (t : List Record) → ((c : ℕ) → c < length t → g (k + c) ≡ bare (lent-at t c)) → map g (from k (length t)) ≡ map bare t

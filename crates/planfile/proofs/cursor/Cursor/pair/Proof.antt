@@ -1,5 +1,5 @@
 use mathlib.Core.Path.{_∙_}
-use Rattle.planfile.specs.Format.{pair}
+use Rattle.planfile.specs.Fields.{pair}
 use borrow.Author.Needs.{needs}
 use Rattle.planfile.proofs.cursor.Cursor.pair.Statement.{statement}
 use Rattle.planfile.proofs.cursor.Cursor.pair.Tie as tie
