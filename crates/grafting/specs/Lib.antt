@@ -1,0 +1,2 @@
+pub mod Grafted
+pub mod laws
