@@ -1,10 +1,11 @@
 -- A lent table of records, taken apart into columns. Assumes nothing.
-use mathlib.Core.List.{List}
+use mathlib.Core.List.{List, map}
 use mathlib.Core.Bool.{cond}
 use Prim.Native.Nat.{ℕ}
 use lib.Dec.{ltb}
 use lib.ListN.{length, getD, set, replicate}
 use Rattle.plan.specs.Limits.{most-cells}
+use Rattle.plan.specs.Lists.{from}
 use Rattle.plan.specs.declared.Record.{Record}
 use Rattle.plan.specs.declared.Columns.{Columns}
 use Rattle.plan.specs.declared.Lettered.{Lettered}
@@ -45,6 +46,23 @@ lettering t count n =
 
 abbrev pub lent-lettered : List Record → Lettered
 lent-lettered t = lettering t (length t) (clipped (length t))
+
+-- the record of cell c that stands in columns, and all of them
+abbrev pub row-at : Lettered → ℕ → Record
+row-at l c =
+    let t = l .columns in
+    record {
+      parent = getD (t .parent) c 0;
+      kind = getD (t .kind) c 0;
+      width = getD (t .width) c 0;
+      depth = getD (t .depth) c 0;
+      rank = getD (t .rank) c 0;
+      «label_length» = getD (l .«label_length») c 0;
+      «label_start» = getD (l .«label_start») c 0;
+    }
+
+unfoldable pub records-in : Lettered → List Record
+records-in l = map (row-at l) (from 0 (l .columns .count))
 
 -- ---- as the code makes them
 abbrev pub blank : ℕ → Lettered

@@ -23,8 +23,9 @@ use Rattle.plan.proofs.Columns.Laws as B′
 use Rattle.fitting.proofs.Fitted as L
 use Rattle.fitting.proofs.Fitted.Laws as L′
 use Rattle.engine.proofs.InTurn.{Told, Answered, Calling, Follows}
-use Rattle.engine.proofs.Lent.{meets-lent}
+use Rattle.engine.proofs.Lent.{by-columns, columned, meets-lent}
 use Rattle.records.proofs.columns_of.Symbol as apart
+use Rattle.records.proofs.columns_of.Met as apart-thm
 use Rattle.fitting.proofs.frame.Symbol as core
 use Rattle.fitting.proofs.frame.Met as core-thm
 use Rattle.engine.proofs.frame.Key as own
@@ -58,7 +59,7 @@ module _ {M : Type 1} (𝓤 : URA M) (H : Heap 𝓤) (A : Atoms 𝓤) (W : Given
 pub frame-spec : {M : Type 1} → stated.statement M
 unfolding code.routine
 frame-spec 𝓤 H 𝓜 𝓖 𝓡 =
-    meets-lent 𝓤 H 𝓜 𝓖 𝓡 code.env own.name core.name code.function (code.unfolded 𝓤 H 𝓜 𝓡) core.routine code.calls-records·columns-of code.calls-fitting·frame L′.mir
+    meets-lent by-columns 𝓤 H 𝓜 𝓖 𝓡 code.env own.name core.name code.function (code.unfolded 𝓤 H 𝓜 𝓡) apart.routine core.routine code.calls-records·columns-of code.calls-fitting·frame (apart-thm.met 𝓤 H 𝓜 𝓖 𝓡) (columned 𝓤 H (𝓖 .A) (givenOf 𝓤 H 𝓜 𝓖)) L′.mir
     1 others L.the-row (λ r u is. EL.lawful L.the-type L′.the-laws 𝓤 H (𝓖 .A) (givenOf 𝓤 H 𝓜 𝓖) tt .typed r _ is .0)
     (λ κs t a e r. Frames t (a .0) (a .1 .0 .now) (e .1 .0 .now) r)
     (λ κs t c q a e r. frame-lent t c q (a .0) (a .1 .0 .now) (e .1 .0 .now) r) (λ κ. core-thm.met 𝓤 H 𝓜 𝓖 𝓡)

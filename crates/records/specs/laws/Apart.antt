@@ -15,11 +15,12 @@ use Rattle.plan.specs.Lists.{from}
 use Rattle.plan.specs.Plan.{Cell, Table}
 use Rattle.plan.specs.Records.{bare, cells-of}
 use Rattle.plan.specs.Columns.{table, table-of}
-use Rattle.plan.specs.laws.Columns.{table-length}
+use Rattle.plan.specs.laws.Columns.{table-length, length-from}
 use Rattle.plan.specs.declared.Record.{Record}
+use Rattle.plan.specs.declared.Lettered.{Lettered}
 use Rattle.planfile.specs.Reading.{column}
 use Rattle.planfile.specs.laws.Examined.{column-at}
-use Rattle.records.specs.Apart.{lent-at, columns, clipped, lent-columns, lettering, blank, with-record}
+use Rattle.records.specs.Apart.{lent-at, columns, clipped, lent-columns, lettering, lent-lettered, row-at, records-in, blank, with-record}
 
 -- ---- record by record
 pub clipped-fits : (n : ℕ) → (clipped n ≤ n) × (clipped n ≤ most-cells)
@@ -71,3 +72,33 @@ of-records P t same p = go (decLe (length t) most-cells)
     go (no h) =
         let e : length (cells-of t) ≡ length t = unfold cells-of in length-map t bare in
         same _ (cells-of t) (omega (arith, apart-length t)) (omega arith) p
+
+-- ---- the records themselves
+rows-same : (g : ℕ → Record) (k : ℕ) (t : List Record) → ((c : ℕ) → c < length t → g (k + c) ≡ lent-at t c) → map g (from k (length t)) ≡ t
+unfolding from
+rows-same g k [] h = refl
+rows-same g k (r ∷ t) h =
+    let e : k + 0 ≡ k = omega arith in
+    let a : g k ≡ r = rw e at (h 0 (omega arith)) in
+    cc (a, rows-same g (suc k) t (λ c l. let e : k + suc c ≡ suc k + c = omega arith in rw e at (h (suc c) (omega arith))))
+
+pub apart-records : (t : List Record) → length t ≤ most-cells → records-in (lent-lettered t) ≡ t
+unfolding records-in lettering columns clipped
+apart-records t h =
+    rw (le-ltb most-cells (length t) h) (rows-same _ 0 t (λ c l.
+    rw (zero-add, column-at (λ c. lent-at t c .parent) _ c h l, column-at (λ c. lent-at t c .kind) _ c h l, column-at (λ c. lent-at t c .width) _ c h l, column-at (λ c. lent-at t c .depth) _ c h l, column-at (λ c. lent-at t c .rank) _ c h l,
+    column-at (λ c. lent-at t c .«label_length») _ c h l, column-at (λ c. lent-at t c .«label_start») _ c h l)))
+
+pub records-length : (l : Lettered) → length (records-in l) ≡ l .columns .count
+unfolding records-in
+records-length l = length-from (row-at l) 0 (l .columns .count)
+
+-- what a call on the columns does, it does on the records, if runs that are too long are all one to it
+pub of-lettered : (P : List Record → Type 0) (t : List Record) → ((u v : List Record) → most-cells < length u → most-cells < length v → P u → P v) → P (records-in (lent-lettered t)) → P t
+of-lettered P t same p = go (decLe (length t) most-cells)
+  where
+    go : Dec (length t ≤ most-cells) → P t
+    go (yes h) = subst P (apart-records t h) p
+    go (no h) =
+        let e : lent-lettered t .columns .count ≡ length t = unfold lettering columns in refl in
+        same _ t (omega (arith, records-length (lent-lettered t))) (omega arith) p

@@ -1,0 +1,3 @@
+pub mod Content
+pub mod Clean
+pub mod laws
