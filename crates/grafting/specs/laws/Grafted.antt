@@ -12,12 +12,19 @@ use Rattle.plan.specs.Limits.{most-cells}
 use Rattle.plan.specs.Plan.{Cell, Table, blank, parent, kind, W, D, rank}
 use Rattle.plan.specs.Columns.{table-of}
 use Rattle.plan.specs.laws.Tables.{length-is, parent-is, kind-is, width-is, depth-is, rank-is}
+use Rattle.plan.specs.Questions.{none}
 use Rattle.plan.specs.declared.Columns.{Columns}
+use Rattle.plan.specs.declared.Lettered.{Lettered}
+use Rattle.plan.specs.declared.Refusal.{Refusal}
+use Rattle.planfile.specs.declared.Reading.{Reading}
 use Rattle.planfile.specs.Reading.{column}
+use Rattle.planfile.specs.FileSteps.{blank-reading}
 use Rattle.planfile.specs.laws.Examined.{column-at}
 use Rattle.graft.specs.Joined.{joined}
 use Rattle.graft.specs.laws.Joined.{length-joined, first-parent, first-kind, first-width, first-depth, first-rank, root-parent, second-parent, second-kind, second-width, second-depth, second-rank}
-use Rattle.grafting.specs.Grafted.{picked, picked-parent, grafted, Hangs, Graftable}
+use Rattle.grafting.specs.declared.Graft.{Graft}
+use Rattle.grafting.specs.declared.JoinAnswer.the-variants.{Plan, Refused}
+use Rattle.grafting.specs.Grafted.{picked, picked-parent, grafted, Hangs, Graftable, refused, accepted}
 
 -- ---- one number
 module _ (n : ℕ) (xs ys : List ℕ) (i : ℕ) where
@@ -50,6 +57,9 @@ pub column-more : (f : ℕ → ℕ) (k : ℕ) (xs : List ℕ) (v : ℕ) → xs �
 unfolding column
 column-more f k xs v e q = rw (add-one, e, q)
 
+pub column-all : (f : ℕ → ℕ) (i k : ℕ) (xs : List ℕ) → xs ≡ column f i → i ≡ k → xs ≡ column f k
+column-all f i k xs e q = rw (← q) e
+
 pub hangs-at : (us : List ℕ) (n c k i : ℕ) → Hangs us n c k → i < k → (i < most-cells) × (n ≤ most-cells) × (c < most-cells) × (n < i → getD us (i - n) 0 < most-cells)
 hangs-at us n c k i h l = (omega (arith, h .few), h .first, h .named, λ p. h .lower i p l)
 
@@ -61,6 +71,24 @@ graftable-hangs t u c g =
       named = omega (arith, g .few, g .named);
       lower = λ i p l. omega (arith, g .lower (i - t .count) (omega arith) (omega arith), g .few);
     }
+
+-- ---- put together
+pub columns-are : (t u : Columns) (c : ℕ) (ps ks ws ds qs : List ℕ) → ps ≡ column (picked-parent (t .count) c (t .parent) (u .parent)) (t .count + u .count)
+    → ks ≡ column (picked (t .count) (t .kind) (u .kind)) (t .count + u .count) → ws ≡ column (picked (t .count) (t .width) (u .width)) (t .count + u .count)
+    → ds ≡ column (picked (t .count) (t .depth) (u .depth)) (t .count + u .count) → qs ≡ column (picked (t .count) (t .rank) (u .rank)) (t .count + u .count)
+    → _≡_ {A = Columns} (record { count = t .count + u .count; parent = ps; kind = ks; width = ws; depth = ds; rank = qs }) (grafted t u c)
+unfolding grafted
+columns-are t u c ps ks ws ds qs p k w d q = rw (p, k, w, d, q)
+
+pub refuses : (r : Refusal) (x : Reading) → x ≡ blank-reading r → _≡_ {A = Graft} (record { reading = x; answer = Refused (r .number) (r .cell) }) (refused r)
+unfolding refused
+refuses r x e = rw e
+
+pub accepts : (t u : Lettered) (j : Columns) (ls ss : List ℕ) → ls ≡ column (picked (t .columns .count) (t .«label_length») (u .«label_length»)) (j .count)
+    → ss ≡ column (picked (t .columns .count) (t .«label_start») (u .«label_start»)) (j .count)
+    → _≡_ {A = Graft} (record { reading = record { refusal = none; allowance = 0; columns = j; «label_length» = ls; «label_start» = ss }; answer = Plan (j .count) }) (accepted t u j)
+unfolding accepted
+accepts t u j ls ss p q = rw (p, q)
 
 -- ---- the table that they make
 cell-same : (x y : Cell) → x .parent ≡ y .parent → x .kind ≡ y .kind → x .width ≡ y .width → x .depth ≡ y .depth → x .rank ≡ y .rank → x ≡ y
