@@ -1,49 +1,48 @@
+use mathlib.Core.Path.{_∙_}
+use Rattle.grafting.specs.laws.Asked.{ready-read, low-of, flat-of, stopped, stopped-later, joins}
 use borrow.Author.Needs.{needs}
 use Rattle.grafting.proofs.join.Statement.{statement}
 use Rattle.grafting.proofs.join.Tie as tie
-use Rattle.grafting.proofs.join.Reads as reads
-use Rattle.grafting.proofs.join.Lts as lts
-use Rattle.asking.proofs.tree_refusal.Reads as tree-refusal-reads
-use Rattle.grafting.proofs.accept.Reads as accept-reads
-use Rattle.grafting.proofs.join_columns.Reads as join-columns-reads
-use Rattle.grafting.proofs.ready.Reads as ready-reads
-use Rattle.grafting.proofs.refuse.Reads as refuse-reads
 
--- src/lib.rt:224:9
 ready-requires : tie.Need-ready-requires
 ready-requires c κs = search needs
 
--- src/lib.rt:226:9
 refuse-requires : tie.Need-refuse-requires
 refuse-requires c κs = search needs
 
--- src/lib.rt:226:9
 returns : tie.Need-returns
-returns c = search needs
+returns c =
+    let a = c .before .before .before .before .args in
+    c .refuse .ensures ∙ stopped (a .first) (a .second) (a .cell) (a .room) _ (c .before .before .before .ready .ensures) (c .before .if1 .taken)
 
--- src/lib.rt:228:13
 join-columns-requires : tie.Need-join-columns-requires
-join-columns-requires c κs = search needs
+join-columns-requires c κs =
+    let a = c .before .before .before .args in
+    (ready-read (a .first .columns) (a .second .columns) (a .cell) (a .room) _ (c .before .before .ready .ensures) (c .if1 .left)) .able
 
--- src/lib.rt:229:9
 tree-refusal-requires : tie.Need-tree-refusal-requires
-tree-refusal-requires c κs = search needs
+tree-refusal-requires c κs =
+    let a = c .before .before .before .before .before .before .before .before .args in
+    let h = ready-read (a .first .columns) (a .second .columns) (a .cell) (a .room) _ (c .before .before .before .before .before .before .before .ready .ensures) (c .before .before .before .before .before .if1 .left) in
+    (low-of (a .first .columns) (a .second .columns) (a .cell) h _ (c .before .before .before .before .join-columns .ensures), flat-of (a .first .columns) (a .second .columns) (a .cell) h _ (c .before .before .before .before .join-columns .ensures))
 
--- src/lib.rt:231:9
 refuse-requires-2 : tie.Need-refuse-requires-2
 refuse-requires-2 c κs = search needs
 
--- src/lib.rt:231:9
 returns-2 : tie.Need-returns-2
-returns-2 c = search needs
+returns-2 c =
+    let a = c .before .before .before .before .before .before .before .before .before .before .before .before .args in
+    c .refuse2 .ensures ∙ stopped-later (a .first) (a .second) (a .cell) (a .room) _ (c .before .before .before .before .before .before .before .before .before .before .before .ready .ensures) (c .before .before .before .before .before .before .before .before .before .if1 .left) _ (c .before .before .before .before .before .before .before .before .join-columns .ensures) _ (c .before .before .before .tree-refusal .ensures _ _) (c .before .if2 .taken)
 
--- src/lib.rt:233:5
 accept-requires : tie.Need-accept-requires
-accept-requires c κs = search needs
+accept-requires c κs =
+    let a = c .before .before .before .before .before .before .before .before .before .before .before .args in
+    (low-of (a .first .columns) (a .second .columns) (a .cell) (ready-read (a .first .columns) (a .second .columns) (a .cell) (a .room) _ (c .before .before .before .before .before .before .before .before .before .before .ready .ensures) (c .before .before .before .before .before .before .before .before .if1 .left)) _ (c .before .before .before .before .before .before .before .join-columns .ensures)) .few
 
--- src/lib.rt:221:1
 returns-3 : tie.Need-returns-3
-returns-3 c = search needs
+returns-3 c =
+    let a = c .before .before .before .before .before .before .before .before .before .before .before .before .args in
+    c .accept .ensures ∙ joins (a .first) (a .second) (a .cell) (a .room) _ (c .before .before .before .before .before .before .before .before .before .before .before .ready .ensures) (c .before .before .before .before .before .before .before .before .before .if1 .left) _ (c .before .before .before .before .before .before .before .before .join-columns .ensures) _ (c .before .before .before .tree-refusal .ensures _ _) (c .before .if2 .left)
 
 pub join-spec : {M : Type 1} → statement M
 join-spec =
