@@ -2,23 +2,28 @@
 use checker::Checked;
 use ends::Ended;
 use fitting::Fitted;
+use grafting::JoinAnswer;
 use layout::Laid;
+use plan::Lettered;
 use plan::Record;
 use plan::Refusal;
 use planfile::Reading;
 use printing::Listed;
 use records::columns_of;
 use records::fill;
+use records::lettered_of;
 ghost use mathlib.Core.Path.{_≡_};
 ghost use Rattle.plan.specs.Records.{«cells-of»};
 ghost use Rattle.planfile.specs.Reading.{«label-refusal»};
 ghost use Rattle.layout.specs.Laid.{Lays};
 ghost use Rattle.fitting.specs.Fitted.{Frames};
+ghost use Rattle.grafting.specs.Joins.{Joins};
 ghost use Rattle.checker.specs.Checked.{«checked-of»};
 ghost use Rattle.ends.specs.Ended.{«ended-of»};
 ghost use Rattle.printing.specs.Printing.{Lists};
 ghost use Rattle.engine.specs.Read.{Reads, «read-of»};
 ghost use Rattle.engine.specs.Label.{«label-of»};
+ghost use Rattle.engine.specs.Hung.{Hangs};
 
 // The number of cells and the allowance; or the refusal's number and cell.
 pub enum ReadAnswer {
@@ -111,4 +116,23 @@ pub fn frame(table: &[Record], squares: u32, scratch: &mut [u32]) -> Fitted
 {
     let t = columns_of(table);
     fitting::frame(t, squares, scratch)
+}
+
+// The joined records of two tables that were taken apart are written into the table to fill.
+fn hang(first: Lettered, second: Lettered, cell: usize, table: &mut [Record]) -> JoinAnswer
+    ensures { λ r. ⌜ Hangs first second cell (now (table .entry)) (now (table .exit)) r ⌝ }
+{
+    let graft = grafting::join(first, second, cell, table.len());
+    let reading = graft.reading;
+    fill(reading, reading.columns.count, table);
+    graft.answer
+}
+
+// Join: the second plan, hung under a cell of the first, is written into the table to fill; how many records, or the refusal.
+pub fn join(first: &[Record], second: &[Record], cell: usize, table: &mut [Record]) -> JoinAnswer
+    ensures { λ r. ⌜ Joins (now (first .entry)) (now (second .entry)) cell (now (table .entry)) (now (table .exit)) r ⌝ }
+{
+    let a = lettered_of(first);
+    let b = lettered_of(second);
+    hang(a, b, cell, table)
 }

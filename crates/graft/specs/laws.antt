@@ -1,3 +1,4 @@
+pub mod Crowded
 pub mod FirstNo
 pub mod Hung
 pub mod Joined
