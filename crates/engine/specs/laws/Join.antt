@@ -121,12 +121,16 @@ module _ (a b : Lettered) (c : ℕ) (few : a .columns .count + b .columns .count
       made-second j (n + getD (b .columns .parent) j 0) (omega arith) (sym (rw e at (parent-second n (a .columns .parent) (b .columns .parent) (n + j) c (omega arith) (omega arith))))
 
 -- a record in the columns of a table that is not too long
+row-in : (l : Lettered) (i : ℕ) → i < l .columns .count → lent-at (records-in l) i ≡ row-at l i
+unfolding records-in
+row-in l i h = rw zero-add at (getD-from (row-at l) no-record 0 (l .columns .count) i h)
+
+count-is : (t : List Record) → lent-lettered t .columns .count ≡ length t
+unfolding lettering columns
+count-is t = refl
+
 row-is : (t : List Record) → length t ≤ most-cells → (i : ℕ) → i < length t → row-at (lent-lettered t) i ≡ lent-at t i
-row-is t h i l =
-    let q : lent-lettered t .columns .count ≡ length t = unfold lettering columns in refl in
-    let e : getD (records-in (lent-lettered t)) i no-record ≡ row-at (lent-lettered t) i
-    = unfold records-in in rw zero-add at (getD-from (row-at (lent-lettered t)) no-record 0 (lent-lettered t .columns .count) i (omega arith)) in
-    sym e ∙ ap (λ (x : List Record). lent-at x i) (apart-records t h)
+row-is t h i l = sym (row-in (lent-lettered t) i (let q = count-is t in omega arith)) ∙ ap (λ (x : List Record). lent-at x i) (apart-records t h)
 
 all-of : (xs : List Record) → map (lent-at xs) (from 0 (length xs)) ≡ xs
 all-of xs = ext-getD no-record _ _ (length-from (lent-at xs) 0 (length xs)) (λ i h. rw zero-add at (getD-from (lent-at xs) no-record 0 (length xs) i (let e = length-from (lent-at xs) 0 (length xs) in omega arith)))
@@ -143,8 +147,7 @@ module _ (t u : List Record) (c : ℕ) (o : List Record) where
   why = join-refusal (length o) (cells-of t) (cells-of u) c
 
   counts : (A .columns .count ≡ length t) × (B .columns .count ≡ length u)
-  unfolding lettering columns
-  counts = (refl, refl)
+  counts = (count-is t, count-is u)
 
   same-refusal : stop (length o) A B c ≡ why
   unfolding lettering
@@ -161,27 +164,41 @@ module _ (t u : List Record) (c : ℕ) (o : List Record) where
     few-all : A .columns .count + B .columns .count ≤ most-cells
     few-all = let (p, q) = counts in omega (arith, sizes)
 
-    record-is : (i : ℕ) → i < length t + length u → record-in (made A B c few-all) i ≡ lent-at (joined-records t u c) i
+    first-few : length t ≤ most-cells
+    first-few = omega (arith, sizes)
+
+    second-few : length u ≤ most-cells
+    second-few = omega (arith, sizes)
+
+    -- the second's, by the first's count
+    there : (j : ℕ) → A .columns .count + j ≡ length t + j
+    there j = ap (λ (k : ℕ). k + j) (count-is t)
+
+    root-is : record-in (made A B c few-all) (length t + 0) ≡ lent-at (joined-records t u c) (length t + 0)
     unfolding joined-records
-    record-is i h = go (decLt i (length t))
+    root-is =
+        let l : 0 < length u = omega (arith, sizes) in
+        ap (record-in (made A B c few-all)) (sym (there 0)) ∙ made-root A B c few-all (let q = counts .1 in omega arith)
+        ∙ ap (record-under c) (row-is u second-few 0 l) ∙ sym (behind-root father record-under t u c no-record l)
+
+    later-is : (j : ℕ) → 1 ≤ j → j < length u → record-in (made A B c few-all) (length t + j) ≡ lent-at (joined-records t u c) (length t + j)
+    unfolding joined-records
+    later-is j p l =
+        ap (record-in (made A B c few-all)) (sym (there j)) ∙ made-later A B c few-all j p (let q = counts .1 in omega arith)
+        ∙ ap (λ (k : ℕ). raised father record-under k (row-at B j)) (count-is t) ∙ ap (raised father record-under (length t)) (row-is u second-few j l)
+        ∙ sym (behind-later father record-under t u c no-record j p l)
+
+    first-is : (i : ℕ) → i < length t → record-in (made A B c few-all) i ≡ lent-at (joined-records t u c) i
+    unfolding joined-records
+    first-is i l = made-first A B c few-all i (let q = counts .0 in omega arith) ∙ row-is t first-few i l ∙ sym (behind-first father record-under t u c no-record i l)
+
+    record-is : (i : ℕ) → i < length t + length u → record-in (made A B c few-all) i ≡ lent-at (joined-records t u c) i
+    record-is i h = go (decLt i (length t)) (ℕ-discrete i (length t))
       where
-        first-few : length t ≤ most-cells
-        first-few = omega (arith, sizes)
-
-        second-few : length u ≤ most-cells
-        second-few = omega (arith, sizes)
-
-        later : (j : ℕ) → j < length u → record-in (made A B c few-all) (length t + j) ≡ lent-at (joined-records t u c) (length t + j)
-        later zero l =
-            rw (counts .0) at (made-root A B c few-all (let q = counts .1 in omega arith))
-            ∙ ap (record-under c) (row-is u second-few 0 l) ∙ sym (behind-root father record-under t u c no-record l)
-        later (suc j) l =
-            rw (counts .0) at (made-later A B c few-all (suc j) (omega arith) (let q = counts .1 in omega arith))
-            ∙ ap (raised father record-under (length t)) (row-is u second-few (suc j) l) ∙ sym (behind-later father record-under t u c no-record (suc j) (omega arith) l)
-
-        go : Dec (i < length t) → record-in (made A B c few-all) i ≡ lent-at (joined-records t u c) i
-        go (yes l) = made-first A B c few-all i (let q = counts .0 in omega arith) ∙ row-is t first-few i l ∙ sym (behind-first father record-under t u c no-record i l)
-        go (no l) = let e : length t + (i - length t) ≡ i = omega arith in rw e at (later (i - length t) (omega arith))
+        go : Dec (i < length t) → Dec (i ≡ length t) → record-in (made A B c few-all) i ≡ lent-at (joined-records t u c) i
+        go (yes l) d = first-is i l
+        go (no l) (yes e) = let q : length t + 0 ≡ i = omega arith in rw q at root-is
+        go (no l) (no e) = let q : length t + (i - length t) ≡ i = omega arith in rw q at (later-is (i - length t) (omega arith) (omega arith))
 
     all-written : filled (made A B c few-all) (length t + length u) o ≡ joined-records t u c ++ drop (length t + length u) o
     all-written =
