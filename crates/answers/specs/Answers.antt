@@ -27,6 +27,10 @@ use Rattle.answers.specs.declared.CheckAnswer.{CheckAnswer}
 use Rattle.answers.specs.declared.EndsAnswer.{EndsAnswer}
 use Rattle.answers.specs.declared.ListAnswer.{ListAnswer}
 use Rattle.answers.specs.declared.FrameAnswer.{FrameAnswer}
+use Rattle.answers.specs.declared.JoinAnswer.{JoinAnswer}
+use Rattle.grafting.specs.Joins.{Joins}
+use Rattle.grafting.specs.declared.JoinAnswer.{JoinAnswer as Join}
+use Rattle.grafting.specs.declared.JoinAnswer.the-variants.{Plan as Hung, Refused as Unjoined}
 
 unfoldable pub read-answer : Read → ReadAnswer
 read-answer (Plan n al) = record { number = 0; cell = 0; allowance = al; count = n }
@@ -78,3 +82,13 @@ pub record Framing (t : Table) (squares : ℕ) (s s′ : List ℕ) (r : FrameAns
   pub fitted : Fitted
   pub frames : Frames t squares s s′ fitted
   pub answers : r ≡ frame-answer fitted
+
+unfoldable pub join-answer : Join → JoinAnswer
+join-answer (Hung n) = record { number = 0; cell = 0; count = n }
+join-answer (Unjoined k c) = record { number = k; cell = c; count = 0 }
+
+-- a call of Join, as `Joins` has it, with the struct for its answer
+pub record Joining (t u : List Record) (c : ℕ) (o o′ : List Record) (r : JoinAnswer) : Type 0 where
+  pub joined : Join
+  pub joins : Joins t u c o o′ joined
+  pub answers : r ≡ join-answer joined

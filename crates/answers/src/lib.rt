@@ -5,7 +5,7 @@ use fitting::Fitted;
 use layout::Laid;
 use printing::Listed;
 ghost use mathlib.Core.Path.{_≡_};
-ghost use Rattle.answers.specs.Answers.{«read-answer», «laid-answer», «check-answer», «ends-answer», «list-answer», «frame-answer»};
+ghost use Rattle.answers.specs.Answers.{«read-answer», «laid-answer», «check-answer», «ends-answer», «list-answer», «frame-answer», «join-answer»};
 
 // Number and cell of the refusal, or 0 and 0; the number of cells and the allowance.
 #[repr(C)]
@@ -218,6 +218,32 @@ pub fn told_frame(answer: Fitted) -> FrameAnswer
             cell,
             outcome: 0,
             allowance: 0,
+        },
+    }
+}
+
+// Number and cell of the refusal, or 0 and 0; how many records the joined plan has.
+#[repr(C)]
+pub struct JoinAnswer {
+    pub number: u8,
+    pub cell: u16,
+    pub count: usize,
+}
+
+// The answer of Join as a struct.
+pub fn told_join(answer: grafting::JoinAnswer) -> JoinAnswer
+    ensures { λ r. ⌜ r ≡ join-answer answer ⌝ }
+{
+    match answer {
+        grafting::JoinAnswer::Plan(count) => JoinAnswer {
+            number: 0,
+            cell: 0,
+            count: count as usize,
+        },
+        grafting::JoinAnswer::Refused(number, cell) => JoinAnswer {
+            number,
+            cell,
+            count: 0,
         },
     }
 }

@@ -2,6 +2,7 @@
 use answers::CheckAnswer;
 use answers::EndsAnswer;
 use answers::FrameAnswer;
+use answers::JoinAnswer;
 use answers::LabelAnswer;
 use answers::LabelPart;
 use answers::LayoutAnswer;
@@ -10,6 +11,7 @@ use answers::ReadAnswer;
 use answers::told_check;
 use answers::told_ends;
 use answers::told_frame;
+use answers::told_join;
 use answers::told_layout;
 use answers::told_list;
 use answers::told_read;
@@ -19,7 +21,7 @@ ghost use Rattle.plan.specs.Records.{«cells-of»};
 ghost use Rattle.planfile.specs.Reading.{«label-refusal», «label-part»};
 ghost use Rattle.checker.specs.Checked.{«checked-of»};
 ghost use Rattle.ends.specs.Ended.{«ended-of»};
-ghost use Rattle.answers.specs.Answers.{«check-answer», «ends-answer», Filling, Laying, ListFilling, Framing};
+ghost use Rattle.answers.specs.Answers.{«check-answer», «ends-answer», Filling, Laying, ListFilling, Framing, Joining};
 
 #[no_mangle]
 pub extern "C" fn kuzpalen_read(file: &[u8], table: &mut [Record]) -> ReadAnswer
@@ -95,4 +97,12 @@ pub extern "C" fn kuzpalen_frame(table: &[Record], squares: u32, scratch: &mut [
 {
     let answer = engine::frame(table, squares, scratch);
     told_frame(answer)
+}
+
+#[no_mangle]
+pub extern "C" fn kuzpalen_join(first: &[Record], second: &[Record], cell: usize, table: &mut [Record]) -> JoinAnswer
+    ensures { λ r. ⌜ Joining (now (first .entry)) (now (second .entry)) cell (now (table .entry)) (now (table .exit)) r ⌝ }
+{
+    let answer = engine::join(first, second, cell, table);
+    told_join(answer)
 }
