@@ -123,8 +123,8 @@ fn hang(first: Lettered, second: Lettered, cell: usize, table: &mut [Record]) ->
     ensures { λ r. ⌜ Hangs first second cell (now (table .entry)) (now (table .exit)) r ⌝ }
 {
     let graft = grafting::join(first, second, cell, table.len());
-    let reading = graft.reading;
-    fill(reading, reading.columns.count, table);
+    let joined = graft.reading;
+    fill(joined, joined.columns.count, table);
     graft.answer
 }
 

@@ -112,6 +112,13 @@ mod raw {
         pub allowance: u32,
     }
 
+    #[repr(C)]
+    pub struct JoinAnswer {
+        pub number: u8,
+        pub cell: u16,
+        pub count: usize,
+    }
+
     extern "C" {
         pub fn kuzpalen_read(file: *const u8, file_len: usize, table: *mut Record, table_len: usize) -> ReadAnswer;
         pub fn kuzpalen_label(file: *const u8, file_len: usize, cell: usize) -> LabelPart;
@@ -147,6 +154,15 @@ mod raw {
             scratch: *mut u32,
             scratch_len: usize,
         ) -> FrameAnswer;
+        pub fn kuzpalen_join(
+            first: *const Record,
+            first_len: usize,
+            second: *const Record,
+            second_len: usize,
+            cell: usize,
+            table: *mut Record,
+            table_len: usize,
+        ) -> JoinAnswer;
     }
 }
 
@@ -234,4 +250,13 @@ pub fn frame(table: &[Record], squares: u32, scratch: &mut [u32]) -> Result<Opti
         raw::kuzpalen_frame(table.as_ptr(), table.len(), squares, scratch.as_mut_ptr(), scratch.len())
     };
     unless(r.number, r.cell, (r.outcome == FRAME_ALLOWANCE).then_some(r.allowance))
+}
+
+/// Join: the second plan, hung under a cell of the first, into the first records of the table, which needs room for 256; how many.
+pub fn join(first: &[Record], second: &[Record], cell: usize, table: &mut [Record]) -> Result<usize, Refusal> {
+    // SAFETY: the pointers are good for their lengths, and the one that is written shares nothing.
+    let r = unsafe {
+        raw::kuzpalen_join(first.as_ptr(), first.len(), second.as_ptr(), second.len(), cell, table.as_mut_ptr(), table.len())
+    };
+    unless(r.number, r.cell, r.count)
 }

@@ -6,6 +6,7 @@
 
 mod frame;
 pub mod generate;
+mod join;
 mod layout;
 mod listing;
 mod plan;
@@ -14,6 +15,7 @@ pub mod rng;
 mod rules;
 
 pub use frame::frame;
+pub use join::{ask_part, join};
 pub use layout::{distances_by_pairs, distances_by_paths, layout, place, SCRATCH};
 pub use listing::{list, listing, LISTING};
 pub use plan::{Cell, Plan, Refusal, MAX_CELLS, MAX_WIDTH, ROOT};
