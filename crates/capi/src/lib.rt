@@ -100,7 +100,12 @@ pub extern "C" fn kuzpalen_frame(table: &[Record], squares: u32, scratch: &mut [
 }
 
 #[no_mangle]
-pub extern "C" fn kuzpalen_join(first: &[Record], second: &[Record], cell: usize, table: &mut [Record]) -> JoinAnswer
+pub extern "C" fn kuzpalen_join(
+    first: &[Record],
+    second: &[Record],
+    cell: usize,
+    table: &mut [Record],
+) -> JoinAnswer
     ensures { λ r. ⌜ Joining (now (first .entry)) (now (second .entry)) cell (now (table .entry)) (now (table .exit)) r ⌝ }
 {
     let answer = engine::join(first, second, cell, table);

@@ -1,7 +1,7 @@
 -- Worked joins: a rinse (a run W 2 over a step W 6) hung into document 01's ◆B (a run W 4 over steps W 3 and 5), the questions included. Each row computes.
 -- Assumes nothing.
 use mathlib.Core.Path.{_≡_}
-use mathlib.Core.List.{List, [], _∷_}
+use mathlib.Core.List.{[], _∷_}
 use Prim.Native.Nat.{ℕ}
 use Rattle.plan.specs.Plan.{Cell, Table, children}
 use Rattle.plan.specs.Questions.{none}

@@ -1,7 +1,7 @@
 -- From the columns of two lent tables to their records: what Join writes and answers. Nothing that a reader must believe stands here. Assumes nothing.
 use mathlib.Core.Path.{_≡_, refl, sym, ap, _∙_}
-use mathlib.Core.List.{List, [], _∷_, map, _++_}
-use Prim.Native.Nat.{ℕ, zero, suc, _+_, _-_, _≤_, _<_, zero-le}
+use mathlib.Core.List.{List, map, _++_}
+use Prim.Native.Nat.{ℕ, _+_, _-_, _≤_, _<_, zero-le}
 use native.Mathlib.Omega.{arith}
 use native.Mathlib.Nat.{zero-add}
 use native.Mathlib.Decide.{ℕ-discrete, decLt}
@@ -10,7 +10,6 @@ use lib.ListN.{length, getD, drop}
 use lib.Seq.{ext-getD}
 use Rattle.plan.specs.Limits.{most-cells}
 use Rattle.plan.specs.Lists.{from}
-use Rattle.plan.specs.Plan.{Table}
 use Rattle.plan.specs.Columns.{table-of}
 use Rattle.plan.specs.laws.Tables.{length-is}
 use Rattle.plan.specs.laws.Columns.{length-from, getD-from}
@@ -33,7 +32,7 @@ use Rattle.graft.specs.laws.Sequence as asks
 use Rattle.graft.specs.laws.Crowded.{first-crowded, second-crowded}
 use Rattle.grafting.specs.Grafted.{picked, picked-parent, grafted, refused, accepted, graft-of}
 use Rattle.grafting.specs.laws.Grafted.{picked-first, picked-second, parent-first, parent-root, parent-second}
-use Rattle.grafting.specs.laws.Joins.{cells-length, records-length}
+use Rattle.grafting.specs.laws.Joins.{records-length}
 use Rattle.grafting.specs.declared.Graft.{Graft}
 use Rattle.grafting.specs.declared.JoinAnswer.{JoinAnswer}
 use Rattle.grafting.specs.declared.JoinAnswer.the-variants.{Plan, Refused}

@@ -8,7 +8,7 @@ use lib.ListN.{length}
 use Rattle.plan.specs.Limits.{most-cells}
 use Rattle.plan.specs.Plan.{Table}
 use Rattle.plan.specs.Questions.{asked, or-else}
-use Rattle.plan.specs.laws.Questions.{first-some, both-none}
+use Rattle.plan.specs.laws.Questions.{first-some}
 use Rattle.plan.specs.laws.Crowded.{crowded}
 use Rattle.plan.specs.Steps.{cells-refusal}
 use Rattle.plan.specs.declared.Refusal.{Refusal}

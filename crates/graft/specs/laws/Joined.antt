@@ -1,5 +1,5 @@
 -- What stands in a joined table: its cells and their children. Assumes nothing.
-use mathlib.Core.Path.{_≡_, refl, sym, ap, _∙_}
+use mathlib.Core.Path.{_≡_, refl, ap, _∙_}
 use mathlib.Core.List.{List, [], _∷_, map, _++_, append-nil, map-append}
 use mathlib.Core.Logic.{_≢_}
 use mathlib.Core.Bool.{Bool, false, true}
@@ -9,7 +9,7 @@ use native.Mathlib.Decide.{ℕ-discrete, decLt}
 use lib.ListN.{length, getD, length-map}
 use lib.Dec.{T, eqb}
 use borrow.Author.Tests.{eq-eqb, ne-eqb}
-use Rattle.plan.specs.Lists.{from, keep, sort, mem}
+use Rattle.plan.specs.Lists.{from, keep, mem}
 use Rattle.plan.specs.laws.Lists.{keep-read, from-read}
 use Rattle.plan.specs.laws.Sort.{sort-same}
 use Rattle.plan.specs.Plan.{Cell, Table, Is, Sound, blank, parent, kind, W, D, rank, filed, children}

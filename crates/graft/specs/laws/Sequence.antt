@@ -1,7 +1,7 @@
 -- The questions of a join, as its code puts them, and what they establish. Assumes nothing.
 use mathlib.Core.Path.{_≡_, refl, sym, ap, _∙_}
 use mathlib.Core.List.{[], _∷_}
-use Prim.Native.Nat.{ℕ, _+_, _≤_, _<_}
+use Prim.Native.Nat.{ℕ, _+_, _≤_}
 use lib.Dec.{T, leb, ltb, leb→le, ltb→lt}
 use lib.ListN.{length}
 use Rattle.plan.specs.Limits.{between, most-cells, most-width, most-level, last-row}
@@ -9,7 +9,7 @@ use Rattle.plan.specs.Lists.{mem, some}
 use Rattle.plan.specs.Kinds.{known, allows}
 use Rattle.plan.specs.Plan.{Table, Is, parent, kind, W, D, children, level, row}
 use Rattle.plan.specs.Questions as asked
-use Rattle.plan.specs.Questions.{once, each, buffers-long, cells-counted, parent-lower, kind-known, box-sized, children-allowed, level-low, rows-few, cell-named, lower, none, or-else, at-each, take-step, number, puts, holds, join}
+use Rattle.plan.specs.Questions.{once, each, buffers-long, cells-counted, parent-lower, kind-known, box-sized, children-allowed, level-low, rows-few, cell-named, lower, none, or-else, take-step, number, puts, holds}
 use Rattle.plan.specs.laws.Questions.{asked-yes, both-none, each-none, each-same}
 use Rattle.plan.specs.laws.Kept.{asked-last, and-true, or-assoc, each-last}
 use Rattle.plan.specs.Steps.{cell-refusal, cells-refusal, children-refusal, levels-refusal, rows-refusal, tree-refusal}

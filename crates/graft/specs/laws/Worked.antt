@@ -1,6 +1,5 @@
 -- The worked joins, by computation. Assumes nothing.
 use mathlib.Core.Path.{refl}
-use mathlib.Core.List.{_++_}
 use Rattle.plan.specs.Lists as lists
 use Rattle.plan.specs.Kinds as kinds
 use Rattle.plan.specs.Plan as plan

@@ -1,19 +1,17 @@
 -- The questions of a join as the code puts them to columns, and the answer. Assumes nothing.
 use mathlib.Core.Path.{_≡_, refl, sym, ap, _∙_}
-use mathlib.Core.List.{List}
 use Prim.Native.Nat.{ℕ, _+_, _-_, _≤_, _<_}
 use native.Mathlib.Omega.{arith}
 use native.Mathlib.Decide.{decLt}
 use borrow.Author.Tests.{eq-eqb, ne-eqb}
 use lib.Dec.{leb, ltb, ltb→lt}
-use lib.ListN.{length}
 use Rattle.plan.specs.Limits.{between, most-cells, most-depth}
 use Rattle.plan.specs.Plan.{Sound}
 use Rattle.plan.specs.Columns.{table-of}
 use Rattle.plan.specs.laws.Tables.{length-is, parent-is}
 use Rattle.plan.specs.Trees.{Lower, Flat}
 use Rattle.plan.specs.laws.Trees.{lower-sound}
-use Rattle.plan.specs.Questions.{none, asked, or-else}
+use Rattle.plan.specs.Questions.{asked, or-else}
 use Rattle.plan.specs.laws.Questions.{asked-yes, both-none, stops, goes-on}
 use Rattle.plan.specs.laws.Kept.{or-assoc}
 use Rattle.plan.specs.Steps.{cells-refusal, tree-refusal}
@@ -25,8 +23,7 @@ use Rattle.planfile.specs.laws.Examined.{zero-of, column-at}
 use Rattle.graft.specs.Joined.{joined}
 use Rattle.graft.specs.Sequence.{join-refusal}
 use Rattle.graft.specs.laws.Joined.{length-joined, joined-sound}
-use Rattle.graft.specs.laws.Sequence.{counted, part-refusal, join-puts}
-use Rattle.grafting.specs.declared.Graft.{Graft}
+use Rattle.graft.specs.laws.Sequence.{part-refusal, join-puts}
 use Rattle.grafting.specs.Grafted.{picked, grafted, Graftable, ready-refusal, refused, accepted, graft-of}
 use Rattle.grafting.specs.laws.Grafted.{picked-first, picked-second, grafted-count, grafted-table}
 

@@ -1,5 +1,5 @@
 -- What a call of Join promises: laws of the definitions in specs/Joins.antt. Assumes nothing.
-use mathlib.Core.Path.{_≡_, refl, sym, ap, _∙_}
+use mathlib.Core.Path.{_≡_, sym, ap, _∙_}
 use mathlib.Core.List.{List, _++_}
 use Prim.Native.Nat.{ℕ, _+_, _*_, _≤_}
 use native.Mathlib.Omega.{arith}
@@ -16,7 +16,7 @@ use Rattle.plan.specs.declared.Record.{Record}
 use Rattle.plan.specs.declared.Refusal.{Refusal}
 use Rattle.rules.specs.Placement.{left-extent, right-extent}
 use Rattle.contours.specs.Sheet.{sheet}
-use Rattle.graft.specs.Joined.{joined, joined-records, record-under}
+use Rattle.graft.specs.Joined.{joined, joined-records}
 use Rattle.graft.specs.Sequence.{join-refusal}
 use Rattle.graft.specs.Theorems.{joined-cells, second-reaches, first-reaches, second-laid, joined-laid}
 use Rattle.graft.specs.laws.Joined.{length-joined}
