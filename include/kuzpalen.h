@@ -21,7 +21,7 @@
 extern "C" {
 #endif
 
-#define KUZPALEN_CELLS 256u           /* the most cells of a plan; the records that Read's table needs */
+#define KUZPALEN_CELLS 256u           /* the most cells of a plan; the records that Read's and Join's tables need */
 #define KUZPALEN_SCRATCH 16384u       /* the numbers that the scratch of Layout and of Frame needs */
 #define KUZPALEN_LISTING_SIZE 17408u  /* the bytes that List's output needs, whatever the file */
 #define KUZPALEN_COPY_SIZE 16384u     /* the bytes that Copy's output needs, whatever the plan */
@@ -39,7 +39,7 @@ typedef struct {
     uint16_t width;        /* 1 to KUZPALEN_WIDEST */
     uint8_t depth;         /* 1 to 15 */
     uint8_t label_length;  /* the label: so many bytes of the file, */
-    uint16_t label_start;  /* from this one on. Read writes the two label fields; of the calls that take a table only Copy looks at them */
+    uint16_t label_start; /* from this one on. Read writes the two label fields; Copy reads them, Join copies them, no other call that takes a table looks at them */
 } kuzpalen_record;
 
 typedef struct {
@@ -137,6 +137,12 @@ typedef struct {
     uint8_t number;
     uint16_t cell;
 } kuzpalen_strip_answer;
+
+typedef struct {
+    uint8_t number;
+    uint16_t cell;
+    size_t count;          /* the number of joined records */
+} kuzpalen_join_answer;
 
 /* A plan file is of one of two forms, which its last two bytes tell, or question 3 refuses. Both have the
  * label bytes first, then the records, then a trailer of 8 bytes. Hexadecimal 53 54: records of 8 bytes,
@@ -245,6 +251,18 @@ kuzpalen_stroke_answer kuzpalen_stroke(const kuzpalen_record *table, size_t tabl
 kuzpalen_strip_answer kuzpalen_strip(const kuzpalen_record *table, size_t table_len,
                                      const int32_t *positions, size_t positions_len,
                                      uint32_t row, uint32_t first, uint8_t *bytes, size_t bytes_len);
+
+/* Join: the second plan hung under a cell of the first. The table to fill gets the first's records, then the
+ * second's with their parents raised by `first_len`, the second's root under the cell; all other fields are
+ * copied, the rank too, by which the root stands among the cell's children, the last of its rank. The label
+ * fields are copied as they are, and so still point into the bytes of two files. `table_len` is at least
+ * KUZPALEN_CELLS, or question 1 refuses; the first `count` records are written, and no other. Questions 4 and
+ * 6 to 8 are put to the first table, then to the second, whose cells are named by their own numbers, then 16 to
+ * the cell, then 4 and 11 to 13 to the joined table, whose cells are named by theirs. The first table need not
+ * be a plan by itself (11 to 13), if the joined one is. The two tables may be the same memory. */
+kuzpalen_join_answer kuzpalen_join(const kuzpalen_record *first, size_t first_len,
+                                   const kuzpalen_record *second, size_t second_len, size_t cell,
+                                   kuzpalen_record *table, size_t table_len);
 
 #ifdef __cplusplus
 }

@@ -133,6 +133,16 @@ int main(void) {
     good = good && fits.number == 0 && fits.outcome == KUZPALEN_FRAME_ALLOWANCE && fits.allowance == 0
         && kuzpalen_frame(table, 3, 8, scratch, KUZPALEN_SCRATCH).outcome == KUZPALEN_FRAME_NONE
         && kuzpalen_frame(table, 3, 0, scratch, KUZPALEN_SCRATCH).number == 19;
+    /* B hung into itself, under its root: six records, and the seventh is left. */
+    static kuzpalen_record joined[KUZPALEN_CELLS];
+    joined[6].parent = 77;
+    kuzpalen_join_answer join = kuzpalen_join(table, 3, table, 3, 0, joined, KUZPALEN_CELLS);
+    good = good && join.number == 0 && join.count == 6 && joined[0].parent == KUZPALEN_NO_PARENT && joined[3].parent == 0
+        && joined[3].kind == 2 && joined[4].parent == 3 && joined[5].parent == 3 && joined[5].width == 5 && joined[6].parent == 77;
+    join = kuzpalen_join(table, 3, table, 3, 2, joined, KUZPALEN_CELLS);
+    good = good && join.number == 11 && join.cell == 2 && join.count == 0
+        && kuzpalen_join(table, 3, table, 3, 3, joined, KUZPALEN_CELLS).number == 16
+        && kuzpalen_join(table, 3, table, 3, 0, joined, KUZPALEN_CELLS - 1).number == 1;
     table[1].rank = 1; /* cell 2 comes before cell 1, which the run hangs from */
     laid = kuzpalen_layout(table, 3, 0, scratch, KUZPALEN_SCRATCH, p, 6);
     good = good && laid.number == 0 && laid.width == 10 && p[2] == 0 && p[4] == -6;

@@ -44,6 +44,10 @@ use Rattle.answers.specs.declared.MendAnswer.{MendAnswer}
 use Rattle.answers.specs.declared.CopyAnswer.{CopyAnswer}
 use Rattle.answers.specs.declared.StrokeAnswer.{StrokeAnswer}
 use Rattle.answers.specs.declared.StripAnswer.{StripAnswer}
+use Rattle.answers.specs.declared.JoinAnswer.{JoinAnswer}
+use Rattle.grafting.specs.Joins.{Joins}
+use Rattle.grafting.specs.declared.JoinAnswer.{JoinAnswer as Join}
+use Rattle.grafting.specs.declared.JoinAnswer.the-variants.{Plan as Hung, Refused as Unjoined}
 
 unfoldable pub read-answer : Read → ReadAnswer
 read-answer (Plan n al) = record { number = 0; cell = 0; allowance = al; count = n }
@@ -138,3 +142,13 @@ pub record Stripping (t : Table) (ps : List ℤ) (row first : ℕ) (bs bs′ : L
   pub refused : Refusal
   pub strips : Strips t ps row first bs bs′ refused
   pub answers : r ≡ strip-answer refused
+
+unfoldable pub join-answer : Join → JoinAnswer
+join-answer (Hung n) = record { number = 0; cell = 0; count = n }
+join-answer (Unjoined k c) = record { number = k; cell = c; count = 0 }
+
+-- a call of Join, as `Joins` has it, with the struct for its answer
+pub record Joining (t u : List Record) (c : ℕ) (o o′ : List Record) (r : JoinAnswer) : Type 0 where
+  pub joined : Join
+  pub joins : Joins t u c o o′ joined
+  pub answers : r ≡ join-answer joined

@@ -10,7 +10,7 @@ use plan::Refusal;
 use printing::Listed;
 use strokes::Stroked;
 ghost use mathlib.Core.Path.{_≡_};
-ghost use Rattle.answers.specs.Answers.{«read-answer», «laid-answer», «check-answer», «ends-answer», «list-answer», «frame-answer», «copy-answer», «mend-answer», «pen-answer», «stroke-answer», «strip-answer»};
+ghost use Rattle.answers.specs.Answers.{«read-answer», «laid-answer», «check-answer», «ends-answer», «list-answer», «frame-answer», «copy-answer», «mend-answer», «pen-answer», «stroke-answer», «strip-answer», «join-answer»};
 
 // Number and cell of the refusal, or 0 and 0; the number of cells and the allowance.
 #[repr(C)]
@@ -351,5 +351,31 @@ pub fn told_strip(answer: Refusal) -> StripAnswer
     StripAnswer {
         number: answer.number,
         cell: answer.cell,
+    }
+}
+
+// Number and cell of the refusal, or 0 and 0; how many records the joined plan has.
+#[repr(C)]
+pub struct JoinAnswer {
+    pub number: u8,
+    pub cell: u16,
+    pub count: usize,
+}
+
+// The answer of Join as a struct.
+pub fn told_join(answer: grafting::JoinAnswer) -> JoinAnswer
+    ensures { λ r. ⌜ r ≡ join-answer answer ⌝ }
+{
+    match answer {
+        grafting::JoinAnswer::Plan(count) => JoinAnswer {
+            number: 0,
+            cell: 0,
+            count: count as usize,
+        },
+        grafting::JoinAnswer::Refused(number, cell) => JoinAnswer {
+            number,
+            cell,
+            count: 0,
+        },
     }
 }

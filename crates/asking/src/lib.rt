@@ -214,7 +214,7 @@ fn table_refusal<'a>(
 }
 
 // Question 4.
-fn counted(n: usize) -> bool
+pub fn counted(n: usize) -> bool
     ensures { λ r. ⌜ r ≡ between 1 most-cells n ⌝ }
 {
     if n < 1 {
@@ -303,4 +303,21 @@ pub fn near_refusal(positions: &[i32], n: usize) -> Refusal
         c += 1;
     }
     Refusal { number: 0, cell: 0 }
+}
+
+// Questions 4 and 6 to 8, put to a lent table that is to be a part of another.
+pub fn part_refusal<'a>(
+    parents: &'a [u16; MOST_CELLS],
+    kinds: &'a [u8; MOST_CELLS],
+    widths: &'a [u16; MOST_CELLS],
+    depths: &'a [u8; MOST_CELLS],
+    n: usize,
+) -> Refusal
+    ensures { λ r. ⌜ ((qs : List ℕ) → r ≡ or-else (asked 4 (between 1 most-cells n) 0) (cells-refusal (table (now (parents .entry)) (now (kinds .entry)) (now (widths .entry)) (now (depths .entry)) qs n))) ⌝ }
+{
+    let few = asked(4, counted(n), 0);
+    if few.number != 0 {
+        return few;
+    }
+    cells_refusal(parents, kinds, widths, depths, n)
 }

@@ -3,6 +3,7 @@ use answers::CheckAnswer;
 use answers::CopyAnswer;
 use answers::EndsAnswer;
 use answers::FrameAnswer;
+use answers::JoinAnswer;
 use answers::LabelAnswer;
 use answers::LabelPart;
 use answers::LayoutAnswer;
@@ -15,6 +16,7 @@ use answers::told_check;
 use answers::told_copy;
 use answers::told_ends;
 use answers::told_frame;
+use answers::told_join;
 use answers::told_layout;
 use answers::told_list;
 use answers::told_mend;
@@ -29,7 +31,7 @@ ghost use Rattle.planfile.specs.Reading.{«label-refusal», «label-part»};
 ghost use Rattle.checker.specs.Checked.{«checked-of»};
 ghost use Rattle.ends.specs.Ended.{«ended-of»};
 ghost use Rattle.strokes.specs.Stroked.{«stroked-of»};
-ghost use Rattle.answers.specs.Answers.{«check-answer», «ends-answer», «stroke-answer», Filling, Laying, ListFilling, Framing, CopyFilling, MendFilling, Stripping};
+ghost use Rattle.answers.specs.Answers.{«check-answer», «ends-answer», «stroke-answer», Filling, Laying, ListFilling, Framing, CopyFilling, MendFilling, Stripping, Joining};
 
 #[no_mangle]
 pub extern "C" fn kuzpalen_read(file: &[u8], table: &mut [Record]) -> ReadAnswer
@@ -153,4 +155,17 @@ pub extern "C" fn kuzpalen_strip(
 {
     let answer = engine::strip(table, positions, row, first, bytes);
     told_strip(answer)
+}
+
+#[no_mangle]
+pub extern "C" fn kuzpalen_join(
+    first: &[Record],
+    second: &[Record],
+    cell: usize,
+    table: &mut [Record],
+) -> JoinAnswer
+    ensures { λ r. ⌜ Joining (now (first .entry)) (now (second .entry)) cell (now (table .entry)) (now (table .exit)) r ⌝ }
+{
+    let answer = engine::join(first, second, cell, table);
+    told_join(answer)
 }

@@ -1,5 +1,5 @@
 -- THE THREE DEMANDS AT THE CALLS: statements only; each proof is one name. A reader needs the definitions of crate plan (sequence, puts, holds), of crate
--- rules (placement, S1 to S5, verdict), `sheet`, what each call answers (Reads, Lays, checked-of, ended-of, label-of and label-refusal, Lists, Frames, Copies, Mends, Strips) and Outcomes. Every call's
+-- rules (placement, S1 to S5, verdict), `sheet`, what each call answers (Reads, Lays, checked-of, ended-of, label-of and label-refusal, Lists, Frames, Copies, Mends, Strips, Joins) and Outcomes. Every call's
 -- contract is one of those, so what is said of them is said of what the call answers and leaves in the lent buffers. Assumes nothing.
 use mathlib.Core.Path.{_≡_}
 use mathlib.Core.List.{List, [], _∷_, _++_, map}
@@ -78,6 +78,19 @@ use Rattle.demands.specs.laws.ReadThen as then
 use Rattle.demands.specs.laws.Demand as demand
 use Rattle.demands.specs.laws.WorkedCalls as worked-calls
 use Rattle.demands.specs.WorkedCalls.{called, due}
+use lib.Dec.{T}
+use Rattle.plan.specs.Plan.{within}
+use Rattle.rules.specs.Placement.{left-extent, right-extent}
+use Rattle.graft.specs.Joined.{joined, joined-records}
+use Rattle.graft.specs.Sequence.{join-sequence, join-refusal}
+use Rattle.graft.specs.FirstNo.{YesAll, JoinFirstNo}
+use Rattle.graft.specs.Theorems as grafts
+use Rattle.graft.specs.Worked as joins
+use Rattle.graft.specs.laws.Worked as joins-laws
+use Rattle.grafting.specs.Joins.{Joins}
+use Rattle.grafting.specs.laws.Joins as grafting
+use Rattle.grafting.specs.declared.JoinAnswer.{JoinAnswer}
+use Rattle.grafting.specs.declared.JoinAnswer.the-variants as joint
 
 -- ==== DEMAND 1: A CALL REFUSES BY THE FIRST "NO"
 -- The refusal is number k at cell c exactly where a question of that number, at that cell, is the first "no" of the sequence.
@@ -285,3 +298,50 @@ strip-joins = stripping.joins
 -- Worked strips: an upright box, ◆B, boxes that overlap, one that begins above row 0; odd first columns, one near 2^32.
 pub strip-worked : map strips.computed strips.rows ≡ map (λ (r : strips.Row). r .bytes) strips.rows
 strip-worked = strips-laws.worked
+
+-- ==== JOINING TWO PLANS (document 02, E10): u hung under cell c of t, into the table o
+-- Its refusal is the first "no" of a sequence of its own, of three tables; there is none exactly where there is no "no".
+pub join-first-no : (room : ℕ) (t u : Table) (c k a : ℕ) → 1 ≤ k → (join-refusal room t u c ≡ record { number = k; cell = a }) ↔ JoinFirstNo room t u c k a
+join-first-no = grafts.join-first-no
+
+pub join-no-no : (room : ℕ) (t u : Table) (c : ℕ) → (join-refusal room t u c ≡ none) ↔ YesAll room t u c join-sequence
+join-no-no = grafts.join-no-no
+
+module _ (t u : List Record) (c : ℕ) (o o′ : List Record) (r : JoinAnswer) (g : Joins t u c o o′ r) where
+  -- A refusal is answered by its number and cell, and leaves the table as it was.
+  pub join-refuses : ¬ (join-refusal (length o) (cells-of t) (cells-of u) c .number ≡ 0)
+      → (r ≡ joint.Refused (join-refusal (length o) (cells-of t) (cells-of u) c .number) (join-refusal (length o) (cells-of t) (cells-of u) c .cell)) × (o′ ≡ o)
+  join-refuses = grafting.unchanged t u c o o′ r g
+
+  -- Where no question refuses: how many records, the joined ones, and the records beyond as they were.
+  pub join-gives : join-refusal (length o) (cells-of t) (cells-of u) c .number ≡ 0 → (r ≡ joint.Plan (length t + length u)) × (o′ ≡ joined-records t u c ++ drop (length t + length u) o)
+  join-gives = grafting.gives t u c o o′ r g
+
+-- Of an answer alone, n records:
+module _ (t u : List Record) (c : ℕ) (o o′ : List Record) (n : ℕ) (g : Joins t u c o o′ (joint.Plan n)) where
+  -- what Layout and Check see in them is THE joined table,
+  pub join-holds : cells-of (take n o′) ≡ joined (cells-of t) (cells-of u) c
+  join-holds = grafting.holds-joined t u c o o′ n g
+
+  -- Layout refuses nothing of it, nor of the second plan alone,
+  pub join-then-layout : (al s p : ℕ) → al ≤ most-allowance → scratch-size ≤ s → 2 * n ≤ p → refusal layout (layout-given (cells-of (take n o′)) al s p) ≡ none
+  join-then-layout = grafting.joined-has-sheet t u c o o′ n g
+
+  pub join-second-layout : (al s p : ℕ) → al ≤ most-allowance → scratch-size ≤ s → 2 * length u ≤ p → refusal layout (layout-given (cells-of u) al s p) ≡ none
+  join-second-layout = grafting.second-has-sheet t u c o o′ n g
+
+  -- every subtree of the second plan extends as in its own sheet,
+  pub join-second-reaches : (al b : ℕ) → Is (cells-of u) b
+      → (left-extent (cells-of (take n o′)) (sheet (cells-of (take n o′)) al) (length t + b) ≡ left-extent (cells-of u) (sheet (cells-of u) al) b)
+      × (right-extent (cells-of (take n o′)) (sheet (cells-of (take n o′)) al) (length t + b) ≡ right-extent (cells-of u) (sheet (cells-of u) al) b)
+  join-second-reaches = grafting.second-extends t u c o o′ n g
+
+  -- and so does every subtree of the first that does not hold the named cell.
+  pub join-first-reaches : (al a : ℕ) → Is (cells-of t) a → ¬ T (within (cells-of t) a c)
+      → (left-extent (cells-of (take n o′)) (sheet (cells-of (take n o′)) al) a ≡ left-extent (cells-of t) (sheet (cells-of t) al) a)
+      × (right-extent (cells-of (take n o′)) (sheet (cells-of (take n o′)) al) a ≡ right-extent (cells-of t) (sheet (cells-of t) al) a)
+  join-first-reaches = grafting.first-extends t u c o o′ n g
+
+-- Joins by hand, the questions included.
+pub join-worked : joins.Rows
+join-worked = joins-laws.worked

@@ -1,3 +1,4 @@
 pub mod Read
 pub mod Label
+pub mod Hung
 pub mod laws

@@ -3,8 +3,10 @@ use checker::Checked;
 use copying::Copied;
 use ends::Ended;
 use fitting::Fitted;
+use grafting::JoinAnswer;
 use layout::Laid;
 use mending::Mended;
+use plan::Lettered;
 use plan::Record;
 use plan::Refusal;
 use planfile::Reading;
@@ -17,6 +19,7 @@ ghost use Rattle.plan.specs.Records.{«cells-of»};
 ghost use Rattle.planfile.specs.Reading.{«label-refusal»};
 ghost use Rattle.layout.specs.Laid.{Lays};
 ghost use Rattle.fitting.specs.Fitted.{Frames};
+ghost use Rattle.grafting.specs.Joins.{Joins};
 ghost use Rattle.checker.specs.Checked.{«checked-of»};
 ghost use Rattle.ends.specs.Ended.{«ended-of»};
 ghost use Rattle.printing.specs.Printing.{Lists};
@@ -25,6 +28,7 @@ ghost use Rattle.copying.specs.Copied.{Copies};
 ghost use Rattle.strips.specs.Stripped.{Strips};
 ghost use Rattle.engine.specs.Read.{Reads, «read-of»};
 ghost use Rattle.engine.specs.Label.{«label-of»};
+ghost use Rattle.engine.specs.Hung.{Hangs};
 
 // The number of cells and the allowance; or the refusal's number and cell.
 pub enum ReadAnswer {
@@ -140,4 +144,23 @@ pub fn strip(table: &[Record], positions: &[i32], row: u32, first: u32, bytes: &
 {
     let t = columns_of(table);
     strips::strip(t, positions, row, first, bytes)
+}
+
+// The joined records of two tables that were taken apart are written into the table to fill.
+fn hang(first: Lettered, second: Lettered, cell: usize, table: &mut [Record]) -> JoinAnswer
+    ensures { λ r. ⌜ Hangs first second cell (now (table .entry)) (now (table .exit)) r ⌝ }
+{
+    let graft = grafting::join(first, second, cell, table.len());
+    let joined = graft.reading;
+    fill(joined, joined.columns.count, table);
+    graft.answer
+}
+
+// Join: the second plan, hung under a cell of the first, is written into the table to fill; how many records, or the refusal.
+pub fn join(first: &[Record], second: &[Record], cell: usize, table: &mut [Record]) -> JoinAnswer
+    ensures { λ r. ⌜ Joins (now (first .entry)) (now (second .entry)) cell (now (table .entry)) (now (table .exit)) r ⌝ }
+{
+    let a = lettered_of(first);
+    let b = lettered_of(second);
+    hang(a, b, cell, table)
 }

@@ -9,9 +9,9 @@ use lib.ListN.{length}
 use lib.Dec.{T}
 use lib.IntN.{ℤ, _-ℤ_}
 use lib.Signed.{_≤ℤ_}
-use Rattle.plan.specs.Plan.{Table, Sound, next}
+use Rattle.plan.specs.Plan.{Table, Is, Sound, next}
 use Rattle.plan.specs.Questions.{layout, check, none, refusal, layout-given, check-given}
-use Rattle.rules.specs.Placement.{Placement, placed, Agree, width, rows}
+use Rattle.rules.specs.Placement.{Placement, placed, Agree, width, rows, left-extent, right-extent}
 use Rattle.rules.specs.Rules.{Keeps}
 use Rattle.rules.specs.Search.{Verdict}
 use Rattle.rules.specs.Verdict.{verdict, Exact, answer, fine}
@@ -65,3 +65,9 @@ worked = laws.worked
 -- our sheet for the smaller one is nowhere less than that for the larger.
 pub wider-allowance : (t : Table) → 1 ≤ length t → Sound t → (al al′ : ℕ) → al ≤ al′ → NoLess t (sheet t al′) (sheet t al)
 wider-allowance = laws.wider-allowance
+
+-- 10. Subtrees of equal shape, kinds, widths and depths, of one table or of two, extend equally far to the left and to the right under one
+-- allowance (what document 02, E10, rests on).
+pub alike-extents : (t u : Table) → Sound t → Sound u → (al a b : ℕ) → Is t a → Is u b → Alike t u (a ∷ []) (b ∷ [])
+    → (left-extent t (sheet t al) a ≡ left-extent u (sheet u al) b) × (right-extent t (sheet t al) a ≡ right-extent u (sheet u al) b)
+alike-extents = laws.alike-extents

@@ -134,6 +134,7 @@ pub data Call : Type 0 where
   mend : Call
   stroke : Call
   strip : Call
+  join : Call
 
 -- the numbers of the questions that a call puts
 unfoldable pub puts : Call → List ℕ
@@ -150,6 +151,8 @@ puts copy = 1 ∷ from 4 11
 puts mend = from 1 14
 puts stroke = 1 ∷ 4 ∷ 6 ∷ 7 ∷ 8 ∷ 11 ∷ 12 ∷ 13 ∷ 15 ∷ 17 ∷ 18 ∷ []
 puts strip = 1 ∷ 4 ∷ 6 ∷ 7 ∷ 8 ∷ 11 ∷ 12 ∷ 13 ∷ 15 ∷ []
+-- of three tables, in a sequence of their own (crate graft)
+puts join = 1 ∷ 4 ∷ 6 ∷ 7 ∷ 8 ∷ 11 ∷ 12 ∷ 13 ∷ 16 ∷ []
 
 -- whether the root may be named
 unfoldable pub root-too : Call → Bool
@@ -164,6 +167,7 @@ root-too copy = true
 root-too mend = true
 root-too stroke = true
 root-too strip = true
+root-too join = true
 
 -- ---- what each question asks
 unfoldable pub roomy : Buffer → Bool

@@ -158,6 +158,13 @@ mod raw {
         pub cell: u16,
     }
 
+    #[repr(C)]
+    pub struct JoinAnswer {
+        pub number: u8,
+        pub cell: u16,
+        pub count: usize,
+    }
+
     extern "C" {
         pub fn kuzpalen_read(file: *const u8, file_len: usize, table: *mut Record, table_len: usize) -> ReadAnswer;
         pub fn kuzpalen_label(file: *const u8, file_len: usize, cell: usize) -> LabelPart;
@@ -228,6 +235,15 @@ mod raw {
             bytes: *mut u8,
             bytes_len: usize,
         ) -> StripAnswer;
+        pub fn kuzpalen_join(
+            first: *const Record,
+            first_len: usize,
+            second: *const Record,
+            second_len: usize,
+            cell: usize,
+            table: *mut Record,
+            table_len: usize,
+        ) -> JoinAnswer;
     }
 }
 
@@ -375,4 +391,13 @@ pub fn strip(table: &[Record], positions: &[i32], row: u32, first: u32, bytes: &
         )
     };
     unless(r.number, r.cell, ())
+}
+
+/// Join: the second plan, hung under a cell of the first, into the first records of the table, which needs room for 256; how many.
+pub fn join(first: &[Record], second: &[Record], cell: usize, table: &mut [Record]) -> Result<usize, Refusal> {
+    // SAFETY: the pointers are good for their lengths, and the one that is written shares nothing.
+    let r = unsafe {
+        raw::kuzpalen_join(first.as_ptr(), first.len(), second.as_ptr(), second.len(), cell, table.as_mut_ptr(), table.len())
+    };
+    unless(r.number, r.cell, r.count)
 }

@@ -49,6 +49,8 @@ struct Rooms {
     scratch: Guarded,
     out: Guarded,
     lines: Guarded,
+    second: Guarded,
+    joined: Guarded,
 }
 
 struct Run {
@@ -702,6 +704,154 @@ fn some_column(rng: &mut Rng, cells: &[Cell], positions: &[i32]) -> u32 {
     }
 }
 
+impl Run {
+    /// Two plans, valid or damaged, and a cell: joined, and laid out.
+    fn a_join(&mut self, rng: &mut Rng) {
+        let (mut first, mut second, cell) = some_pair(rng);
+        for c in first.iter_mut().chain(&mut second) {
+            (c.label_len, c.label_start) = (rng.next() as u8, rng.next() as u16);
+        }
+        let shared = rng.once_in(20);
+        if shared {
+            second = first.clone();
+        }
+        let room = if rng.once_in(30) { MAX_CELLS - 1 - rng.index(3) } else { MAX_CELLS + rng.index(3) * rng.index(20) };
+        let fill = Cell { parent: rng.next() as u16, kind: rng.next() as u8, rank: rng.next() as u8, width: rng.next() as u16, ..Cell::default() };
+        let mut theirs = vec![fill; room];
+        let at_end = rng.once_in(2);
+        let lent = self.rooms.table.lend(&records(&first), at_end);
+        let other = self.rooms.second.lend(&records(&second), at_end);
+        let ours = self.rooms.joined.lend(&records(&theirs), at_end);
+        let got = bindings::join(lent, if shared { lent } else { other }, cell, ours).map_err(|r| Refusal { number: r.number as u32, cell: r.cell as u32 });
+        let (lent, other, ours) = (lent.to_vec(), other.to_vec(), ours.to_vec());
+        let expected = reference::join(&first, &second, cell, &mut theirs);
+        let input = (cell, room, &first, &second);
+        self.same("Join's answer", &got, &expected, &input);
+        self.same("the table after Join", &ours, &records(&theirs), &input);
+        self.same("the tables lent to Join", &(lent, other), &(records(&first), records(&second)), &input);
+        if shared {
+            self.note("Join", "same memory");
+        }
+        self.note_join(&first, &second, cell, &expected);
+        self.count("Join", joined_name(&first, &second, &expected));
+        if expected.is_ok() {
+            self.reaches(rng, &theirs[..first.len() + second.len()], &first, &second, cell);
+        }
+    }
+
+    /// What else is to be seen in a join.
+    fn note_join(&mut self, first: &[Cell], second: &[Cell], cell: usize, expected: &Result<usize, Refusal>) {
+        match expected {
+            Ok(256) if first.len() == 128 => self.note("Join", "128 and 128"),
+            Err(Refusal { number: 4, .. }) if (first.len(), second.len()) == (200, 57) => self.note("Join", "200 and 57"),
+            Err(Refusal { number: 11, cell: at }) if *at as usize == cell && first[cell].kind == 1 => self.note("Join", "under a step"),
+            Err(Refusal { number: 11, cell: at }) if *at as usize == cell && first[cell].kind == 2 => self.note("Join", "under a full run"),
+            _ => {}
+        }
+    }
+
+    /// How far sub-diagrams reach in the sheet of the joined plan, and in their own plan's.
+    fn reaches(&mut self, rng: &mut Rng, joined: &[Cell], first: &[Cell], second: &[Cell], cell: usize) {
+        let allowance = make::allowance(rng);
+        let whole = Reaches::of(joined, allowance).expect("a joined plan has a sheet");
+        let family = &whole.plan.sons[cell];
+        let place = match family.iter().position(|&c| c == first.len()) {
+            Some(0) if family.len() > 1 => "root first",
+            Some(i) if i + 1 == family.len() => "root last",
+            _ => "root between",
+        };
+        self.note("Join", place);
+        let own = Reaches::of(second, allowance).expect("the second plan of a join has a sheet");
+        for b in 0..second.len() {
+            self.same("the reach of a sub-diagram of the second", &whole.reach(first.len() + b), &own.reach(b), &(b, joined));
+        }
+        match Reaches::of(first, allowance) {
+            Some(own) => {
+                for a in (0..first.len()).filter(|&a| !own.plan.under(a, cell)) {
+                    self.same("the reach of a sub-diagram of the first", &whole.reach(a), &own.reach(a), &(a, joined));
+                }
+            }
+            None => self.note("Join", "first without a sheet"),
+        }
+    }
+}
+
+/// The sheet that the engine makes of a plan.
+struct Reaches {
+    plan: reference::Plan,
+    xs: Vec<i32>,
+}
+
+impl Reaches {
+    fn of(cells: &[Cell], allowance: u32) -> Option<Reaches> {
+        let mut positions = vec![0; 2 * cells.len()];
+        bindings::layout(&records(cells), allowance, &mut vec![0; SCRATCH], &mut positions).ok()?;
+        Some(Reaches { plan: reference::Plan::new(cells), xs: positions.iter().step_by(2).copied().collect() })
+    }
+
+    /// To the left and to the right of the top cell's x.
+    fn reach(&self, top: usize) -> (i32, i32) {
+        let cells = self.plan.sub_diagram(top);
+        let least = cells.iter().map(|&c| self.xs[c]).min().expect("a cell");
+        let most = cells.iter().map(|&c| self.xs[c] + self.plan.cells[c].width as i32).max().expect("a cell");
+        (self.xs[top] - least, most - self.xs[top])
+    }
+}
+
+/// The answer of a join, with the table that it refuses before it.
+fn joined_name(first: &[Cell], second: &[Cell], expected: &Result<usize, Refusal>) -> String {
+    match expected {
+        Ok(_) => "accepted".into(),
+        Err(r) if r.number == 1 || r.number == 16 => format!("refused {:2}", r.number),
+        Err(r) if reference::ask_part(first).is_err() => format!("first refused {:2}", r.number),
+        Err(r) if reference::ask_part(second).is_err() => format!("second refused {:2}", r.number),
+        Err(r) => format!("joined refused {:2}", r.number),
+    }
+}
+
+/// Two plans and a cell of the first: such as join, most often; full tables, full runs, chains that get too long together.
+fn some_pair(rng: &mut Rng) -> (Vec<Cell>, Vec<Cell>, usize) {
+    let last_father = |n: usize| (n - 2) / 16;
+    match rng.index(300) {
+        0 => return (make::broad(128), make::broad(128), last_father(128)),
+        1 => return (make::broad(200), make::broad(57), last_father(200)),
+        2 => return (make::broad(17), some_table(rng), 0),
+        3 => return (make::chain(20, 1), make::chain(20, 1), rng.between(9, 13) as usize),
+        4 => return (make::chain(9, 15), make::chain(9, 15), rng.between(3, 7) as usize),
+        _ => {}
+    }
+    let mut first = some_table(rng);
+    let mut second = some_table(rng);
+    let cell = match rng.index(12) {
+        0 => rng.next() as usize,
+        1 => rng.index(first.len() + 2),
+        _ => {
+            let plan = reference::Plan::new(&first);
+            let open: Vec<usize> = (0..first.len()).filter(|&c| [2, 4].contains(&first[c].kind) && plan.sons[c].len() < 16 || first[c].kind == 5 && plan.sons[c].is_empty()).collect();
+            if open.is_empty() {
+                // A run without a son: no sheet of its own.
+                first[0].kind = 2;
+                0
+            } else {
+                open[rng.index(open.len())]
+            }
+        }
+    };
+    if rng.once_in(6) {
+        make::damage_table(rng, &mut first);
+    }
+    if rng.once_in(6) {
+        make::damage_table(rng, &mut second);
+    }
+    for table in [&mut first, &mut second] {
+        if rng.once_in(80) {
+            let length = rng.pick(&[0, 257, 300]);
+            table.resize(length, Cell { parent: 0, kind: 1, width: 1, depth: 1, ..Cell::default() });
+        }
+    }
+    (first, second, cell)
+}
+
 /// A frame about as wide as the plan's sheet for some allowance, or any, or none at all.
 fn some_frame(rng: &mut Rng, cells: &[Cell]) -> u32 {
     match rng.index(12) {
@@ -784,7 +934,7 @@ fn some_table(rng: &mut Rng) -> Vec<Cell> {
 /// The answers that each call can give: all must have been seen in a long run.
 fn unseen(seen: &Seen) -> Vec<String> {
     let mut all: Vec<(&str, String)> = Vec::new();
-    let refusals: [(&str, &[u32]); 11] = [
+    let refusals: [(&str, &[u32]); 12] = [
         ("Read", &[1, 2, 3]),
         ("Label", &[2, 3]),
         ("Layout", &[1, 4, 6, 7, 8, 11, 12, 13, 14]),
@@ -796,6 +946,7 @@ fn unseen(seen: &Seen) -> Vec<String> {
         ("Mend", &[1, 2, 3]),
         ("Stroke", &[1, 4, 6, 7, 8, 11, 12, 13, 15, 17, 18]),
         ("Strip", &[1, 4, 6, 7, 8, 11, 12, 13, 15]),
+        ("Join", &[1, 16]),
     ];
     for (call, numbers) in refusals {
         all.extend(numbers.iter().map(|n| (call, format!("refused {n:2}"))));
@@ -837,6 +988,12 @@ fn unseen(seen: &Seen) -> Vec<String> {
         all.extend(["kept", "broken S1", "broken S2", "broken S3"].map(|a| ("Check", format!("ranks {ranks} {a}"))));
     }
     all.extend([4, 5].map(|s| ("Check", format!("ranks moved broken S{s}"))));
+    for table in ["first", "second"] {
+        all.extend([4, 6, 7, 8].map(|n| ("Join", format!("{table} refused {n:2}"))));
+    }
+    all.extend([4, 11, 12, 13].map(|n| ("Join", format!("joined refused {n:2}"))));
+    let outcomes = ["accepted", "root first", "root between", "root last", "128 and 128", "200 and 57", "under a step", "under a full run", "same memory", "first without a sheet"];
+    all.extend(outcomes.map(|a| ("Join", a.into())));
     all.extend(["refused  4", "refused  5", "refused  6", "refused  8", "refused 10"].map(|a| ("Read", format!("mixed {a}"))));
     all.into_iter().filter(|(c, a)| !seen.contains_key(&(*c, a.clone()))).map(|(c, a)| format!("{c} {a}")).collect()
 }
@@ -854,6 +1011,8 @@ fn main() {
         scratch: Guarded::new(4 * (SCRATCH + 200)),
         out: Guarded::new(LISTING + 200),
         lines: Guarded::new(LINES + 200),
+        second: Guarded::new(400 * size_of::<Record>()),
+        joined: Guarded::new(400 * size_of::<Record>()),
     };
     let mut run = Run { seed, number: 0, seen: Seen::new(), calls: 0, rooms };
     for number in first..first + inputs {
@@ -864,6 +1023,7 @@ fn main() {
         } else {
             run.a_file(&mut rng);
         }
+        run.a_join(&mut rng);
     }
     for ((call, answer), times) in &run.seen {
         println!("{call:7} {answer:22} {times:8}");

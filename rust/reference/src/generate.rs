@@ -462,3 +462,17 @@ fn margin(rng: &mut Rng) -> f64 {
         _ => (rng.next() >> 11) as f64 / (1u64 << 53) as f64 * 100.0,
     }
 }
+
+/// A plan of exactly n cells, each father with 16 sons but the last: cell c is under cell (c - 1) / 16.
+pub fn broad(n: usize) -> Vec<Cell> {
+    let father = |c: usize| (c - 1) / MAX_SONS;
+    let kind = |c: usize| if n > 1 && c <= father(n - 1) { 2 } else { 1 };
+    (0..n).map(|c| Cell { parent: if c == 0 { ROOT } else { father(c) as u16 }, kind: kind(c), width: 3, depth: 1, ..Cell::default() }).collect()
+}
+
+/// A chain of runs of this depth, with a step at its end.
+pub fn chain(n: usize, depth: u8) -> Vec<Cell> {
+    (0..n)
+        .map(|c| Cell { parent: if c == 0 { ROOT } else { c as u16 - 1 }, kind: if c + 1 < n { 2 } else { 1 }, width: 2, depth, ..Cell::default() })
+        .collect()
+}

@@ -7,6 +7,7 @@
 mod copy;
 mod frame;
 pub mod generate;
+mod join;
 mod layout;
 mod listing;
 mod mend;
@@ -19,6 +20,7 @@ mod strip;
 
 pub use copy::{clean_form, content, copy, Content, COPY};
 pub use frame::frame;
+pub use join::{ask_part, join};
 pub use layout::{distances_by_pairs, distances_by_paths, layout, place, SCRATCH};
 pub use listing::{list, listing, LISTING};
 pub use mend::{lines, mend, mended, Altered, LINES, MENDED};

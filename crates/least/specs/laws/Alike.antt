@@ -11,7 +11,7 @@ use Rattle.plan.specs.Lists.{At}
 use Rattle.plan.specs.Plan.{Table, Is, Sound, children, row}
 use Rattle.plan.specs.laws.Paths.{child-less, row-child}
 use Rattle.contours.specs.Contour.{Contour, offset}
-use Rattle.contours.specs.Sheet.{middle, around, trace, contours, column, sheet}
+use Rattle.contours.specs.Sheet.{middle, around, trace, contours, whole-contour, column, sheet}
 use Rattle.contours.specs.laws.Sheet.{column-child}
 use Rattle.least.specs.Alike.{Same, Alike, Twins}
 
@@ -42,6 +42,10 @@ module _ (t u : Table) (al : ℕ) where
     contours-alike : (a b : ℕ) → Alike t u (children t a) (children u b) → contours t al a ≡ contours u al b
     unfolding contours
     contours-alike a b h = traces-alike (length t) (length u) h (λ i s z. (child-less t st a i s z .1, omega arith)) (λ i s z. (child-less u su b i s z .1, omega arith))
+
+    -- alike subtrees have one contour
+    pub contour-alike : (a b : ℕ) → Alike t u (a ∷ []) (b ∷ []) → whole-contour t al a ≡ whole-contour u al b
+    contour-alike a b (Alike.cons m l r) = around-alike a b _ _ m (contours-alike a b l)
 
     -- children a and b of f and g, in the same place
     top : (f g o a b : ℕ) → At (children t f) o a → At (children u g) o b → contours t al f ≡ contours u al g → Same t u f g

@@ -122,7 +122,7 @@ module _ (call : Call) (g : Given) where
       let (f, z) = all-find qs c k d q n in
       record { here = rw z f; put-to = omega arith; lower-yes = λ b j. all-read call g qs b (y b (omega arith) (omega arith)) }
 
-  steps-find : (ss : List Step) (k c : ℕ) → take-steps call g ss ≡ named k c → ¬ (k ≡ 0) → FirstNoOf call g ss k c
+  pub steps-find : (ss : List Step) (k c : ℕ) → take-steps call g ss ≡ named k c → ¬ (k ≡ 0) → FirstNoOf call g ss k c
   unfolding take-steps
   steps-find [] k c e n = absurd (n (ap (λ (r : Refusal). r .number) (sym e)))
   steps-find (s ∷ ss) k c e n = go (ℕ-discrete (take-step call g s .number) 0) (λ z. steps-find ss k c z n)
@@ -205,7 +205,7 @@ module _ (call : Call) (g : Given) where
   steps-no (a ∷ earlier) s later r y e n =
       ap (λ (x : Refusal). or-else x (take-steps call g (earlier ++ (s ∷ later)))) (step-show call g a (y .0)) ∙ none-first _ ∙ steps-no earlier s later r (y .1) e n
 
-  found-refuses : (ss : List Step) (k c : ℕ) → FirstNoOf call g ss k c → take-steps call g ss ≡ named k c
+  pub found-refuses : (ss : List Step) (k c : ℕ) → FirstNoOf call g ss k c → take-steps call g ss ≡ named k c
   found-refuses ss k c f =
       let e = step-no (f .step) (f .before) (f .question) (f .after) c (f .place) (f .put-to) (f .lower-yes) (f .before-yes) (f .put) (f .no) in
       let r = steps-no (f .earlier) (f .step) (f .later) (named (number (f .question)) c) (f .earlier-yes) e (put-number (f .question) (f .put)) in

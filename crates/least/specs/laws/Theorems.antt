@@ -1,29 +1,30 @@
 -- Laws of the definitions in specs/NoLess.antt. Assumes nothing.
 use Prim.Native.Nat.{ℕ, _≤_}
 use mathlib.Core.List.{List, [], _∷_, map}
-use mathlib.Core.Path.{_≡_, sym, _∙_}
+use mathlib.Core.Path.{_≡_, sym, ap, _∙_}
 use mathlib.Core.Logic.{_↔_}
 use lib.ListN.{length}
 use lib.Dec.{T}
-use lib.IntN.{ℤ, _-ℤ_}
+use lib.IntN.{ℤ, pos, _-ℤ_}
 use lib.Signed.{_≤ℤ_}
 use Rattle.whole.specs.laws.Whole.{whole}
-use Rattle.plan.specs.Plan.{Table, Sound, next}
+use Rattle.plan.specs.Plan.{Table, Is, Sound, next}
 use Rattle.plan.specs.Questions.{layout, check, none, refusal, layout-given, check-given}
-use Rattle.rules.specs.Placement.{Placement, placed, Agree, width, rows}
+use Rattle.rules.specs.Placement.{Placement, placed, Agree, width, rows, left-extent, right-extent}
 use Rattle.rules.specs.Rules.{Keeps}
 use Rattle.rules.specs.Search.{Verdict}
 use Rattle.rules.specs.Verdict.{verdict, Exact, answer, fine}
 use Rattle.rules.specs.laws.Verdict.{verdict-exact, kept-keeps, keeps-kept, answer-fine, fine-answer}
 use Rattle.rules.specs.laws.Extents.{y-row, rows-plan}
 use Rattle.rules.specs.laws.Agreement.{answer-same}
+use Rattle.contours.specs.Contour.{Contour, greatest}
 use Rattle.contours.specs.Sheet.{sheet}
 use Rattle.least.specs.Asked.{layout-asks, check-asks}
 use Rattle.least.specs.laws.Measures as measures
 use Rattle.least.specs.laws.Measures.{sheet-left, sheet-right, sheet-width, any-left, any-right, any-width, any-apart}
 use Rattle.least.specs.laws.Columns.{sheet-inside}
 use Rattle.least.specs.Alike.{Alike, Twins}
-use Rattle.least.specs.laws.Alike.{shifted}
+use Rattle.least.specs.laws.Alike.{shifted, contour-alike}
 use Rattle.least.specs.laws.Alone.{same-columns}
 use Rattle.least.specs.laws.Wider.{keeps-wider}
 use Rattle.least.specs.Worked.{sheets, computed}
@@ -99,3 +100,12 @@ worked = computes
 pub wider-allowance : (t : Table) → 1 ≤ length t → Sound t → (al al′ : ℕ) → al ≤ al′ → NoLess t (sheet t al′) (sheet t al)
 wider-allowance t some-cell sound al al′ h =
     sheet-least t some-cell sound al′ (sheet t al) (keeps-wider t (sheet t al) al al′ h (sheet-keeps t some-cell sound al))
+
+-- 10. Alike subtrees, of one table or of two, extend equally far to the left and to the right under one allowance.
+pub alike-extents : (t u : Table) → Sound t → Sound u → (al a b : ℕ) → Is t a → Is u b → Alike t u (a ∷ []) (b ∷ [])
+    → (left-extent t (sheet t al) a ≡ left-extent u (sheet u al) b) × (right-extent t (sheet t al) a ≡ right-extent u (sheet u al) b)
+alike-extents t u st su al a b i j h =
+    let e = contour-alike t u al st su a b h in (
+      sheet-left t st al a i ∙ ap (λ (o : Contour). pos (greatest (o .left))) e ∙ sym (sheet-left u su al b j),
+      sheet-right t st al a i ∙ ap (λ (o : Contour). pos (greatest (o .right))) e ∙ sym (sheet-right u su al b j),
+    )

@@ -193,6 +193,28 @@ fn strip_calls(rng: &mut Rng) -> Result<(), &'static str> {
     }
 }
 
+/// Join, and that Layout takes what it writes.
+fn join_call(rng: &mut Rng) -> Result<(), &'static str> {
+    let (first, second) = (lent(&some_table(rng)), lent(&some_table(rng)));
+    let room = if rng.once_in(10) { rng.index(256) } else { 256 + rng.index(9) };
+    let fill = bindings::Record { parent: 77, kind: 9, rank: 1, width: 2_000, depth: 99, label_length: 7, label_start: 8 };
+    let mut table = lent(&vec![fill; room]);
+    let cell = if rng.once_in(10) { rng.next() as usize } else { rng.index(first.len() + 1) };
+    let joined = bindings::join(&first, if rng.once_in(5) { &first } else { &second }, cell, &mut table);
+    let written = joined.unwrap_or(0);
+    if table[written..].iter().any(|r| *r != fill) {
+        return Err("Join wrote past the joined records");
+    }
+    if written == 0 {
+        return Ok(());
+    }
+    let (mut scratch, mut positions) = (lent(&vec![0; SCRATCH]), lent(&vec![0; 2 * written]));
+    match bindings::layout(&table[..written], 0, &mut scratch, &mut positions) {
+        Ok(_) => Ok(()),
+        Err(_) => Err("Layout refuses a joined plan"),
+    }
+}
+
 /// Frame, and what it says against Layout.
 fn frame_calls(rng: &mut Rng) -> Result<(), &'static str> {
     let table = lent(&some_table(rng));
@@ -267,13 +289,14 @@ fn library(end: Instant, seed: u64) -> u64 {
     let mut number = 0;
     while Instant::now() < end {
         let mut rng = Rng::new(seed, number);
-        let done = match number % 8 {
+        let done = match number % 9 {
             0 | 1 => table_calls(&mut rng),
             2 => file_calls(&mut rng),
             3 => list_call(&mut rng),
             4 => copy_calls(&mut rng),
             5 => mend_calls(&mut rng),
             6 => strip_calls(&mut rng),
+            7 => join_call(&mut rng),
             _ => frame_calls(&mut rng),
         };
         done.unwrap_or_else(|what| fault(what, seed, number));

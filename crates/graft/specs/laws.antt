@@ -1,0 +1,11 @@
+pub mod Crowded
+pub mod FirstNo
+pub mod Hung
+pub mod Joined
+pub mod Laid
+pub mod Lists
+pub mod Paths
+pub mod Placed
+pub mod Reaches
+pub mod Sequence
+pub mod Worked

@@ -1,0 +1,50 @@
+use Prim.Native.Nat.{_≤_, _-_}
+use mathlib.Core.Path.{_≡_}
+use native.Mathlib.Omega.{arith}
+use Rattle.planfile.specs.Reading.{column}
+use Rattle.grafting.specs.Grafted.{picked}
+use Rattle.grafting.specs.laws.Grafted.{column-none, column-more, column-all}
+use borrow.Author.Needs.{needs}
+use Rattle.grafting.proofs.join_bytes.Statement.{statement}
+use Rattle.grafting.proofs.join_bytes.Tie as tie
+
+abbrev Inv-loop : tie.InvT-loop
+Inv-loop first second n k all₀ i₀ all i = (i ≤ k) × (all ≡ column (picked n first second) i)
+
+abbrev μ-loop : tie.MeasureT-loop
+μ-loop first second n k all₀ i₀ all i = k - i
+
+loop-holds : tie.Need-loop-holds Inv-loop μ-loop
+loop-holds c = (omega arith, column-none _)
+
+pick-byte-requires : tie.Need-pick-byte-requires Inv-loop μ-loop
+pick-byte-requires c κs = search needs
+
+array-write-all : tie.Need-array-write-all Inv-loop μ-loop
+array-write-all c = search needs
+
+add-i : tie.Need-add-i Inv-loop μ-loop
+add-i c = search needs
+
+loop-less : tie.Need-loop-less Inv-loop μ-loop
+loop-less c = search needs
+
+loop-again : tie.Need-loop-again Inv-loop μ-loop
+loop-again c = (omega arith, column-more _ _ _ _ (c .before .before .loop .inv .1) (c .pick-byte .ensures))
+
+returns : tie.Need-returns Inv-loop μ-loop
+returns c = column-all _ _ _ _ (c .before .loop .inv .1) (omega arith)
+
+pub join-bytes-spec : {M : Type 1} → statement M
+join-bytes-spec =
+    tie.close
+    (tie.spec
+    Inv-loop
+    μ-loop
+    loop-holds
+    pick-byte-requires
+    array-write-all
+    add-i
+    loop-less
+    loop-again
+    returns)
