@@ -1,0 +1,4 @@
+pub mod Drill
+pub mod Worked
+pub mod Moves
+pub mod laws
