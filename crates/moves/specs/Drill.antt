@@ -24,6 +24,13 @@ going u ss = record { outcome = finished; used = u; steps = ss }
 abbrev pub ended : Outcome → Drill → Drill
 ended o d = record { outcome = o; used = d .used; steps = d .steps }
 
+-- the drill has ended
+abbrev pub Ended : Outcome → Type 0
+Ended finished = ⊥
+Ended spent = Unit {0}
+Ended wrong = Unit {0}
+Ended full = Unit {0}
+
 -- nothing is done any more once the drill has ended
 abbrev pub unless-ended : Outcome → (Drill → Drill) → Drill → Drill
 unless-ended finished f d = f d

@@ -1,12 +1,13 @@
 -- The drill move by move (document 02, E12: "Each move is the one that this description dictates"): a clause for each sentence, and where a drill stops. Assumes nothing.
 use mathlib.Core.Path.{_≡_}
+use mathlib.Core.Logic.{_⊎_}
 use mathlib.Core.List.{List, [], _∷_, _++_}
-use Prim.Native.Nat.{ℕ, zero, suc, _≤_, _<_}
+use Prim.Native.Nat.{ℕ, zero, suc, _+_, _≤_, _<_}
 use lib.ListN.{length, getD}
 use Rattle.plan.specs.Limits.{most-steps}
 use Rattle.plan.specs.Lists.{At}
 use Rattle.plan.specs.Plan.{Table, kind, children}
-use Rattle.moves.specs.Drill.{Outcome, finished, spent, wrong, full, Drill}
+use Rattle.moves.specs.Drill.{Outcome, finished, spent, wrong, full, Drill, Ended}
 
 -- where a drill stands: the cells still to do, in order; the answer bytes used; the steps recorded
 pub record Stand : Type 0 where
@@ -83,3 +84,11 @@ used-at full u = u
 -- the drill that stops at p
 abbrev pub stopped : Outcome → Stand → Drill
 stopped o p = record { outcome = o; used = used-at o (p .used); steps = p .steps }
+
+-- answer bytes used and steps recorded
+abbrev pub tally : Drill → ℕ
+tally d = d .used + length (d .steps)
+
+-- the drill has ended, or something is spent
+abbrev pub Spends : Drill → Drill → Type 0
+Spends d e = Ended (e .outcome) ⊎ (tally d < tally e)

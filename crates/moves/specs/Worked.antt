@@ -1,10 +1,14 @@
--- Worked drills: a plan with every kind, one with ranks against the file, and answer lists with every outcome but full (that: `one-too-many`). Assumes nothing.
+-- Worked drills: a plan with every kind, one with ranks against the file, and answer lists with every outcome but full (which 4,096 records are too many to work out: `last-record`, `one-too-many`). Assumes nothing.
 use mathlib.Core.Path.{_≡_, refl}
-use mathlib.Core.List.{List, [], _∷_}
+use mathlib.Core.List.{List, [], _∷_, _++_}
 use Prim.Native.Nat.{ℕ}
+use native.Mathlib.Omega.{arith}
+use lib.ListN.{length}
+use borrow.Author.Tests.{lt-ltb, le-ltb}
+use Rattle.plan.specs.Limits.{most-steps}
 use Rattle.plan.specs.Lists.{from, keep, insert, sort}
 use Rattle.plan.specs.Plan.{Cell, Table, blank, parent, kind, rank, filed, children}
-use Rattle.moves.specs.Drill.{Outcome, finished, spent, wrong, Drill, recorded, taken, in-order, times, chosen, waited, by-kind, does, drill-of}
+use Rattle.moves.specs.Drill.{Outcome, finished, spent, wrong, full, Drill, going, ended, recorded, taken, in-order, times, chosen, waited, by-kind, does, drill-of}
 
 abbrev cell : (parent kind rank : ℕ) → Cell
 cell p k q = record { parent = p; kind = k; width = 4; depth = 1; rank = q }
@@ -63,3 +67,12 @@ above-one = refl
 pub ranked : run by-rank (0 ∷ []) ≡ ends finished 1 (5 ∷ 2 ∷ 1 ∷ [])
 unfolding run
 ranked = refl
+
+-- the 4,096th record is made, and a step that comes after it makes the drill full
+pub last-record : (c u : ℕ) (ss : List ℕ) → length ss ≡ 4095 → recorded c (going u ss) ≡ going u (ss ++ c ∷ [])
+unfolding recorded
+last-record c u ss e = rw (lt-ltb (length ss) most-steps (omega arith), recorded)
+
+pub one-too-many : (c u : ℕ) (ss : List ℕ) → length ss ≡ 4096 → recorded c (going u ss) ≡ ended full (going u ss)
+unfolding recorded
+one-too-many c u ss e = rw (le-ltb (length ss) most-steps (omega arith), recorded)

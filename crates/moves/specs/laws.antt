@@ -1,2 +1,4 @@
 pub mod Drill
 pub mod Moves
+pub mod Beyond
+pub mod Passes

@@ -16,7 +16,7 @@ use Rattle.plan.specs.laws.Trees.{level-child}
 use Rattle.plan.specs.Kinds.{about, allows}
 use Rattle.plan.specs.laws.Steps.{and-left, and-right}
 use Rattle.plan.specs.Fit.{Fit}
-use Rattle.moves.specs.Drill.{Outcome, finished, spent, wrong, full, Drill, ended, unless-ended, recorded, taken, in-order, times, chosen, waited, by-kind, does, doing}
+use Rattle.moves.specs.Drill.{Outcome, finished, spent, wrong, full, Drill, ended, Ended, unless-ended, recorded, taken, in-order, times, chosen, waited, by-kind, does, doing}
 
 -- f and g do the cells of cs alike
 abbrev Alike : (f g : ℕ → Drill → Drill) → List ℕ → Type 0
@@ -73,7 +73,7 @@ unless-same full f g h d = refl
 
 module _ (t : Table) (fit : Fit t) (bs : List ℕ) where
   -- as many levels as there may be from c downwards are enough
-  pub enough : (m n c : ℕ) → Is t c → most-level < level t c + m → most-level < level t c + n → (d : Drill) → does t bs m c d ≡ does t bs n c d
+  enough : (m n c : ℕ) → Is t c → most-level < level t c + m → most-level < level t c + n → (d : Drill) → does t bs m c d ≡ does t bs n c d
   unfolding does
   enough zero n c i p q d = absurd (omega (arith, fit .not-too-low c i))
   enough (suc m) zero c i p q d = absurd (omega (arith, fit .not-too-low c i))
@@ -90,13 +90,11 @@ module _ (t : Table) (fit : Fit t) (bs : List ℕ) where
       (by-kind-same bs (does t bs most-level) (doing t bs) (kind t c) c (children t c)
       (λ j s h. enough most-level (suc most-level) s (child-read t c j s h .is) (omega (arith, level-child t (fit .sound) c j s h)) (omega (arith, level-child t (fit .sound) c j s h)))) d
 
--- ---- an ended drill
-abbrev pub Ended : Outcome → Type 0
-Ended finished = ⊥
-Ended spent = Unit {0}
-Ended wrong = Unit {0}
-Ended full = Unit {0}
+  -- from the root 32 levels are enough
+  pub levels-enough : (m : ℕ) → suc most-level ≤ m → (d : Drill) → does t bs m 0 d ≡ doing t bs 0 d
+  levels-enough m l d = enough m (suc most-level) 0 (fit .some-cell) (omega arith) (omega arith) d
 
+-- ---- an ended drill
 pub unless-id : (o : Outcome) (f : Drill → Drill) (d : Drill) → Ended o → unless-ended o f d ≡ d
 unless-id finished f d h = absurd h
 unless-id spent f d h = refl

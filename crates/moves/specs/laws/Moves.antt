@@ -17,9 +17,9 @@ use Rattle.plan.specs.laws.Plan.{child-read}
 use Rattle.plan.specs.laws.Trees.{level-child}
 use Rattle.plan.specs.Kinds.{allows}
 use Rattle.plan.specs.Fit.{Fit}
-use Rattle.moves.specs.Drill.{Outcome, finished, spent, wrong, full, Drill, going, ended, unless-ended, recorded, taken, in-order, times, chosen, waited, by-kind, does, doing, drill-of}
+use Rattle.moves.specs.Drill.{Outcome, finished, spent, wrong, full, Drill, going, ended, Ended, recorded, taken, in-order, times, chosen, waited, by-kind, does, doing, drill-of}
 use Rattle.moves.specs.Moves.{Stand, at, over, Takes, Byte, Move, records, runs, repeats, chooses, goes-on, does-it, Reach, stay, then, Reached, Stops, all-done, none-left, no-branch, above-one, no-room, Ends, used-at, stopped}
-use Rattle.moves.specs.laws.Drill.{Ended, order-ended, in-order-append, doing-is, no-kind, no-kind-more}
+use Rattle.moves.specs.laws.Drill.{order-ended, in-order-append, doing-is, no-kind, no-kind-more}
 
 append-assoc : (xs ys zs : List ℕ) → (xs ++ ys) ++ zs ≡ xs ++ (ys ++ zs)
 append-assoc [] ys zs = refl
