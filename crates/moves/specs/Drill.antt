@@ -25,11 +25,11 @@ abbrev pub ended : Outcome → Drill → Drill
 ended o d = record { outcome = o; used = d .used; steps = d .steps }
 
 -- the drill has ended
-abbrev pub Ended : Outcome → Type 0
-Ended finished = ⊥
-Ended spent = Unit {0}
-Ended wrong = Unit {0}
-Ended full = Unit {0}
+abbrev pub HasEnded : Outcome → Type 0
+HasEnded finished = ⊥
+HasEnded spent = Unit {0}
+HasEnded wrong = Unit {0}
+HasEnded full = Unit {0}
 
 -- nothing is done any more once the drill has ended
 abbrev pub unless-ended : Outcome → (Drill → Drill) → Drill → Drill

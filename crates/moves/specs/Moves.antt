@@ -7,7 +7,7 @@ use lib.ListN.{length, getD}
 use Rattle.plan.specs.Limits.{most-steps}
 use Rattle.plan.specs.Lists.{At}
 use Rattle.plan.specs.Plan.{Table, kind, children}
-use Rattle.moves.specs.Drill.{Outcome, finished, spent, wrong, full, Drill, Ended}
+use Rattle.moves.specs.Drill.{Outcome, finished, spent, wrong, full, Drill, HasEnded}
 
 -- where a drill stands: the cells still to do, in order; the answer bytes used; the steps recorded
 pub record Stand : Type 0 where
@@ -91,4 +91,4 @@ tally d = d .used + length (d .steps)
 
 -- the drill has ended, or something is spent
 abbrev pub Spends : Drill → Drill → Type 0
-Spends d e = Ended (e .outcome) ⊎ (tally d < tally e)
+Spends d e = HasEnded (e .outcome) ⊎ (tally d < tally e)

@@ -16,7 +16,7 @@ use Rattle.plan.specs.laws.Trees.{level-child}
 use Rattle.plan.specs.Kinds.{about, allows}
 use Rattle.plan.specs.laws.Steps.{and-left, and-right}
 use Rattle.plan.specs.Fit.{Fit}
-use Rattle.moves.specs.Drill.{Outcome, finished, spent, wrong, full, Drill, ended, Ended, unless-ended, recorded, taken, in-order, times, chosen, waited, by-kind, does, doing}
+use Rattle.moves.specs.Drill.{Outcome, finished, spent, wrong, full, Drill, ended, HasEnded, unless-ended, recorded, taken, in-order, times, chosen, waited, by-kind, does, doing}
 
 -- f and g do the cells of cs alike
 abbrev Alike : (f g : ℕ → Drill → Drill) → List ℕ → Type 0
@@ -95,21 +95,21 @@ module _ (t : Table) (fit : Fit t) (bs : List ℕ) where
   levels-enough m l d = enough m (suc most-level) 0 (fit .some-cell) (omega arith) (omega arith) d
 
 -- ---- an ended drill
-pub unless-id : (o : Outcome) (f : Drill → Drill) (d : Drill) → Ended o → unless-ended o f d ≡ d
+pub unless-id : (o : Outcome) (f : Drill → Drill) (d : Drill) → HasEnded o → unless-ended o f d ≡ d
 unless-id finished f d h = absurd h
 unless-id spent f d h = refl
 unless-id wrong f d h = refl
 unless-id full f d h = refl
 
 module _ (t : Table) (bs : List ℕ) (n : ℕ) where
-  pub does-ended : (c : ℕ) (d : Drill) → Ended (d .outcome) → does t bs n c d ≡ d
+  pub does-ended : (c : ℕ) (d : Drill) → HasEnded (d .outcome) → does t bs n c d ≡ d
   does-ended c d h = go n
     where
       go : (n : ℕ) → does t bs n c d ≡ d
       go zero = unfold does in refl
       go (suc n) = unfold does in (unless-id (d .outcome) _ d h)
 
-  pub order-ended : (xs : List ℕ) (d : Drill) → Ended (d .outcome) → in-order (does t bs n) xs d ≡ d
+  pub order-ended : (xs : List ℕ) (d : Drill) → HasEnded (d .outcome) → in-order (does t bs n) xs d ≡ d
   unfolding in-order
   order-ended [] d h = refl
   order-ended (x ∷ xs) d h = ap (in-order (does t bs n) xs) (does-ended x d h) ∙ order-ended xs d h

@@ -17,7 +17,7 @@ use Rattle.plan.specs.laws.Plan.{child-read}
 use Rattle.plan.specs.laws.Trees.{level-child}
 use Rattle.plan.specs.Kinds.{allows}
 use Rattle.plan.specs.Fit.{Fit}
-use Rattle.moves.specs.Drill.{Outcome, finished, spent, wrong, full, Drill, going, ended, Ended, recorded, taken, in-order, times, chosen, waited, by-kind, does, doing, drill-of}
+use Rattle.moves.specs.Drill.{Outcome, finished, spent, wrong, full, Drill, going, ended, HasEnded, recorded, taken, in-order, times, chosen, waited, by-kind, does, doing, drill-of}
 use Rattle.moves.specs.Moves.{Stand, at, over, Takes, Byte, Move, records, runs, repeats, chooses, goes-on, does-it, Reach, stay, then, Reached, Stops, all-done, none-left, no-branch, above-one, no-room, Ends, used-at, stopped}
 use Rattle.moves.specs.laws.Drill.{order-ended, in-order-append, doing-is, no-kind, no-kind-more}
 
@@ -34,14 +34,14 @@ module _ (t : Table) (bs : List ℕ) where
   -- from p the moves lead to where the drill e goes on with the cells rest; or to where it stops
   data Leads (rest : List ℕ) (p : Stand) : Drill → Type 0 where
     on : {u : ℕ} {ss : List ℕ} → Reach t bs p (at rest u ss) → Leads rest p (going u ss)
-    off : {o : Outcome} {q : Stand} → Ended o → Reach t bs p q → Stops t bs o q → Leads rest p (stopped o q)
+    off : {o : Outcome} {q : Stand} → HasEnded o → Reach t bs p q → Stops t bs o q → Leads rest p (stopped o q)
 
   after : {rest : List ℕ} {p q : Stand} {e : Drill} → Reach t bs p q → Leads rest q e → Leads rest p e
   after w (on v) = on (on-then w v)
   after w (off h v s) = off h (on-then w v) s
 
   -- then g, which leaves an ended drill as it is
-  chain : {mid rest : List ℕ} {p : Stand} {e : Drill} (g : Drill → Drill) → ((d : Drill) → Ended (d .outcome) → g d ≡ d) → ((v : ℕ) (vs : List ℕ) → Leads rest (at mid v vs) (g (going v vs)))
+  chain : {mid rest : List ℕ} {p : Stand} {e : Drill} (g : Drill → Drill) → ((d : Drill) → HasEnded (d .outcome) → g d ≡ d) → ((v : ℕ) (vs : List ℕ) → Leads rest (at mid v vs) (g (going v vs)))
       → Leads mid p e → Leads rest p (g e)
   chain g still k (on {u = v} {ss = vs} w) = after w (k v vs)
   chain g still k (off {o = o} {q = q} h w s) = rw (still (stopped o q) h) (off h w s)
@@ -59,7 +59,7 @@ module _ (t : Table) (bs : List ℕ) where
     order-leads [] rest h u ss = on stay
     order-leads (x ∷ l) rest h u ss = chain (in-order f l) (order-ended t bs n l) (order-leads l rest (λ i. h (suc i))) (h 0 x refl (l ++ rest) u ss)
 
-    times-ended : (cs : List ℕ) (a : ℕ) (e : Drill) → Ended (e .outcome) → times a (in-order f cs) e ≡ e
+    times-ended : (cs : List ℕ) (a : ℕ) (e : Drill) → HasEnded (e .outcome) → times a (in-order f cs) e ≡ e
     unfolding times
     times-ended cs zero e g = refl
     times-ended cs (suc a) e g = ap (times a (in-order f cs)) (order-ended t bs n cs e g) ∙ times-ended cs a e g

@@ -16,14 +16,14 @@ use Rattle.plan.specs.laws.Plan.{child-read}
 use Rattle.plan.specs.laws.Trees.{level-child}
 use Rattle.plan.specs.Kinds.{allows}
 use Rattle.plan.specs.Fit.{Fit}
-use Rattle.moves.specs.Drill.{Outcome, finished, spent, wrong, full, Drill, ended, Ended, unless-ended, recorded, taken, in-order, times, chosen, waited, by-kind, does, doing}
+use Rattle.moves.specs.Drill.{Outcome, finished, spent, wrong, full, Drill, ended, HasEnded, unless-ended, recorded, taken, in-order, times, chosen, waited, by-kind, does, doing}
 use Rattle.moves.specs.Moves.{tally, Spends}
 use Rattle.moves.specs.laws.Drill.{does-ended, no-kind, no-kind-more, run-children}
 
 abbrev Holds : Drill → Drill → Type 0
-Holds d e = Ended (e .outcome) ⊎ (tally d ≤ tally e)
+Holds d e = HasEnded (e .outcome) ⊎ (tally d ≤ tally e)
 
-unless-spends : (o : Outcome) (f : Drill → Drill) (d : Drill) → (Ended o → Ended (d .outcome)) → Spends d (f d) → Spends d (unless-ended o f d)
+unless-spends : (o : Outcome) (f : Drill → Drill) (d : Drill) → (HasEnded o → HasEnded (d .outcome)) → Spends d (f d) → Spends d (unless-ended o f d)
 unless-spends finished f d k h = h
 unless-spends spent f d k h = inl (k tt)
 unless-spends wrong f d k h = inl (k tt)
@@ -34,7 +34,7 @@ module _ (t : Table) (fit : Fit t) (bs : List ℕ) where
     abbrev f : ℕ → Drill → Drill
     f = does t bs n
 
-    order-ended : (cs : List ℕ) (d : Drill) → Ended (d .outcome) → Ended (in-order f cs d .outcome)
+    order-ended : (cs : List ℕ) (d : Drill) → HasEnded (d .outcome) → HasEnded (in-order f cs d .outcome)
     unfolding in-order
     order-ended [] d h = h
     order-ended (c ∷ cs) d h = order-ended cs (f c d) (rw (does-ended t bs n c d h) h)
@@ -63,7 +63,7 @@ module _ (t : Table) (fit : Fit t) (bs : List ℕ) where
           go (inr l) (inl e) = inl e
           go (inr l) (inr m) = inr (omega arith)
 
-      times-ended : (a : ℕ) (d : Drill) → Ended (d .outcome) → Ended (times a (in-order f cs) d .outcome)
+      times-ended : (a : ℕ) (d : Drill) → HasEnded (d .outcome) → HasEnded (times a (in-order f cs) d .outcome)
       unfolding times
       times-ended zero d h = h
       times-ended (suc a) d h = times-ended a (in-order f cs d) (order-ended cs d h)

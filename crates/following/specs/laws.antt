@@ -1,0 +1,5 @@
+pub mod Machine
+pub mod Siblings
+pub mod Runs
+pub mod Follows
+pub mod Drilled
