@@ -18,6 +18,9 @@ use Rattle.printing.specs.declared.Listed.the-variants.{Text, Refused as Unlist
 use Rattle.fitting.specs.Fitted.{Frames}
 use Rattle.fitting.specs.declared.Fitted.{Fitted}
 use Rattle.fitting.specs.declared.Fitted.the-variants.{Allowance, None, Refused as Unfitted}
+use Rattle.following.specs.Drilled.{Drills}
+use Rattle.following.specs.declared.Drilled.{Drilled}
+use Rattle.following.specs.declared.Drilled.the-variants.{Finished, Spent, Wrong, Full, Refused as Undrilled}
 use Rattle.engine.specs.Read.{Reads}
 use Rattle.engine.specs.declared.ReadAnswer.{ReadAnswer as Read}
 use Rattle.engine.specs.declared.ReadAnswer.the-variants.{Plan, Refused as Unread}
@@ -27,6 +30,7 @@ use Rattle.answers.specs.declared.CheckAnswer.{CheckAnswer}
 use Rattle.answers.specs.declared.EndsAnswer.{EndsAnswer}
 use Rattle.answers.specs.declared.ListAnswer.{ListAnswer}
 use Rattle.answers.specs.declared.FrameAnswer.{FrameAnswer}
+use Rattle.answers.specs.declared.DrillAnswer.{DrillAnswer}
 
 unfoldable pub read-answer : Read → ReadAnswer
 read-answer (Plan n al) = record { number = 0; cell = 0; allowance = al; count = n }
@@ -55,6 +59,14 @@ frame-answer (Allowance a) = record { number = 0; cell = 0; outcome = 1; allowan
 frame-answer None = record { number = 0; cell = 0; outcome = 2; allowance = 0 }
 frame-answer (Unfitted k c) = record { number = k; cell = c; outcome = 0; allowance = 0 }
 
+-- outcome 1 for "finished", 2 for "spent", 3 for "wrong", 4 for "full"
+unfoldable pub drill-answer : Drilled → DrillAnswer
+drill-answer (Finished u n) = record { number = 0; cell = 0; outcome = 1; used = u; records = n }
+drill-answer (Spent u n) = record { number = 0; cell = 0; outcome = 2; used = u; records = n }
+drill-answer (Wrong u n) = record { number = 0; cell = 0; outcome = 3; used = u; records = n }
+drill-answer (Full u n) = record { number = 0; cell = 0; outcome = 4; used = u; records = n }
+drill-answer (Undrilled k c) = record { number = k; cell = c; outcome = 0; used = 0; records = 0 }
+
 -- a call of Read, as `Reads` has it, with the struct for its answer
 pub record Filling (f : List ℕ) (t t′ : List Record) (r : ReadAnswer) : Type 0 where
   pub read : Read
@@ -78,3 +90,9 @@ pub record Framing (t : Table) (squares : ℕ) (s s′ : List ℕ) (r : FrameAns
   pub fitted : Fitted
   pub frames : Frames t squares s s′ fitted
   pub answers : r ≡ frame-answer fitted
+
+-- a call of a drill, as `Drills` has it, with the struct for its answer
+pub record Drilling (t : Table) (bs xs xs′ : List ℕ) (r : DrillAnswer) : Type 0 where
+  pub drilled : Drilled
+  pub drills : Drills t bs xs xs′ drilled
+  pub answers : r ≡ drill-answer drilled

@@ -2,10 +2,11 @@
 use checker::Checked;
 use ends::Ended;
 use fitting::Fitted;
+use following::Drilled;
 use layout::Laid;
 use printing::Listed;
 ghost use mathlib.Core.Path.{_≡_};
-ghost use Rattle.answers.specs.Answers.{«read-answer», «laid-answer», «check-answer», «ends-answer», «list-answer», «frame-answer»};
+ghost use Rattle.answers.specs.Answers.{«read-answer», «laid-answer», «check-answer», «ends-answer», «list-answer», «frame-answer», «drill-answer»};
 
 // Number and cell of the refusal, or 0 and 0; the number of cells and the allowance.
 #[repr(C)]
@@ -77,6 +78,16 @@ pub struct FrameAnswer {
     pub cell: u16,
     pub outcome: u8,
     pub allowance: u32,
+}
+
+// Number and cell of the refusal, or 0 and 0; 1 finished, 2 spent, 3 wrong, 4 full; the bytes used and the number of records.
+#[repr(C)]
+pub struct DrillAnswer {
+    pub number: u8,
+    pub cell: u16,
+    pub outcome: u8,
+    pub used: usize,
+    pub records: usize,
 }
 
 // The answer of Read as a struct.
@@ -218,6 +229,49 @@ pub fn told_frame(answer: Fitted) -> FrameAnswer
             cell,
             outcome: 0,
             allowance: 0,
+        },
+    }
+}
+
+// The answer of a drill as a struct.
+pub fn told_drill(answer: Drilled) -> DrillAnswer
+    ensures { λ r. ⌜ r ≡ drill-answer answer ⌝ }
+{
+    match answer {
+        Drilled::Finished(used, records) => DrillAnswer {
+            number: 0,
+            cell: 0,
+            outcome: 1,
+            used,
+            records,
+        },
+        Drilled::Spent(used, records) => DrillAnswer {
+            number: 0,
+            cell: 0,
+            outcome: 2,
+            used,
+            records,
+        },
+        Drilled::Wrong(used, records) => DrillAnswer {
+            number: 0,
+            cell: 0,
+            outcome: 3,
+            used,
+            records,
+        },
+        Drilled::Full(used, records) => DrillAnswer {
+            number: 0,
+            cell: 0,
+            outcome: 4,
+            used,
+            records,
+        },
+        Drilled::Refused(number, cell) => DrillAnswer {
+            number,
+            cell,
+            outcome: 0,
+            used: 0,
+            records: 0,
         },
     }
 }

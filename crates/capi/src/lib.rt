@@ -1,5 +1,6 @@
 // The calls for programs in C and Rust: include/kuzpalen.h documents each. A lent buffer is a pointer and a length; an answer is a struct of numbers.
 use answers::CheckAnswer;
+use answers::DrillAnswer;
 use answers::EndsAnswer;
 use answers::FrameAnswer;
 use answers::LabelAnswer;
@@ -8,6 +9,7 @@ use answers::LayoutAnswer;
 use answers::ListAnswer;
 use answers::ReadAnswer;
 use answers::told_check;
+use answers::told_drill;
 use answers::told_ends;
 use answers::told_frame;
 use answers::told_layout;
@@ -19,7 +21,7 @@ ghost use Rattle.plan.specs.Records.{«cells-of»};
 ghost use Rattle.planfile.specs.Reading.{«label-refusal», «label-part»};
 ghost use Rattle.checker.specs.Checked.{«checked-of»};
 ghost use Rattle.ends.specs.Ended.{«ended-of»};
-ghost use Rattle.answers.specs.Answers.{«check-answer», «ends-answer», Filling, Laying, ListFilling, Framing};
+ghost use Rattle.answers.specs.Answers.{«check-answer», «ends-answer», Filling, Laying, ListFilling, Framing, Drilling};
 
 #[no_mangle]
 pub extern "C" fn kuzpalen_read(file: &[u8], table: &mut [Record]) -> ReadAnswer
@@ -95,4 +97,12 @@ pub extern "C" fn kuzpalen_frame(table: &[Record], squares: u32, scratch: &mut [
 {
     let answer = engine::frame(table, squares, scratch);
     told_frame(answer)
+}
+
+#[no_mangle]
+pub extern "C" fn kuzpalen_drill(table: &[Record], answers: &[u8], list: &mut [u16]) -> DrillAnswer
+    ensures { λ r. ⌜ Drilling (cells-of (now (table .entry))) (now (answers .entry)) (now (list .entry)) (now (list .exit)) r ⌝ }
+{
+    let answer = engine::drill(table, answers, list);
+    told_drill(answer)
 }

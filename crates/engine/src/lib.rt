@@ -2,6 +2,7 @@
 use checker::Checked;
 use ends::Ended;
 use fitting::Fitted;
+use following::Drilled;
 use layout::Laid;
 use plan::Record;
 use plan::Refusal;
@@ -17,6 +18,7 @@ ghost use Rattle.fitting.specs.Fitted.{Frames};
 ghost use Rattle.checker.specs.Checked.{«checked-of»};
 ghost use Rattle.ends.specs.Ended.{«ended-of»};
 ghost use Rattle.printing.specs.Printing.{Lists};
+ghost use Rattle.following.specs.Drilled.{Drills};
 ghost use Rattle.engine.specs.Read.{Reads, «read-of»};
 ghost use Rattle.engine.specs.Label.{«label-of»};
 
@@ -111,4 +113,12 @@ pub fn frame(table: &[Record], squares: u32, scratch: &mut [u32]) -> Fitted
 {
     let t = columns_of(table);
     fitting::frame(t, squares, scratch)
+}
+
+// Drill: the plan is followed with these answers; how it ends, the bytes used and the number of records, with the recorded steps first in the list; or the refusal.
+pub fn drill(table: &[Record], answers: &[u8], list: &mut [u16]) -> Drilled
+    ensures { λ r. ⌜ Drills (cells-of (now (table .entry))) (now (answers .entry)) (now (list .entry)) (now (list .exit)) r ⌝ }
+{
+    let t = columns_of(table);
+    following::drill(t, answers, list)
 }

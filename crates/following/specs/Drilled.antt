@@ -33,3 +33,9 @@ list-after t answers r xs = cond (eqb (r .number) 0) (drill-of t answers .steps 
 pub record Drills (t : Table) (answers : List ℕ) (xs xs′ : List ℕ) (r : Drilled) : Type 0 where
   pub answer : r ≡ drilled-of t answers (refusal drill (drill-given t (length answers) (length xs)))
   pub list : xs′ ≡ list-after t answers (refusal drill (drill-given t (length answers) (length xs))) xs
+
+-- the outcome o is answered
+pub record Tells (o : Outcome) (r : Drilled) : Type 0 where
+  pub used : ℕ
+  pub records : ℕ
+  pub is : r ≡ told-as o used records

@@ -3,3 +3,4 @@ pub mod Siblings
 pub mod Runs
 pub mod Follows
 pub mod Drilled
+pub mod Promised
