@@ -66,3 +66,10 @@ cell-line c x y w d label = line (decimal c ∷ signed x ∷ signed y ∷ decima
 -- the line of a refusal
 unfoldable pub refused-line : (number cell : ℕ) → Bytes
 refused-line k c = line (refused-word ∷ decimal k ∷ decimal c ∷ [])
+
+-- document 02, E12: the line of a recorded step, and the last line of a drill, which a word begins
+unfoldable pub step-line : (cell : ℕ) (label : Bytes) → Bytes
+step-line c label = line (decimal c ∷ label-field label)
+
+unfoldable pub end-line : (word : Bytes) (used records : ℕ) → Bytes
+end-line word u n = line (word ∷ decimal u ∷ decimal n ∷ [])

@@ -22,7 +22,7 @@ pub enum Listed {
 }
 
 // Writes a line at a place, and hands the next place back.
-fn put_line(line: Line, out: &mut [u8], at: usize) -> usize
+pub fn put_line(line: Line, out: &mut [u8], at: usize) -> usize
     requires { ⌜ Whole line × (at + line .length ≤ length (now out)) ⌝ }
     ensures { λ r. ⌜ Put (now (out .entry)) at (text line) (now (out .exit)) r ⌝ }
 {
@@ -46,7 +46,7 @@ fn first_line(plan: Reading, width: u32, rows: u32) -> Line
 }
 
 // The label of a cell: the part of the file that its record says.
-fn label_at(plan: Reading, file: &[u8], c: usize) -> &[u8]
+pub fn label_at(plan: Reading, file: &[u8], c: usize) -> &[u8]
     requires { ⌜ (c < plan .columns .count) × Taken plan (now file) ⌝ }
     ensures { λ r. ⌜ now r ≡ label-bytes (now (file .entry)) c ⌝ }
 {

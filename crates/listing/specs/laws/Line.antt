@@ -5,7 +5,7 @@ use Prim.Native.Nat.{ℕ}
 use native.Mathlib.Omega.{arith}
 use lib.IntN.{ℤ}
 use lib.ListN.{length}
-use Rattle.listing.specs.Printed.{Bytes, space, line-feed, sheet-word, refused-word, decimal, signed, line, sheet-line, label-field, cell-line, refused-line}
+use Rattle.listing.specs.Printed.{Bytes, space, line-feed, sheet-word, refused-word, decimal, signed, line, sheet-line, label-field, cell-line, refused-line, step-line, end-line}
 use Rattle.listing.specs.Line.{spaced}
 
 pub spaced-empty : (s : Bytes) → length s ≡ 0 → spaced s ≡ []
@@ -35,3 +35,12 @@ pub cell-line-is : (c : ℕ) (x y : ℤ) (w d : ℕ) (l : Bytes)
 unfolding cell-line line label-field spaced
 cell-line-is c x y w d [] = regroup (decimal c) (space ∷ signed x) (space ∷ signed y) (space ∷ decimal w) (space ∷ decimal d) [] _
 cell-line-is c x y w d (b ∷ l) = regroup (decimal c) (space ∷ signed x) (space ∷ signed y) (space ∷ decimal w) (space ∷ decimal d) (space ∷ b ∷ l) _
+
+pub step-line-is : (c : ℕ) (l : Bytes) → decimal c ++ spaced l ++ (line-feed ∷ []) ≡ step-line c l
+unfolding step-line line label-field spaced
+step-line-is c [] = simp append-assoc
+step-line-is c (b ∷ l) = simp append-assoc
+
+pub end-line-is : (word : Bytes) (u n : ℕ) → word ++ (space ∷ decimal u) ++ (space ∷ decimal n) ++ (line-feed ∷ []) ≡ end-line word u n
+unfolding end-line line
+end-line-is word u n = simp append-assoc
