@@ -45,6 +45,23 @@ pub struct Ends {
     pub to: (i32, i32),
 }
 
+/// How a drill ends.
+#[derive(Clone, Copy, Debug, PartialEq, Eq)]
+pub enum Outcome {
+    Finished,
+    Spent,
+    Wrong,
+    Full,
+}
+
+/// A drill's end, the answer bytes used and the number of records.
+#[derive(Clone, Copy, Debug, PartialEq, Eq)]
+pub struct Drill {
+    pub outcome: Outcome,
+    pub used: usize,
+    pub records: usize,
+}
+
 mod raw {
     use super::Record;
 
@@ -112,6 +129,15 @@ mod raw {
         pub allowance: u32,
     }
 
+    #[repr(C)]
+    pub struct DrillAnswer {
+        pub number: u8,
+        pub cell: u16,
+        pub outcome: u8,
+        pub used: usize,
+        pub records: usize,
+    }
+
     extern "C" {
         pub fn kuzpalen_read(file: *const u8, file_len: usize, table: *mut Record, table_len: usize) -> ReadAnswer;
         pub fn kuzpalen_label(file: *const u8, file_len: usize, cell: usize) -> LabelPart;
@@ -147,6 +173,14 @@ mod raw {
             scratch: *mut u32,
             scratch_len: usize,
         ) -> FrameAnswer;
+        pub fn kuzpalen_drill(
+            table: *const Record,
+            table_len: usize,
+            answers: *const u8,
+            answers_len: usize,
+            list: *mut u16,
+            list_len: usize,
+        ) -> DrillAnswer;
     }
 }
 
@@ -234,4 +268,20 @@ pub fn frame(table: &[Record], squares: u32, scratch: &mut [u32]) -> Result<Opti
         raw::kuzpalen_frame(table.as_ptr(), table.len(), squares, scratch.as_mut_ptr(), scratch.len())
     };
     unless(r.number, r.cell, (r.outcome == FRAME_ALLOWANCE).then_some(r.allowance))
+}
+
+/// Drill: the plan followed with these answers; the recorded steps go to the beginning of the list, which needs room for 4,096.
+pub fn drill(table: &[Record], answers: &[u8], list: &mut [u16]) -> Result<Drill, Refusal> {
+    // SAFETY: the pointers are good for their lengths, and the one that is written shares nothing.
+    let r = unsafe {
+        raw::kuzpalen_drill(table.as_ptr(), table.len(), answers.as_ptr(), answers.len(), list.as_mut_ptr(), list.len())
+    };
+    // The outcomes of include/kuzpalen.h, from 1 on.
+    let outcome = match r.outcome {
+        0 | 1 => Outcome::Finished,
+        2 => Outcome::Spent,
+        3 => Outcome::Wrong,
+        _ => Outcome::Full,
+    };
+    unless(r.number, r.cell, Drill { outcome, used: r.used, records: r.records })
 }

@@ -4,6 +4,7 @@
 //!
 //! The words are the document's: father, son, brother, sub-diagram, foot, plumb line.
 
+mod drill;
 mod frame;
 pub mod generate;
 mod layout;
@@ -13,6 +14,7 @@ mod plan_file;
 pub mod rng;
 mod rules;
 
+pub use drill::{drill, drill_met, transcript, Drill, Outcome, ANSWERS, RECORDS};
 pub use frame::frame;
 pub use layout::{distances_by_pairs, distances_by_paths, layout, place, SCRATCH};
 pub use listing::{list, listing, LISTING};
