@@ -6,7 +6,7 @@ use Prim.Native.Nat.{ℕ, zero, suc, _+_, _≤_, _<_}
 use lib.ListN.{length, getD}
 use Rattle.plan.specs.Limits.{most-steps}
 use Rattle.plan.specs.Lists.{At}
-use Rattle.plan.specs.Plan.{Table, kind, children}
+use Rattle.plan.specs.Plan.{Table, Is, kind, children}
 use Rattle.moves.specs.Drill.{Outcome, finished, spent, wrong, full, Drill, HasEnded}
 
 -- where a drill stands: the cells still to do, in order; the answer bytes used; the steps recorded
@@ -92,3 +92,7 @@ tally d = d .used + length (d .steps)
 -- the drill has ended, or something is spent
 abbrev pub Spends : Drill → Drill → Type 0
 Spends d e = HasEnded (e .outcome) ⊎ (tally d < tally e)
+
+-- steps of the table
+abbrev pub StepsOf : Table → List ℕ → Type 0
+StepsOf t ss = (i s : ℕ) → At ss i s → Is t s × (kind t s ≡ 1)

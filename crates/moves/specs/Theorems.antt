@@ -8,11 +8,12 @@ use Rattle.plan.specs.Limits.{most-level, most-steps}
 use Rattle.plan.specs.Plan.{Table, Is, kind, children}
 use Rattle.plan.specs.Fit.{Fit}
 use Rattle.moves.specs.Drill.{Outcome, finished, spent, wrong, full, Drill, unless-ended, by-kind, does, doing, drill-of}
-use Rattle.moves.specs.Moves.{Stand, Reached, Stops, Ends, stopped, Spends}
+use Rattle.moves.specs.Moves.{Stand, Reached, Stops, Ends, stopped, Spends, StepsOf}
 use Rattle.moves.specs.laws.Drill as drill
 use Rattle.moves.specs.laws.Passes as passes
 use Rattle.moves.specs.laws.Moves as moves
 use Rattle.moves.specs.laws.Beyond as beyond
+use Rattle.moves.specs.laws.Steps as steps
 
 module _ (t : Table) (fit : Fit t) (bs : List ℕ) where
   -- ---- the definition's levels never run out
@@ -55,6 +56,10 @@ module _ (t : Table) (fit : Fit t) (bs : List ℕ) where
 
   pub records-few : length (drill-of t bs .steps) ≤ most-steps
   records-few = beyond.records-few t bs fit
+
+  -- each record is the number of a step
+  pub steps-are : StepsOf t (drill-of t bs .steps)
+  steps-are = steps.steps-are t bs fit
 
   pub spent-uses-all : drill-of t bs .outcome ≡ spent → drill-of t bs .used ≡ length bs
   spent-uses-all = beyond.spent-all t bs fit

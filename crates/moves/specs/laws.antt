@@ -2,3 +2,4 @@ pub mod Drill
 pub mod Moves
 pub mod Beyond
 pub mod Passes
+pub mod Steps

@@ -142,14 +142,14 @@ module _ (t : Table) (bs : List ℕ) where
         go _ (off {o = o} {q = q} g w s) = record { stand = q; reached = w; stops = s }
 
     -- ---- from the moves to the definition: what is still to do, done in order, stays the same
-    abbrev F : ℕ → Drill → Drill
+    abbrev pub F : ℕ → Drill → Drill
     F = doing t bs
 
     -- the end that a stand leads to
-    abbrev due : Stand → Drill
+    abbrev pub due : Stand → Drill
     due p = in-order F (p .todo) (going (p .used) (p .steps))
 
-    abbrev Cells : List ℕ → Type 0
+    abbrev pub Cells : List ℕ → Type 0
     Cells [] = Unit {0}
     Cells (c ∷ cs) = Is t c × Cells cs
 
@@ -240,11 +240,11 @@ module _ (t : Table) (bs : List ℕ) where
           go (suc (suc (suc (suc (suc (suc k)))))) e h = absurd (omega arith)
 
     -- what a move keeps
-    record Kept (p q : Stand) : Type 0 where
-      same : due p ≡ due q
-      cells : Cells (q .todo)
+    pub record Kept (p q : Stand) : Type 0 where
+      pub same : due p ≡ due q
+      pub cells : Cells (q .todo)
 
-    moved : {p q : Stand} → Cells (p .todo) → Move t bs p q → Kept p q
+    pub moved : {p q : Stand} → Cells (p .todo) → Move t bs p q → Kept p q
     unfolding in-order waited
     moved g (records {c = c} {u = u} {cs = cs} {ss = ss} e l) = record { same = ap (in-order F cs) (records-is c (g .0) u ss e l); cells = g .1 }
     moved g (runs {c = c} {u = u} {cs = cs} {ss = ss} e) =
