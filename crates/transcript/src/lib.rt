@@ -9,10 +9,11 @@ use plan::limits::MOST_STEPS;
 use planfile::Reading;
 use printing::label_at;
 use printing::put_line;
+use whole::numbers::wide16;
 ghost use mathlib.Core.Path.{_≡_};
 ghost use mathlib.Core.List.{_++_};
 ghost use Prim.Native.Nat.{_+_, _*_, _≤_, _<_};
-ghost use lib.ListN.{length, take};
+ghost use lib.ListN.{length, getD, take};
 ghost use Rattle.plan.specs.Limits.{most-label, most-answers};
 ghost use Rattle.listing.specs.Printed.{step-line, end-line};
 ghost use Rattle.listing.specs.Line.{line-of};
@@ -22,6 +23,14 @@ ghost use Rattle.transcript.specs.Transcript.{steps-text, told-lines, re
 
 // Bytes of an output that holds every transcript.
 pub const TRANSCRIPT_SIZE: usize = 213120;
+
+// Number i of the list.
+fn cell_at(list: &[u16], i: usize) -> usize
+    requires { ⌜ i < length (now list) ⌝ }
+    ensures { λ r. ⌜ r ≡ getD (now (list .entry)) i 0 ⌝ }
+{
+    wide16(list[i])
+}
 
 // The line of a recorded step.
 fn line_at(plan: Reading, file: &[u8], c: usize) -> Line
@@ -39,7 +48,7 @@ fn put_steps(plan: Reading, file: &[u8], list: &[u16], n: usize, out: &mut [u8])
     let mut next: usize = 0;
     let mut i: usize = 0;
     while i < n {
-        let line = line_at(plan, file, list[i] as usize);
+        let line = line_at(plan, file, cell_at(list, i));
         next = put_line(line, out, next);
         i += 1;
     }

@@ -55,25 +55,24 @@ pub put-no-steps : (f : Bytes) (xs a : List ℕ) → Put a 0 (steps-text f (take
 unfolding steps-text
 put-no-steps f xs a = put-none a 0
 
-pub put-step : (f : Bytes) (xs : List ℕ) (i : ℕ) {a b d : List ℕ} {j k : ℕ} (l : Line) → i < length xs → Put a 0 (steps-text f (take i xs)) b j
-    → l ≡ line-of (step-line (getD xs i 0) (label-bytes f (getD xs i 0))) → l .length ≤ 52 → Put b j (text l) d k → (k ≤ j + 52) × Put a 0 (steps-text f (take (i + 1) xs)) d k
+pub put-step : (f : Bytes) (xs : List ℕ) (i c : ℕ) {a b d : List ℕ} {j k : ℕ} (l : Line) → i < length xs → c ≡ getD xs i 0 → Put a 0 (steps-text f (take i xs)) b j → l ≡ line-of (step-line c (label-bytes f c)) → l .length ≤ 52
+    → Put b j (text l) d k → (k ≤ j + 52) × Put a 0 (steps-text f (take (i + 1) xs)) d k
 unfolding line-of
-put-step f xs i l g u e h v =
-    let s = step-line (getD xs i 0) (label-bytes f (getD xs i 0)) in
-    let t : text l ≡ step-line (getD xs i 0) (label-bytes f (getD xs i 0)) = rw e (line-text s) in
-    let w : l .length ≡ length (step-line (getD xs i 0) (label-bytes f (getD xs i 0))) = rw e in
+put-step f xs i c l g q u e h v =
+    let t : text l ≡ step-line c (label-bytes f c) = rw e (line-text (step-line c (label-bytes f c))) in
+    let w : l .length ≡ length (step-line c (label-bytes f c)) = rw e in
     let v′ = rw t at v in
-    (omega (arith, v′ .place), rw (steps-more f xs i g) (then u v′))
+    (omega (arith, v′ .place), rw (steps-more f xs i g, ← q) (then u v′))
 
 pub steps-done : (f : Bytes) (xs : List ℕ) {a b : List ℕ} {k i n : ℕ} → Put a 0 (steps-text f (take i xs)) b k → i ≤ n → n ≤ i → Put a 0 (steps-text f (take n xs)) b k
 steps-done f xs {i = i} {n = n} u g h = let e : i ≡ n = omega arith in rw e at u
 
 -- a line after a text, and a line alone
-pub put-last : {s t a b d : List ℕ} {j k : ℕ} (l : Line) → Put a 0 s b j → l ≡ line-of t → Put b j (text l) d k → Put a 0 (s ++ t) d k
-put-last {t = t} l u e v = let q : text l ≡ t = rw e (line-text t) in then u (rw q at v)
+pub put-last : (t : List ℕ) {s a b d : List ℕ} {j k : ℕ} (l : Line) → Put a 0 s b j → l ≡ line-of t → Put b j (text l) d k → Put a 0 (s ++ t) d k
+put-last t l u e v = let q : text l ≡ t = rw e (line-text t) in then u (rw q at v)
 
-pub put-alone : {t a d : List ℕ} {k : ℕ} (l : Line) → l ≡ line-of t → Put a 0 (text l) d k → Put a 0 t d k
-put-alone {t} l e v = let q : text l ≡ t = rw e (line-text t) in rw q at v
+pub put-alone : (t : List ℕ) {a d : List ℕ} {k : ℕ} (l : Line) → l ≡ line-of t → Put a 0 (text l) d k → Put a 0 t d k
+put-alone t l e v = let q : text l ≡ t = rw e (line-text t) in rw q at v
 
 -- ---- the answers, case by case
 module _ (f : Bytes) (xs : List ℕ) {r : Drilled} {u n : ℕ} where
