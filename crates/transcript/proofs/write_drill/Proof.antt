@@ -1,34 +1,29 @@
+use Rattle.transcript.specs.laws.Transcript.{answered, answered-done}
 use borrow.Author.Needs.{needs}
 use Rattle.transcript.proofs.write_drill.Statement.{statement}
 use Rattle.transcript.proofs.write_drill.Tie as tie
-use Rattle.transcript.proofs.write_drill.Reads as reads
-use Rattle.transcript.proofs.write_drill.Lts as lts
-use Rattle.following.proofs.drill.Reads as drill-reads
-use Rattle.transcript.proofs.tell.Reads as tell-reads
 
--- src/lib.rt:96:58
 slice-aggregate-drill : tie.Need-slice-aggregate-drill
 slice-aggregate-drill c = search needs
 
--- src/lib.rt:96:9
 drill-requires : tie.Need-drill-requires
 drill-requires c κs = search needs
 
--- src/lib.rt:97:22
 slice-aggregate-tell : tie.Need-slice-aggregate-tell
 slice-aggregate-tell c = search needs
 
--- src/lib.rt:97:5
 tell-requires : tie.Need-tell-requires
-tell-requires c κs = search needs
+tell-requires c κs =
+    let s = c .before .before .before .before .before .before .before .before .pre in
+    (s .0, answered _ _ (c .before .before .before .before .before .before .before .before .args .answers .now) _ _ _ (s .0) (search needs) (c .before .before .before .drill .ensures) .tellable, s .1)
 
--- src/lib.rt:91:1
 same-length : tie.Need-same-length
 same-length c = search needs
 
--- src/lib.rt:91:1
 returns : tie.Need-returns
-returns c = search needs
+returns c =
+    let s = c .before .before .before .before .before .before .before .before .before .before .before .pre in
+    answered-done _ _ (c .before .before .before .before .before .before .before .before .before .before .before .args .answers .now) _ _ (answered _ _ (c .before .before .before .before .before .before .before .before .before .before .before .args .answers .now) _ _ _ (s .0) (search needs) (c .before .before .before .before .before .before .drill .ensures)) (c .before .before .tell .ensures)
 
 pub write-drill-spec : {M : Type 1} → statement M
 write-drill-spec =

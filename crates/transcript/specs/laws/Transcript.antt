@@ -36,7 +36,7 @@ use Rattle.following.specs.Drilled.{told-as, drill-told, drilled-of, list-after
 use Rattle.following.specs.laws.Drilled.{asks}
 use Rattle.following.specs.declared.Drilled.{Drilled}
 use Rattle.following.specs.declared.Drilled.the-variants.{Finished, Spent, Wrong, Full, Refused}
-use Rattle.transcript.specs.Transcript.{steps-text, told-lines, transcript-of, records-in, used-in, Recorded, Tellable}
+use Rattle.transcript.specs.Transcript.{finished-word, spent-word, wrong-word, full-word, steps-text, told-lines, transcript-of, records-in, used-in, Recorded, Tellable}
 
 -- ---- the lines of steps
 steps-append : (f : Bytes) (xs ys : List ℕ) → steps-text f (xs ++ ys) ≡ steps-text f xs ++ steps-text f ys
@@ -75,7 +75,7 @@ pub put-alone : (t : List ℕ) {a d : List ℕ} {k : ℕ} (l : Line) → l ≡ l
 put-alone t l e v = let q : text l ≡ t = rw e (line-text t) in rw q at v
 
 -- ---- the answers, case by case
-module _ (f : Bytes) (xs : List ℕ) {r : Drilled} {u n : ℕ} where
+module _ {r : Drilled} {u n : ℕ} where
   pub in-finished : r ≡ Finished u n → (records-in r ≡ n) × (used-in r ≡ u)
   unfolding records-in used-in
   in-finished e = (rw e, rw e)
@@ -94,6 +94,28 @@ module _ (f : Bytes) (xs : List ℕ) {r : Drilled} {u n : ℕ} where
 
 pub tell-needs : (p : Reading) (xs : List ℕ) {r : Drilled} {u n : ℕ} → Tellable p xs r → (records-in r ≡ n) × (used-in r ≡ u) → Recorded p n xs × (u ≤ most-answers)
 tell-needs p xs {u = u} {n = n} h e = let x = rw (e .0) at (h .recorded) in let y = rw (e .1) at (h .few) in (x, y)
+
+-- the lines of an answer, from those of its case
+module _ (f xs : List ℕ) {r : Drilled} {a b : List ℕ} {k m u n : ℕ} where
+  pub tell-finished : r ≡ Finished u n → Put a 0 (steps-text f (take n xs) ++ end-line finished-word u n) b k × (k ≤ m) → Put a 0 (told-lines f (take (records-in r) xs) r) b k × (k ≤ m)
+  unfolding told-lines records-in
+  tell-finished e h = rw e h
+
+  pub tell-spent : r ≡ Spent u n → Put a 0 (steps-text f (take n xs) ++ end-line spent-word u n) b k × (k ≤ m) → Put a 0 (told-lines f (take (records-in r) xs) r) b k × (k ≤ m)
+  unfolding told-lines records-in
+  tell-spent e h = rw e h
+
+  pub tell-wrong : r ≡ Wrong u n → Put a 0 (steps-text f (take n xs) ++ end-line wrong-word u n) b k × (k ≤ m) → Put a 0 (told-lines f (take (records-in r) xs) r) b k × (k ≤ m)
+  unfolding told-lines records-in
+  tell-wrong e h = rw e h
+
+  pub tell-full : r ≡ Full u n → Put a 0 (steps-text f (take n xs) ++ end-line full-word u n) b k × (k ≤ m) → Put a 0 (told-lines f (take (records-in r) xs) r) b k × (k ≤ m)
+  unfolding told-lines records-in
+  tell-full e h = rw e h
+
+pub tell-refused : (f xs : List ℕ) {r : Drilled} {a b : List ℕ} {k u n : ℕ} (l : Line) → r ≡ Refused u n → l ≡ line-of (refused-line u n) → Put a 0 (text l) b k → Put a 0 (told-lines f (take (records-in r) xs) r) b k
+unfolding told-lines
+tell-refused f xs {u = u} {n = n} l e q v = rw e (put-alone (refused-line u n) l q v)
 
 -- ---- the drill's answer
 told-records : (o : Outcome) (u n : ℕ) → (records-in (told-as o u n) ≡ n) × (used-in (told-as o u n) ≡ u)
@@ -191,6 +213,13 @@ module _ (p : Reading) (f bs xs xs′ : List ℕ) (r : Drilled) (h : Taken p f) 
   answered = elim (ℕ-discrete (why .number) 0) [ yes z ↦ answered-told z | no z ↦ answered-refused z ]
 
 -- of a file that Read refuses
-pub unread : (p : Reading) (f bs : List ℕ) → p ≡ reading-of f most-cells → ¬ (p .refusal .number ≡ 0) → refused-line (p .refusal .number) (p .refusal .cell) ≡ transcript-of f bs
+unread : (p : Reading) (f bs : List ℕ) → p ≡ reading-of f most-cells → ¬ (p .refusal .number ≡ 0) → refused-line (p .refusal .number) (p .refusal .cell) ≡ transcript-of f bs
 unfolding transcript-of
 unread p f bs e z = rw (← e, ne-eqb (p .refusal .number) 0 z)
+
+pub unread-done : (p : Reading) (f bs : List ℕ) → p ≡ reading-of f most-cells → ¬ (p .refusal .number ≡ 0) → {a b : List ℕ} {k : ℕ} (l : Line) → l ≡ line-of (refused-line (p .refusal .number) (p .refusal .cell))
+    → Put a 0 (text l) b k → Put a 0 (transcript-of f bs) b k
+unread-done p f bs e z l q v = rw (← unread p f bs e z) (put-alone (refused-line (p .refusal .number) (p .refusal .cell)) l q v)
+
+pub answered-done : (p : Reading) (f bs xs : List ℕ) (r : Drilled) → Answered p f bs xs r → {a b : List ℕ} {k m : ℕ} → Put a 0 (told-lines f (take (records-in r) xs) r) b k × (k ≤ m) → Put a 0 (transcript-of f bs) b k × (k ≤ m)
+answered-done p f bs xs r h v = rw (h .is) at v
