@@ -13,7 +13,9 @@ fn trouble(line: &[u8]) {
 // The plan's file, opened; or -1, and what the trouble is.
 fn open_plan() -> i32 {
     if os::arg_count() != 2 {
-        trouble(b"drill: it takes one argument, the plan's file; the answers are on standard input\n");
+        trouble(
+            b"drill: it takes one argument, the plan's file; the answers are on standard input\n",
+        );
         return -1;
     }
     let mut path = [0u8; 4096];

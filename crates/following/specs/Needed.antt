@@ -1,12 +1,12 @@
 -- What the drill's functions need, and what they write. Nothing that a reader must believe stands here. Assumes nothing.
 use mathlib.Core.Path.{_≡_}
 use mathlib.Core.List.{List}
-use Prim.Native.Nat.{ℕ, _+_, _-_, _*_, _≤_, _<_}
+use Prim.Native.Nat.{ℕ, _+_, _*_, _≤_, _<_}
 use lib.ListN.{length, getD}
 use Rattle.plan.specs.Limits.{most-steps}
-use Rattle.plan.specs.Plan.{Table, Is, kind, children}
+use Rattle.plan.specs.Plan.{Table, Is, children}
 use Rattle.plan.specs.Fit.{Fit}
-use Rattle.links.specs.Links.{Links, link}
+use Rattle.links.specs.Links.{Links}
 use Rattle.following.specs.declared.Chain.{Chain}
 use Rattle.following.specs.Machine.{top, Beyond}
 

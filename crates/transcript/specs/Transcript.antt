@@ -1,6 +1,5 @@
 -- WHAT THE PROGRAM `drill` PRINTS of a plan file and answer bytes (document 02, E12): the recorded steps with their labels, a line each, then the outcome, the bytes used and the number of records; or
 -- the line of a refusal. Assumes nothing.
-use mathlib.Core.Path.{_≡_}
 use mathlib.Core.Bool.{cond}
 use mathlib.Core.List.{List, [], _∷_, _++_}
 use Prim.Native.Nat.{ℕ, _≤_, _<_}

@@ -12,7 +12,7 @@ use printing::put_line;
 use whole::numbers::wide16;
 ghost use mathlib.Core.Path.{_≡_};
 ghost use mathlib.Core.List.{_++_};
-ghost use Prim.Native.Nat.{_+_, _*_, _≤_, _<_};
+ghost use Prim.Native.Nat.{_*_, _≤_, _<_};
 ghost use lib.ListN.{length, getD, take};
 ghost use Rattle.plan.specs.Limits.{most-label, most-answers};
 ghost use Rattle.listing.specs.Printed.{step-line, end-line};
@@ -83,7 +83,11 @@ fn tell(plan: Reading, file: &[u8], list: &[u16], answer: Drilled, out: &mut [u8
         Drilled::Spent(used, n) => put_drill(plan, file, list, b"spent", used, n, out),
         Drilled::Wrong(used, n) => put_drill(plan, file, list, b"wrong", used, n, out),
         Drilled::Full(used, n) => put_drill(plan, file, list, b"full", used, n, out),
-        Drilled::Refused(number, cell) => put_line(refused_line(number as u32, cell as u32), out, 0),
+        Drilled::Refused(number, cell) => put_line(
+            refused_line(number as u32, cell as u32),
+            out,
+            0,
+        ),
     }
 }
 

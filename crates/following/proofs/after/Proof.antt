@@ -1,5 +1,4 @@
 use Rattle.following.specs.Machine.{after}
-use native.Mathlib.Omega.{arith}
 use borrow.Author.Tests.{eq-eqb, ne-eqb, lt-ltb, le-ltb}
 use borrow.Author.Needs.{needs}
 use Rattle.following.proofs.after.Statement.{statement}

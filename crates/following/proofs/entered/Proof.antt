@@ -1,4 +1,3 @@
-use native.Mathlib.Omega.{arith}
 use mathlib.Core.List.{[]}
 use Rattle.following.specs.laws.Machine.{enter-step, enter-full, enter-other, wrote-one, wrote-none}
 use borrow.Author.Needs.{needs}

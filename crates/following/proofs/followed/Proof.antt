@@ -1,4 +1,4 @@
-use Prim.Native.Nat.{ℕ, _≤_, _<_}
+use Prim.Native.Nat.{_≤_}
 use Rattle.plan.specs.Limits.{most-steps}
 use Rattle.following.specs.laws.Machine.{wrote-none}
 use Rattle.following.specs.laws.Follows.{Reads, Goes, start-entering, goes-start, goes-turning, goes-turn, goes-less, goes-end, goes-both, wrote-more}
@@ -8,7 +8,6 @@ use Rattle.following.specs.Machine.{state-of}
 use Rattle.plan.specs.laws.Tables.{kind-is, length-is}
 use Rattle.plan.specs.Columns.{table-of}
 use lib.ListN.{length}
-use mathlib.Core.List.{List}
 use mathlib.Core.Path.{_≡_, refl, _∙_, sym}
 use native.Mathlib.Omega.{arith}
 use borrow.Author.Needs.{needs}

@@ -1,4 +1,4 @@
-use mathlib.Core.Path.{_≡_, refl}
+use mathlib.Core.Path.{refl}
 use native.Mathlib.Omega.{arith}
 use Rattle.following.specs.laws.Machine.{turn-close, turn-open, wrote-none}
 use Rattle.following.specs.laws.Siblings.{cell-room}

@@ -1,8 +1,8 @@
 -- The loop: the machine from its start to the drill's end; and the list. For the code. Assumes nothing.
-use mathlib.Core.Path.{_≡_, refl, _∙_, ap, sym, subst}
+use mathlib.Core.Path.{_≡_, refl, _∙_, ap, sym}
 use mathlib.Core.List.{List, [], _∷_, _++_}
 use mathlib.Core.Bool.{Bool, true, false, _&&_}
-use Prim.Native.Nat.{ℕ, zero, suc, _+_, _-_, _*_, _≤_, _<_}
+use Prim.Native.Nat.{ℕ, zero, suc, _+_, _-_, _≤_, _<_}
 use native.Mathlib.Omega.{arith}
 use lib.ListN.{length, getD, take, drop, take-append-drop, length-drop}
 use lib.Seq.{ext-getD, getD-drop, length-take-le}
@@ -14,8 +14,8 @@ use Rattle.plan.specs.Fit.{Fit}
 use Rattle.links.specs.Links.{Links}
 use Rattle.following.specs.declared.Chain.{Chain}
 use Rattle.following.specs.declared.Drilled.{Drilled}
-use Rattle.following.specs.declared.Drilled.the-variants.{Finished, Spent, Wrong, Full}
-use Rattle.moves.specs.Drill.{Outcome, finished, spent, wrong, full, Drill, in-order, HasEnded, doing, drill-of}
+use Rattle.following.specs.declared.Drilled.the-variants.{Full}
+use Rattle.moves.specs.Drill.{finished, Drill, in-order, HasEnded, doing, drill-of}
 use Rattle.moves.specs.laws.Drill.{order-ended}
 use Rattle.following.specs.Drilled.{told-as, drill-told}
 use Rattle.following.specs.Machine.{Frame, frames, frames-of, top, below, State, outcome-of, so-far, state-of, Beyond, enter, step}

@@ -1,14 +1,14 @@
 -- The machine's parts, by cases: what the code's functions return. Assumes nothing.
 use mathlib.Core.Path.{_≡_, refl, _∙_, ap, sym}
 use mathlib.Core.Logic.{_≢_}
-use mathlib.Core.List.{List, [], _∷_, _++_}
-use mathlib.Core.Bool.{Bool, true, false, _&&_}
-use Prim.Native.Nat.{ℕ, zero, suc, _+_, _-_, _*_, _≤_, _<_}
+use mathlib.Core.List.{List, _∷_}
+use mathlib.Core.Bool.{true, false}
+use Prim.Native.Nat.{ℕ, zero, suc, _+_, _-_, _≤_, _<_}
 use native.Mathlib.Omega.{arith}
 use native.Mathlib.Numerals.{add-one}
-use lib.ListN.{length, getD, set, take, length-take}
+use lib.ListN.{length, getD, set, take}
 use lib.Seq.{take-suc-set, getD-set-same, getD-set-other, length-take-le}
-use lib.Dec.{eqb, ltb}
+use lib.Dec.{ltb}
 use borrow.Author.Tests.{eq-eqb, ne-eqb, lt-ltb, le-ltb}
 use Rattle.links.specs.Links.{link}
 use Rattle.following.specs.declared.Opened.{Opened}
@@ -16,7 +16,7 @@ use Rattle.following.specs.declared.Todo.{Todo}
 use Rattle.following.specs.declared.Chain.{Chain}
 use Rattle.plan.specs.Limits.{most-steps}
 use Rattle.moves.specs.Drill.{Drill, recorded}
-use Rattle.following.specs.Machine.{nothing, once, after, hops, repeated, picked, waiting, answered, opened, Frame, frame, frames, top, below, frames-of, State, outcome-of, so-far, state-of, Beyond, passed, enter, step-at, step-on, step}
+use Rattle.following.specs.Machine.{nothing, once, after, hops, repeated, picked, waiting, answered, opened, Frame, frame, frames, top, below, frames-of, State, outcome-of, so-far, passed, enter, step-at, step-on, step}
 use Rattle.following.specs.Needed.{Wrote}
 
 -- ---- the stack that three arrays and a count show

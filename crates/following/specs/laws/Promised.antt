@@ -2,7 +2,7 @@
 use mathlib.Core.Path.{_≡_, refl, sym, ap, _∙_}
 use mathlib.Core.List.{List, _++_}
 use mathlib.Core.Logic.{_↔_}
-use Prim.Native.Nat.{ℕ, _≤_}
+use Prim.Native.Nat.{ℕ}
 use lib.ListN.{length, take, drop}
 use borrow.Author.Tests.{eq-eqb, ne-eqb}
 use Rattle.plan.specs.Plan.{Table}
@@ -10,7 +10,7 @@ use Rattle.plan.specs.Fit.{Fit}
 use Rattle.plan.specs.Questions.{drill, none, refusal, drill-given}
 use Rattle.plan.specs.declared.Refusal.{Refusal}
 use Rattle.moves.specs.Drill.{Outcome, finished, spent, wrong, full, Drill, drill-of}
-use Rattle.moves.specs.Moves.{Stand, Reached, Stops, Ends, used-at, stopped}
+use Rattle.moves.specs.Moves.{Stand, Reached, Stops, Ends, used-at}
 use Rattle.moves.specs.laws.Moves as moves
 use Rattle.moves.specs.laws.Beyond as beyond
 use Rattle.following.specs.declared.Drilled.{Drilled}

@@ -3,29 +3,29 @@
 use mathlib.Core.Path.{_≡_, refl, _∙_, ap, sym, subst}
 use mathlib.Core.Logic.{_⊎_, inl, inr}
 use mathlib.Core.List.{List, [], _∷_, _++_}
-use mathlib.Core.Bool.{Bool, true, false, _&&_}
+use mathlib.Core.Bool.{Bool, true, false}
 use Prim.Native.Nat.{ℕ, zero, suc, _+_, _-_, _*_, _≤_, _<_}
 use native.Mathlib.Omega.{arith}
 use native.Mathlib.Numerals.{add-one}
 use native.Mathlib.Decide.{decLt}
 use native.Mathlib.Nat.{zero-add}
 use lib.ListN.{length, getD, replicate, length-append, List·getD-eq-default}
-use lib.Dec.{T, eqb, ltb, leb, leb→le}
-use borrow.Author.Tests.{eq-eqb, ne-eqb, lt-ltb, le-ltb, ltb-true, ltb-false}
-use Rattle.plan.specs.Limits.{most-level, most-steps}
+use lib.Dec.{T, eqb, ltb}
+use borrow.Author.Tests.{ne-eqb, lt-ltb, le-ltb, ltb-true}
+use Rattle.plan.specs.Limits.{most-steps}
 use Rattle.plan.specs.Lists.{At}
 use Rattle.plan.specs.laws.Lists.{at-getD, at-same, at-less}
 use Rattle.plan.specs.Plan.{Table, Is, kind, children, level}
 use Rattle.plan.specs.laws.Plan.{child-read}
 use Rattle.plan.specs.laws.Trees.{level-child}
-use Rattle.plan.specs.Kinds.{about, allows}
+use Rattle.plan.specs.Kinds.{allows}
 use Rattle.plan.specs.Fit.{Fit}
 use Rattle.links.specs.Links.{Links, link}
 use Rattle.following.specs.declared.Opened.{Opened}
 use Rattle.following.specs.declared.Todo.{Todo}
-use Rattle.moves.specs.Drill.{Outcome, finished, spent, wrong, full, Drill, ended, HasEnded, recorded, taken, in-order, times, chosen, waited, by-kind, does, doing}
+use Rattle.moves.specs.Drill.{Outcome, finished, spent, wrong, full, Drill, ended, recorded, taken, in-order, times, chosen, waited, by-kind, does, doing}
 use Rattle.moves.specs.laws.Drill.{doing-is, in-order-append, no-kind, no-kind-more, run-children, repeat-children, wait-children}
-use Rattle.following.specs.Machine.{nothing, once, after, later, hops, repeated, picked, waiting, answered, opened, Frame, frame, State, outcome-of, passed, open-with, enter, step-at, step-on, step}
+use Rattle.following.specs.Machine.{nothing, once, after, later, hops, repeated, picked, waiting, answered, opened, Frame, frame, State, outcome-of, passed, enter, step-at, step-on, step}
 use Rattle.following.specs.laws.Siblings.{hops-are}
 
 -- ---- cells done in order

@@ -1,18 +1,14 @@
 -- What the links say of the children. Assumes nothing.
-use mathlib.Core.Path.{_≡_, refl, _∙_, ap, sym}
-use mathlib.Core.List.{List, [], _∷_}
-use mathlib.Core.Bool.{Bool, true, false}
+use mathlib.Core.Path.{_≡_, _∙_}
+use mathlib.Core.List.{List}
 use Prim.Native.Nat.{ℕ, zero, suc, _+_, _-_, _*_, _≤_, _<_}
 use native.Mathlib.Omega.{arith}
 use native.Mathlib.Nat.{add-zero}
 use native.Mathlib.Decide.{decLt}
 use lib.ListN.{length, getD, List·getD-eq-default}
-use lib.Dec.{eqb}
-use borrow.Author.Tests.{eq-eqb, ne-eqb}
-use Rattle.plan.specs.Limits.{most-cells}
-use Rattle.plan.specs.Lists.{At}
+use borrow.Author.Tests.{ne-eqb}
 use Rattle.plan.specs.laws.Lists.{at-getD}
-use Rattle.plan.specs.Plan.{Table, Is, kind, children}
+use Rattle.plan.specs.Plan.{Table, Is, children}
 use Rattle.plan.specs.laws.Plan.{child-read}
 use Rattle.plan.specs.Fit.{Fit}
 use Rattle.links.specs.Links.{Links, link}

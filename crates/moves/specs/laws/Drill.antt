@@ -1,5 +1,5 @@
 -- Laws of the drill: enough levels are enough, so a cell does what its kind says, with its children done in the same way; and an ended drill stays as it is. Assumes nothing.
-use mathlib.Core.Path.{_≡_, refl, _∙_, ap, sym}
+use mathlib.Core.Path.{_≡_, refl, _∙_, ap}
 use mathlib.Core.List.{List, [], _∷_, _++_}
 use mathlib.Core.Bool.{Bool, true, false}
 use Prim.Native.Nat.{ℕ, zero, suc, _+_, _≤_, _<_}
@@ -16,7 +16,7 @@ use Rattle.plan.specs.laws.Trees.{level-child}
 use Rattle.plan.specs.Kinds.{about, allows}
 use Rattle.plan.specs.laws.Steps.{and-left, and-right}
 use Rattle.plan.specs.Fit.{Fit}
-use Rattle.moves.specs.Drill.{Outcome, finished, spent, wrong, full, Drill, ended, HasEnded, unless-ended, recorded, taken, in-order, times, chosen, waited, by-kind, does, doing}
+use Rattle.moves.specs.Drill.{Outcome, finished, spent, wrong, full, Drill, HasEnded, unless-ended, taken, in-order, times, chosen, waited, by-kind, does, doing}
 
 -- f and g do the cells of cs alike
 abbrev Alike : (f g : ℕ → Drill → Drill) → List ℕ → Type 0

@@ -1,12 +1,11 @@
 -- The moves and the definition by structure are one drill: from the definition the moves are found, and the moves leave its end as it is. Assumes nothing.
 use mathlib.Core.Path.{_≡_, refl, _∙_, ap, sym, subst}
-use mathlib.Core.Logic.{_↔_, inl, inr}
+use mathlib.Core.Logic.{_↔_}
 use mathlib.Core.List.{List, [], _∷_, _++_}
 use mathlib.Core.Bool.{Bool, true, false}
 use Prim.Native.Nat.{ℕ, zero, suc, _+_, _≤_, _<_}
 use native.Mathlib.Omega.{arith}
-use native.Mathlib.Decide.{decLt}
-use lib.ListN.{length, getD, take, length-append}
+use lib.ListN.{length, getD}
 use lib.Dec.{T, ltb}
 use borrow.Author.Tests.{lt-ltb, le-ltb, ltb-true, ltb-false}
 use Rattle.plan.specs.Limits.{most-level, most-steps}
@@ -17,7 +16,7 @@ use Rattle.plan.specs.laws.Plan.{child-read}
 use Rattle.plan.specs.laws.Trees.{level-child}
 use Rattle.plan.specs.Kinds.{allows}
 use Rattle.plan.specs.Fit.{Fit}
-use Rattle.moves.specs.Drill.{Outcome, finished, spent, wrong, full, Drill, going, ended, HasEnded, recorded, taken, in-order, times, chosen, waited, by-kind, does, doing, drill-of}
+use Rattle.moves.specs.Drill.{Outcome, spent, wrong, full, Drill, going, ended, HasEnded, recorded, taken, in-order, times, chosen, waited, by-kind, does, doing, drill-of}
 use Rattle.moves.specs.Moves.{Stand, at, over, Takes, Byte, Move, records, runs, repeats, chooses, goes-on, does-it, Reach, stay, then, Reached, Stops, all-done, none-left, no-branch, above-one, no-room, Ends, used-at, stopped}
 use Rattle.moves.specs.laws.Drill.{order-ended, in-order-append, doing-is, no-kind, no-kind-more}
 

@@ -7,7 +7,7 @@ use Rattle.plan.specs.Lists.{At}
 use Rattle.plan.specs.Plan.{Table, Is, kind}
 use Rattle.plan.specs.Fit.{Fit}
 use Rattle.moves.specs.Drill.{Drill, drill-of}
-use Rattle.moves.specs.Moves.{Stand, Move, records, runs, repeats, chooses, goes-on, does-it, Reach, stay, then, StepsOf, stopped}
+use Rattle.moves.specs.Moves.{Stand, Move, records, runs, repeats, chooses, goes-on, does-it, Reach, stay, then, StepsOf}
 use Rattle.moves.specs.laws.Moves.{Cells, moved, end-found, ends-there}
 
 at-last : (l : List ℕ) (c i s : ℕ) → At (l ++ c ∷ []) i s → At l i s ⊎ (s ≡ c)

@@ -1,16 +1,15 @@
 -- The transcript as the code writes it, line by line. Nothing that a reader must believe stands here. Assumes nothing.
 use mathlib.Core.Path.{_≡_, refl, sym, ap, _∙_}
 use mathlib.Core.List.{List, [], _∷_, _++_, append-nil, append-assoc}
-use Prim.Native.Nat.{ℕ, zero, suc, _+_, _≤_, _<_}
+use Prim.Native.Nat.{ℕ, _+_, _≤_, _<_}
 use native.Mathlib.Numerals.{add-one}
 use native.Mathlib.Decide.{ℕ-discrete}
 use native.Mathlib.Omega.{arith}
-use lib.Dec.{leb, leb→le, eqb}
+use lib.Dec.{leb, leb→le}
 use lib.ListN.{length, getD, take, drop, length-append}
 use lib.Seq.{take-suc, take-append-seam, getD-take}
 use borrow.Author.Tests.{eq-eqb, ne-eqb}
 use Rattle.plan.specs.Limits.{most-cells, most-steps, most-answers}
-use Rattle.plan.specs.Lists.{At}
 use Rattle.plan.specs.laws.Lists.{at-getD}
 use Rattle.plan.specs.Plan.{Table}
 use Rattle.plan.specs.Fit.{Fit}
