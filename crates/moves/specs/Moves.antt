@@ -1,4 +1,4 @@
--- The drill move by move (document 02, E12: "Each move is the one that this description dictates"): a clause for each sentence, and where a drill stops. Assumes nothing.
+-- THE MOVES OF A DRILL, each the one that the description dictates (document 02, E12), a clause for each sentence; and where a drill stops. Assumes nothing.
 use mathlib.Core.Path.{_≡_}
 use mathlib.Core.Logic.{_⊎_}
 use mathlib.Core.List.{List, [], _∷_, _++_}
