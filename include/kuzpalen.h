@@ -8,7 +8,7 @@
  * call answers on every input; none keeps a pointer, allocates or fails otherwise.
  *
  * Every answer but a label's part begins with a refusal: `number` is 0, or the number of the first
- * question answered "no" (1 to 19), and `cell` is then the lowest cell at fault, 0 where no cell is
+ * question answered "no" (1 to 19, 16, 21), and `cell` is then the lowest cell at fault, 0 where no cell is
  * concerned. All other fields of a refusal are 0, and every lent buffer is then as it was before the call.
  */
 #ifndef KUZPALEN_H
@@ -28,6 +28,8 @@ extern "C" {
 #define KUZPALEN_MENDED_SIZE 16384u   /* the bytes that Mend's output needs, whatever the file, */
 #define KUZPALEN_LINES_SIZE 6144u     /* and those that its lines need */
 #define KUZPALEN_NO_PARENT 65535u
+#define KUZPALEN_DRILL_RECORDS 4096u  /* the most steps that a drill records; the numbers that its list needs */
+#define KUZPALEN_DRILL_ANSWERS 4096u  /* the most answer bytes of a drill */
 #define KUZPALEN_WIDEST 1023u         /* the greatest width in a table; a file of the old form has at most 255 */
 #define KUZPALEN_FARTHEST 262143      /* a coordinate that is lent lies from its negative to it */
 
@@ -143,6 +145,19 @@ typedef struct {
     uint16_t cell;
     size_t count;          /* the number of joined records */
 } kuzpalen_join_answer;
+
+#define KUZPALEN_DRILL_FINISHED 1u   /* a drill's outcome: nothing is left to do; */
+#define KUZPALEN_DRILL_SPENT 2u      /* a byte is needed and none is left; */
+#define KUZPALEN_DRILL_WRONG 3u      /* a choice's byte has no child, or a wait's is above 1; */
+#define KUZPALEN_DRILL_FULL 4u       /* a step comes after KUZPALEN_DRILL_RECORDS records. 0 with a refusal */
+
+typedef struct {
+    uint8_t number;
+    uint16_t cell;
+    uint8_t outcome;       /* one of the four above */
+    size_t used;           /* answer bytes, a wrong one included */
+    size_t records;        /* numbers written to the list */
+} kuzpalen_drill_answer;
 
 /* A plan file is of one of two forms, which its last two bytes tell, or question 3 refuses. Both have the
  * label bytes first, then the records, then a trailer of 8 bytes. Hexadecimal 53 54: records of 8 bytes,
@@ -263,6 +278,17 @@ kuzpalen_strip_answer kuzpalen_strip(const kuzpalen_record *table, size_t table_
 kuzpalen_join_answer kuzpalen_join(const kuzpalen_record *first, size_t first_len,
                                    const kuzpalen_record *second, size_t second_len, size_t cell,
                                    kuzpalen_record *table, size_t table_len);
+
+/* Drill: the plan is followed with the answer bytes, from the root on. A step records its own number; a run
+ * does its children in order; a choice takes the next byte and does the child with that place, counted from
+ * 0; a repeat takes a byte and does its child so many times; a wait takes a byte: 0 goes on, 1 does its child,
+ * if it has one. Children are counted by rank, then by number. `list_len` is at least
+ * KUZPALEN_DRILL_RECORDS, or question 1 refuses; question 21 refuses more than KUZPALEN_DRILL_ANSWERS
+ * answer bytes. With every outcome the first `records` numbers of the list are the recorded steps, and
+ * later ones stay as they were. Bytes after the last one used are not looked at. */
+kuzpalen_drill_answer kuzpalen_drill(const kuzpalen_record *table, size_t table_len,
+                                     const uint8_t *answers, size_t answers_len,
+                                     uint16_t *list, size_t list_len);
 
 #ifdef __cplusplus
 }

@@ -110,6 +110,32 @@ static int strip_good(const kuzpalen_record *table, const int32_t *p) {
     return good && kuzpalen_strip(table, 3, p, 5, 0, 0, row, 3).number == 1 && row[0] == 7;
 }
 
+static int drill_good(void) {
+    static uint16_t list[KUZPALEN_DRILL_RECORDS];
+    static uint8_t many[KUZPALEN_DRILL_ANSWERS + 1];
+    const uint8_t answers[3] = {2, 1, 0};
+    kuzpalen_record table[5] = { /* a repeat of a choice of two: the step 2; by rank before it, a wait with the step 4 */
+        {KUZPALEN_NO_PARENT, 3, 0, 4, 1, 0, 0},
+        {0, 4, 0, 4, 1, 0, 0},
+        {1, 1, 7, 4, 1, 0, 0},
+        {1, 5, 5, 4, 1, 0, 0},
+        {3, 1, 0, 4, 1, 0, 0},
+    };
+    list[1] = 77;
+    kuzpalen_drill_answer spent = kuzpalen_drill(table, 5, answers, 3, list, KUZPALEN_DRILL_RECORDS);
+    int good = spent.number == 0 && spent.cell == 0 && spent.outcome == KUZPALEN_DRILL_SPENT && spent.used == 3
+        && spent.records == 1 && list[0] == 2 && list[1] == 77;
+    kuzpalen_drill_answer wrong = kuzpalen_drill(table, 5, answers, 1, list, KUZPALEN_DRILL_RECORDS);
+    good = good && wrong.outcome == KUZPALEN_DRILL_SPENT && wrong.used == 1 && wrong.records == 0;
+    const uint8_t branch[2] = {1, 2};
+    wrong = kuzpalen_drill(table, 5, branch, 2, list, KUZPALEN_DRILL_RECORDS);
+    good = good && wrong.outcome == KUZPALEN_DRILL_WRONG && wrong.used == 2 && wrong.records == 0;
+    kuzpalen_drill_answer done = kuzpalen_drill(table, 5, many, KUZPALEN_DRILL_ANSWERS, list, KUZPALEN_DRILL_RECORDS);
+    return good && done.outcome == KUZPALEN_DRILL_FINISHED && done.used == 1 && done.records == 0
+        && kuzpalen_drill(table, 5, many, sizeof many, list, KUZPALEN_DRILL_RECORDS).number == 21
+        && kuzpalen_drill(table, 5, many, 1, list, KUZPALEN_DRILL_RECORDS - 1).number == 1;
+}
+
 int main(void) {
     static uint32_t scratch[KUZPALEN_SCRATCH];
     kuzpalen_record table[3] = {
@@ -151,7 +177,7 @@ int main(void) {
     p[2] = -KUZPALEN_FARTHEST - 1;
     kuzpalen_ends_answer far = kuzpalen_ends(table, 3, p, 6, 2);
     good = good && far.number == 15 && far.cell == 1;
-    good = good && strip && file_good() && wide_good() && listing_good() && copy_good() && mend_good();
+    good = good && strip && file_good() && wide_good() && listing_good() && copy_good() && mend_good() && drill_good();
     puts(good ? "sheet B from C: good" : "sheet B from C: DIFFERENCE");
     return good ? 0 : 1;
 }

@@ -1,9 +1,10 @@
 #!/usr/bin/env bash
-# The programs and the script sheet.sh from outside: what they print, where, and with which status; and what they
-# do when the output cannot be written. Needs the programs in target/bin. The gate runs it after `rt ci`.
+# The programs and the script sheet.sh from outside: what they print, where, and with which status; and
+# what they do when the output cannot be written. Needs the programs in target/bin. The gate runs it after `rt ci`.
 set -u
 cd "$(dirname "$0")/.."
 sheet=target/bin/sheet
+drill=target/bin/drill
 line="sheet: the listing could not be written whole"
 work="$(mktemp -d)"
 trap 'rm -rf "$work"' EXIT
@@ -29,6 +30,7 @@ clean=target/bin/clean
 for program in "$sheet" "$clean"; do
     [ -x "$program" ] || { echo "tests/program.sh: $program is not built: rt check"; exit 1; }
 done
+[ -x "$drill" ] || { echo "tests/program.sh: $drill is not built: rt check drill"; exit 1; }
 
 # ---- the program
 : > "$work/empty"
@@ -283,5 +285,53 @@ done
 # It stops at the first row that cannot be written.
 (trap '' PIPE; "$strip" < plans/widest.plan 2> "$work/err" | head -c 40000 > "$work/out")
 one_line "the bitmap of plans/widest.plan to a reader that stops"
+
+# ---- the program drill: the steps with their labels, a line each, then the outcome, bytes used and records
+# drilled WHAT PLAN ANSWERS EXPECTED: the answers as printf writes them
+drilled() {
+    printf "$3" | "$drill" "$2" > "$work/out" 2> "$work/err"
+    same "$1" "$4" "$(cat "$work/out")"
+    same_files "standard error, $1" "$work/empty" "$work/err"
+}
+drilled "a run of two steps" plans/printed.plan '' "1 A
+2 Run
+finished 0 2"
+drilled "the pond until its brine" plans/pond.plan '\0\1\1' "4 Measure the level
+10 Close both gates
+spent 3 2"
+drilled "a branch that is none" plans/pond.plan '\1\0\3\0' "3 Open sea gate 1
+4 Measure the level
+wrong 3 2"
+drilled "a wait's byte above 1" plans/pond.plan '\2' "wrong 1 0"
+# by rank the rain goes first, and of the crusts the grey one
+drilled "the pond by rank" plans/ranked.plan '\0\0\0\0\0\1\0\0\0' "38 Cover the store
+40 Full: open the overflow
+4 Measure the level
+13 Close valve V1
+26 Open the pan's sluice
+33 Drain the bitterns
+34 Rinse with brine
+finished 9 7"
+drilled "a plan that Read refuses" "$work/kind.plan" '\0' "refused 7 0"
+head -c 4096 /dev/zero > "$work/most"
+head -c 4097 /dev/zero > "$work/more"
+same "4,096 answers" "finished 0 2" "$("$drill" plans/printed.plan < "$work/most" | tail -n 1)"
+same "4,097 answers" "refused 21 0" "$("$drill" plans/printed.plan < "$work/more")"
+# trouble WHAT LINE PLAN...: one line on standard error, and nothing printed
+trouble() {
+    what=$1
+    line=$2
+    shift 2
+    "$drill" "$@" < "$work/empty" > "$work/out" 2> "$work/err"
+    same "standard error, $what" "$line" "$(cat "$work/err")"
+    same_files "output, $what" "$work/empty" "$work/out"
+}
+trouble "no argument" "drill: it takes one argument, the plan's file; the answers are on standard input"
+trouble "two arguments" "drill: it takes one argument, the plan's file; the answers are on standard input" plans/A.plan plans/B.plan
+trouble "no such plan" "drill: the plan's file cannot be opened" "$work/none.plan"
+trouble "a folder" "drill: the plan's file cannot be read" "$work"
+same "an empty plan" "refused 2 0" "$("$drill" "$work/empty" < "$work/empty")"
+"$drill" plans/printed.plan < "$work/empty" > /dev/full 2> "$work/err"
+same "standard error, a drill to a full device" "drill: the transcript could not be written whole" "$(cat "$work/err")"
 
 echo "the programs and sheet.sh: $checks checks, no difference"

@@ -31,6 +31,9 @@ use Rattle.pen.specs.declared.Stroke.the-variants.{Move, Line, Lift}
 use Rattle.strokes.specs.declared.Stroked.{Stroked}
 use Rattle.strokes.specs.declared.Stroked.the-variants.{Drawn, Refused as Undrawn}
 use Rattle.strips.specs.Stripped.{Strips}
+use Rattle.following.specs.Drilled.{Drills}
+use Rattle.following.specs.declared.Drilled.{Drilled}
+use Rattle.following.specs.declared.Drilled.the-variants.{Finished, Spent, Wrong, Full, Refused as Undrilled}
 use Rattle.engine.specs.Read.{Reads}
 use Rattle.engine.specs.declared.ReadAnswer.{ReadAnswer as Read}
 use Rattle.engine.specs.declared.ReadAnswer.the-variants.{Plan, Refused as Unread}
@@ -48,6 +51,7 @@ use Rattle.answers.specs.declared.JoinAnswer.{JoinAnswer}
 use Rattle.grafting.specs.Joins.{Joins}
 use Rattle.grafting.specs.declared.JoinAnswer.{JoinAnswer as Join}
 use Rattle.grafting.specs.declared.JoinAnswer.the-variants.{Plan as Hung, Refused as Unjoined}
+use Rattle.answers.specs.declared.DrillAnswer.{DrillAnswer}
 
 unfoldable pub read-answer : Read → ReadAnswer
 read-answer (Plan n al) = record { number = 0; cell = 0; allowance = al; count = n }
@@ -97,6 +101,14 @@ pen-answer Lift = record { number = 0; cell = 0; what = 3; x = no-point; y = no-
 unfoldable pub stroke-answer : Stroked → StrokeAnswer
 stroke-answer (Drawn s) = pen-answer s
 stroke-answer (Undrawn k c) = record { number = k; cell = c; what = 0; x = no-point; y = no-point }
+
+-- outcome 1 for "finished", 2 for "spent", 3 for "wrong", 4 for "full"
+unfoldable pub drill-answer : Drilled → DrillAnswer
+drill-answer (Finished u n) = record { number = 0; cell = 0; outcome = 1; used = u; records = n }
+drill-answer (Spent u n) = record { number = 0; cell = 0; outcome = 2; used = u; records = n }
+drill-answer (Wrong u n) = record { number = 0; cell = 0; outcome = 3; used = u; records = n }
+drill-answer (Full u n) = record { number = 0; cell = 0; outcome = 4; used = u; records = n }
+drill-answer (Undrilled k c) = record { number = k; cell = c; outcome = 0; used = 0; records = 0 }
 
 -- a call of Read, as `Reads` has it, with the struct for its answer
 pub record Filling (f : List ℕ) (t t′ : List Record) (r : ReadAnswer) : Type 0 where
@@ -152,3 +164,9 @@ pub record Joining (t u : List Record) (c : ℕ) (o o′ : List Record) (r : Joi
   pub joined : Join
   pub joins : Joins t u c o o′ joined
   pub answers : r ≡ join-answer joined
+
+-- a call of a drill, as `Drills` has it, with the struct for its answer
+pub record Drilling (t : Table) (bs xs xs′ : List ℕ) (r : DrillAnswer) : Type 0 where
+  pub drilled : Drilled
+  pub drills : Drills t bs xs xs′ drilled
+  pub answers : r ≡ drill-answer drilled

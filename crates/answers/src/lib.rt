@@ -3,6 +3,7 @@ use checker::Checked;
 use copying::Copied;
 use ends::Ended;
 use fitting::Fitted;
+use following::Drilled;
 use layout::Laid;
 use mending::Mended;
 use pen::Stroke;
@@ -10,7 +11,7 @@ use plan::Refusal;
 use printing::Listed;
 use strokes::Stroked;
 ghost use mathlib.Core.Path.{_≡_};
-ghost use Rattle.answers.specs.Answers.{«read-answer», «laid-answer», «check-answer», «ends-answer», «list-answer», «frame-answer», «copy-answer», «mend-answer», «pen-answer», «stroke-answer», «strip-answer», «join-answer»};
+ghost use Rattle.answers.specs.Answers.{«read-answer», «laid-answer», «check-answer», «ends-answer», «list-answer», «frame-answer», «copy-answer», «mend-answer», «pen-answer», «stroke-answer», «strip-answer», «join-answer», «drill-answer»};
 
 // Number and cell of the refusal, or 0 and 0; the number of cells and the allowance.
 #[repr(C)]
@@ -108,6 +109,16 @@ pub struct StrokeAnswer {
 pub struct StripAnswer {
     pub number: u8,
     pub cell: u16,
+}
+
+// Number and cell of the refusal, or 0 and 0; 1 finished, 2 spent, 3 wrong, 4 full; the bytes used and the number of records.
+#[repr(C)]
+pub struct DrillAnswer {
+    pub number: u8,
+    pub cell: u16,
+    pub outcome: u8,
+    pub used: usize,
+    pub records: usize,
 }
 
 // The answer of Read as a struct.
@@ -376,6 +387,46 @@ pub fn told_join(answer: grafting::JoinAnswer) -> JoinAnswer
             number,
             cell,
             count: 0,
+        },
+    }
+}
+
+// The answer of a drill as a struct.
+pub fn told_drill(answer: Drilled) -> DrillAnswer
+    ensures { λ r. ⌜ r ≡ drill-answer answer ⌝ }
+{
+    match answer {
+        Drilled::Finished(used, records) => DrillAnswer {
+            number: 0,
+            cell: 0,
+            outcome: 1,
+            used,
+            records,
+        },
+        Drilled::Spent(used, records) => DrillAnswer {
+            number: 0,
+            cell: 0,
+            outcome: 2,
+            records,
+        },
+        Drilled::Wrong(used, records) => DrillAnswer {
+            number: 0,
+            cell: 0,
+            outcome: 3,
+            records,
+        },
+        Drilled::Full(used, records) => DrillAnswer {
+            number: 0,
+            cell: 0,
+            outcome: 4,
+            records,
+        },
+        Drilled::Refused(number, cell) => DrillAnswer {
+            number,
+            cell,
+            outcome: 0,
+            used: 0,
+            records: 0,
         },
     }
 }

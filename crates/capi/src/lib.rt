@@ -1,6 +1,7 @@
 // The calls for programs in C and Rust: include/kuzpalen.h documents each. A lent buffer is a pointer and a length; an answer is a struct of numbers.
 use answers::CheckAnswer;
 use answers::CopyAnswer;
+use answers::DrillAnswer;
 use answers::EndsAnswer;
 use answers::FrameAnswer;
 use answers::JoinAnswer;
@@ -14,6 +15,7 @@ use answers::StripAnswer;
 use answers::StrokeAnswer;
 use answers::told_check;
 use answers::told_copy;
+use answers::told_drill;
 use answers::told_ends;
 use answers::told_frame;
 use answers::told_join;
@@ -31,7 +33,7 @@ ghost use Rattle.planfile.specs.Reading.{«label-refusal», «label-part»};
 ghost use Rattle.checker.specs.Checked.{«checked-of»};
 ghost use Rattle.ends.specs.Ended.{«ended-of»};
 ghost use Rattle.strokes.specs.Stroked.{«stroked-of»};
-ghost use Rattle.answers.specs.Answers.{«check-answer», «ends-answer», «stroke-answer», Filling, Laying, ListFilling, Framing, CopyFilling, MendFilling, Stripping, Joining};
+ghost use Rattle.answers.specs.Answers.{«check-answer», «ends-answer», «stroke-answer», Filling, Laying, ListFilling, Framing, CopyFilling, MendFilling, Stripping, Joining, Drilling};
 
 #[no_mangle]
 pub extern "C" fn kuzpalen_read(file: &[u8], table: &mut [Record]) -> ReadAnswer
@@ -168,4 +170,12 @@ pub extern "C" fn kuzpalen_join(
 {
     let answer = engine::join(first, second, cell, table);
     told_join(answer)
+}
+
+#[no_mangle]
+pub extern "C" fn kuzpalen_drill(table: &[Record], answers: &[u8], list: &mut [u16]) -> DrillAnswer
+    ensures { λ r. ⌜ Drilling (cells-of (now (table .entry))) (now (answers .entry)) (now (list .entry)) (now (list .exit)) r ⌝ }
+{
+    let answer = engine::drill(table, answers, list);
+    told_drill(answer)
 }

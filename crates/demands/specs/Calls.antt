@@ -1,5 +1,5 @@
 -- THE THREE DEMANDS AT THE CALLS: statements only; each proof is one name. A reader needs the definitions of crate plan (sequence, puts, holds), of crate
--- rules (placement, S1 to S5, verdict), `sheet`, what each call answers (Reads, Lays, checked-of, ended-of, label-of and label-refusal, Lists, Frames, Copies, Mends, Strips, Joins) and Outcomes. Every call's
+-- rules (placement, S1 to S5, verdict), `sheet`, what each call answers (Reads, Lays, checked-of, ended-of, label-of and label-refusal, Lists, Frames, Copies, Mends, Strips, Joins) Frames, Drills with the moves of crate moves) and Outcomes. Every call's
 -- contract is one of those, so what is said of them is said of what the call answers and leaves in the lent buffers. Assumes nothing.
 use mathlib.Core.Path.{_≡_}
 use mathlib.Core.List.{List, [], _∷_, _++_, map}
@@ -11,7 +11,7 @@ use lib.Signed.{_≤ℤ_, _<ℤ_}
 use Rattle.plan.specs.Limits.{most-cells, scratch-size, most-file, most-allowance, lines-size}
 use Rattle.plan.specs.Plan.{Table, Is}
 use Rattle.plan.specs.Records.{cells-of}
-use Rattle.plan.specs.Questions.{Call, Given, layout, check, ends, list, frame, none, sequence, refusal, layout-given, check-given, ends-given, list-given, frame-given}
+use Rattle.plan.specs.Questions.{Call, Given, layout, check, ends, list, frame, none, sequence, refusal, layout-given, check-given, ends-given, list-given, frame-given, drill, drill-given}
 use Rattle.plan.specs.declared.Record.{Record}
 use Rattle.rules.specs.Placement.{Placement, placed, width}
 use Rattle.rules.specs.Rules.{Keeps}
@@ -37,6 +37,12 @@ use Rattle.fitting.specs.declared.Fitted.{Fitted}
 use Rattle.fitting.specs.declared.Fitted.the-variants as fitted
 use Rattle.fitting.specs.Worked as frames
 use Rattle.fitting.specs.laws.Worked as frames-laws
+use Rattle.moves.specs.Drill.{Outcome, spent, drill-of}
+use Rattle.moves.specs.Moves.{Stand, Reached, Stops, Ends, used-at}
+use Rattle.following.specs.Drilled.{told-as, drill-told, Drills, Tells}
+use Rattle.following.specs.laws.Promised as following
+use Rattle.following.specs.declared.Drilled.{Drilled}
+use Rattle.following.specs.declared.Drilled.the-variants as drilled
 use Rattle.checker.specs.Checked.{checked-of}
 use Rattle.checker.specs.declared.Checked.the-variants.{Kept, Broken}
 use Rattle.checker.specs.declared.Checked.the-variants as checked
@@ -345,3 +351,31 @@ module _ (t u : List Record) (c : ℕ) (o o′ : List Record) (n : ℕ) (g : Joi
 -- Joins by hand, the questions included.
 pub join-worked : joins.Rows
 join-worked = joins-laws.worked
+
+-- ==== THE DRILL with the answer bytes bs and the list xs (document 02, E12)
+module _ (t : Table) (bs xs xs′ : List ℕ) (r : Drilled) (g : Drills t bs xs xs′ r) where
+  -- A refusal is answered by its number and cell, and leaves the list as it was.
+  pub drill-refuses : ¬ (refusal drill (drill-given t (length bs) (length xs)) .number ≡ 0)
+      → (r ≡ drilled.Refused (refusal drill (drill-given t (length bs) (length xs)) .number) (refusal drill (drill-given t (length bs) (length xs)) .cell)) × (xs′ ≡ xs)
+  drill-refuses = following.unchanged t bs xs xs′ r g
+
+  -- Where no question refuses:
+  module _ (z : refusal drill (drill-given t (length bs) (length xs)) ≡ none) where
+    -- the answer is that of the drill, and the list has its recorded steps first and is unchanged beyond;
+    pub drill-gives : (r ≡ drill-told (drill-of t bs)) × (xs′ ≡ drill-of t bs .steps ++ drop (length (drill-of t bs .steps)) xs)
+    drill-gives = following.gives t bs xs xs′ r g z
+
+    -- an outcome is answered exactly when the moves, each the one that the description dictates, reach a stand where the drill stops with it;
+    pub drill-exactly : (o : Outcome) → Tells o r ↔ Ends t bs o
+    drill-exactly = following.exactly t bs xs xs′ r g z
+
+    -- the bytes used, a wrong one included, the number of records and the recorded steps are those of that stand.
+    pub drill-stops : (o : Outcome) (p : Stand) → Reached t bs p → Stops t bs o p
+        → (r ≡ told-as o (used-at o (p .used)) (length (p .steps))) × (xs′ ≡ p .steps ++ drop (length (p .steps)) xs)
+    drill-stops = following.stops-there t bs xs xs′ r g z
+
+-- More answer bytes after the last one used change nothing: two calls whose answers agree in the bytes that the first one used, which was not spent, answer alike and leave alike lists.
+pub drill-beyond : (t : Table) (bs cs xs xs′ ys : List ℕ) (r q : Drilled) → Drills t bs xs xs′ r → Drills t cs xs ys q
+    → refusal drill (drill-given t (length bs) (length xs)) ≡ none → refusal drill (drill-given t (length cs) (length xs)) ≡ none
+    → ¬ Tells spent r → take (drill-of t bs .used) cs ≡ take (drill-of t bs .used) bs → (q ≡ r) × (ys ≡ xs′)
+drill-beyond = following.beyond-used

@@ -3,6 +3,7 @@ use checker::Checked;
 use copying::Copied;
 use ends::Ended;
 use fitting::Fitted;
+use following::Drilled;
 use grafting::JoinAnswer;
 use layout::Laid;
 use mending::Mended;
@@ -26,6 +27,7 @@ ghost use Rattle.printing.specs.Printing.{Lists};
 ghost use Rattle.mending.specs.Mending.{Mends};
 ghost use Rattle.copying.specs.Copied.{Copies};
 ghost use Rattle.strips.specs.Stripped.{Strips};
+ghost use Rattle.following.specs.Drilled.{Drills};
 ghost use Rattle.engine.specs.Read.{Reads, «read-of»};
 ghost use Rattle.engine.specs.Label.{«label-of»};
 ghost use Rattle.engine.specs.Hung.{Hangs};
@@ -163,4 +165,12 @@ pub fn join(first: &[Record], second: &[Record], cell: usize, table: &mut [Recor
     let a = lettered_of(first);
     let b = lettered_of(second);
     hang(a, b, cell, table)
+}
+
+// Drill: the plan is followed with these answers; how it ends, the bytes used and the number of records, with the recorded steps first in the list; or the refusal.
+pub fn drill(table: &[Record], answers: &[u8], list: &mut [u16]) -> Drilled
+    ensures { λ r. ⌜ Drills (cells-of (now (table .entry))) (now (answers .entry)) (now (list .entry)) (now (list .exit)) r ⌝ }
+{
+    let t = columns_of(table);
+    following::drill(t, answers, list)
 }

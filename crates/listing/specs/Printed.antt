@@ -84,3 +84,10 @@ bitmap-word = 80 ∷ 52 ∷ []
 -- its first line, which the rows follow
 unfoldable pub bitmap-line : (columns rows : ℕ) → Bytes
 bitmap-line c r = line (bitmap-word ∷ decimal c ∷ decimal r ∷ [])
+
+-- document 02, E12: the line of a recorded step, and the last line of a drill, which a word begins
+unfoldable pub step-line : (cell : ℕ) (label : Bytes) → Bytes
+step-line c label = line (decimal c ∷ label-field label)
+
+unfoldable pub end-line : (word : Bytes) (used records : ℕ) → Bytes
+end-line word u n = line (word ∷ decimal u ∷ decimal n ∷ [])

@@ -7,7 +7,7 @@ ghost use lib.IntN.{pos};
 ghost use lib.Signed.{_<ℤ_};
 ghost use Rattle.whole.specs.Whole.{minus};
 ghost use Rattle.plan.specs.Limits.{«most-label»};
-ghost use Rattle.listing.specs.Printed.{space, decimal, signed, «sheet-line», «cell-line», «refused-line», «mended-line»};
+ghost use Rattle.listing.specs.Printed.{space, decimal, signed, «sheet-line», «cell-line», «refused-line», «mended-line», «step-line», «end-line»};
 ghost use Rattle.listing.specs.Printed.{«bitmap-line»};
 ghost use Rattle.listing.specs.Line.{spaced, «line-size», «line-of», text, Whole};
 ghost use Rattle.listing.specs.Put.{Put};
@@ -210,6 +210,37 @@ pub fn bitmap_line(columns: u32, rows: u32) -> Line
     let a = copy(b"P4", &mut out, 0);
     let b = field(columns, &mut out, a);
     let c = field(rows, &mut out, b);
+    let end = put(LINE_FEED, &mut out, c);
+    Line {
+        bytes: out,
+        length: end,
+    }
+}
+
+// A recorded step's line: its cell and its label.
+pub fn step_line(cell: u32, label: &[u8]) -> Line
+    requires { ⌜ length (now label) ≤ most-label ⌝ }
+    ensures { λ r. ⌜ (r ≡ line-of (step-line cell (now (label .entry)))) × (r .length ≤ 52) ⌝ }
+{
+    let mut out = [0u8; LINE_SIZE];
+    let a = decimal(cell, &mut out, 0);
+    let b = label_field(label, &mut out, a);
+    let end = put(LINE_FEED, &mut out, b);
+    Line {
+        bytes: out,
+        length: end,
+    }
+}
+
+// The last line of a drill: a word, the bytes used and the number of records.
+pub fn end_line(word: &[u8], used: u32, records: u32) -> Line
+    requires { ⌜ length (now word) ≤ most-label ⌝ }
+    ensures { λ r. ⌜ (r ≡ line-of (end-line (now (word .entry)) used records)) × (r .length ≤ line-size) ⌝ }
+{
+    let mut out = [0u8; LINE_SIZE];
+    let a = copy(word, &mut out, 0);
+    let b = field(used, &mut out, a);
+    let c = field(records, &mut out, b);
     let end = put(LINE_FEED, &mut out, c);
     Line {
         bytes: out,

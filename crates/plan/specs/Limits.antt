@@ -90,3 +90,10 @@ most-label = 40
 -- the parent of the root (question 6)
 abbrev pub no-parent : ℕ
 no-parent = 65535
+
+-- document 02, E12: steps that a drill records (question 1), and its answer bytes (question 21)
+abbrev pub most-steps : ℕ
+most-steps = 4096
+
+abbrev pub most-answers : ℕ
+most-answers = 4096

@@ -7,7 +7,7 @@ use lib.ListN.{length, getD}
 use lib.Dec.{eqb, leb, ltb}
 use lib.IntN.{ℤ, pos}
 use Rattle.whole.specs.Range.{in-range}
-use Rattle.plan.specs.Limits.{between, most-cells, most-width, most-depth, most-level, last-row, most-allowance, farthest, scratch-size, listing-size, lines-size, least-file, most-file, trailer-size, first-letter, last-letter, most-label, no-parent}
+use Rattle.plan.specs.Limits.{between, most-cells, most-width, most-depth, most-level, last-row, most-allowance, farthest, scratch-size, listing-size, lines-size, least-file, most-file, trailer-size, first-letter, last-letter, most-label, no-parent, most-steps, most-answers}
 use Rattle.plan.specs.Forms.{marked, form-of, record-size, widest}
 use Rattle.plan.specs.Lists.{from, mem}
 use Rattle.plan.specs.Plan.{Table, parent, kind, W, D, children, level, row}
@@ -17,23 +17,26 @@ use Rattle.plan.specs.declared.Page.{Page}
 use Rattle.plan.specs.Pages.{fair}
 
 -- ---- what a call is given
--- a lent buffer of a length that question 1 asks for, with the length that it has: a table to fill, Layout's scratch, the output of a listing; of document 02 the output of a clean copy
+-- a lent buffer of a length that question 1 asks for, with the length that it has: a table to fill, Layout's scratch, the output of a listing; of document 02 the output of a clean copy listing;
 -- or of a mended file (E4, E11), and that of the lines that tell the mending
+-- a drill's list
 pub data Buffer : Type 0 where
   to-fill scratch output : ℕ → Buffer
   copy-output : ℕ → Buffer
   lines-output : ℕ → Buffer
+  step-list : ℕ → Buffer
 
 -- the length of the positions, where the call has them
 pub data Lent : Type 0 where
   absent : Lent
   long : ℕ → Lent
 
--- what a call is asked about besides: a cell that is named; a frame of so many squares; a page and the number of a stroke on it
+-- what a call is asked about besides: a cell that is named; a frame of so many squares; a page and the number of a stroke on it squares; so many answer bytes
 pub data Subject : Type 0 where
   nothing : Subject
   named squares : ℕ → Subject
   stroked : Page → ℕ → Subject
+  answer-bytes : ℕ → Subject
 
 -- the part of the label bytes that is a cell's label
 pub record Label : Type 0 where
@@ -78,6 +81,7 @@ pub data Question : Type 0 where
   parent-lower kind-known box-sized label-inside label-fits : Question
   children-allowed level-low rows-few frame-wide allowance-small coordinates-near cell-named : Question
   page-fair stroke-numbered : Question
+  answers-few : Question
 
 -- the documents' number, which a refusal returns
 unfoldable pub number : Question → ℕ
@@ -101,6 +105,7 @@ number coordinates-near = 15
 number cell-named = 16
 number page-fair = 17
 number stroke-numbered = 18
+number answers-few = 21
 
 -- a question put once, or questions put to each cell in turn
 pub data Step : Type 0 where
@@ -120,6 +125,7 @@ sequence =
     ∷ each (level-low ∷ [])
     ∷ each (rows-few ∷ [])
     ∷ once frame-wide
+    ∷ once answers-few
     ∷ once allowance-small
     ∷ each (coordinates-near ∷ [])
     ∷ once cell-named
@@ -135,6 +141,7 @@ pub data Call : Type 0 where
   stroke : Call
   strip : Call
   join : Call
+  drill : Call
 
 -- the numbers of the questions that a call puts
 unfoldable pub puts : Call → List ℕ
@@ -153,6 +160,7 @@ puts stroke = 1 ∷ 4 ∷ 6 ∷ 7 ∷ 8 ∷ 11 ∷ 12 ∷ 13 ∷ 15 ∷ 17 ∷ 1
 puts strip = 1 ∷ 4 ∷ 6 ∷ 7 ∷ 8 ∷ 11 ∷ 12 ∷ 13 ∷ 15 ∷ []
 -- of three tables, in a sequence of their own (crate graft)
 puts join = 1 ∷ 4 ∷ 6 ∷ 7 ∷ 8 ∷ 11 ∷ 12 ∷ 13 ∷ 16 ∷ []
+puts drill = 1 ∷ 4 ∷ 6 ∷ 7 ∷ 8 ∷ 11 ∷ 12 ∷ 13 ∷ 21 ∷ []
 
 -- whether the root may be named
 unfoldable pub root-too : Call → Bool
@@ -168,6 +176,7 @@ root-too mend = true
 root-too stroke = true
 root-too strip = true
 root-too join = true
+root-too drill = true
 
 -- ---- what each question asks
 unfoldable pub roomy : Buffer → Bool
@@ -176,6 +185,7 @@ roomy (scratch m) = leb scratch-size m
 roomy (output m) = leb listing-size m
 roomy (copy-output m) = leb most-file m
 roomy (lines-output m) = leb lines-size m
+roomy (step-list m) = leb most-steps m
 
 unfoldable pub all-roomy : List Buffer → Bool
 all-roomy [] = true
@@ -230,6 +240,7 @@ in-table root n nothing = true
 in-table root n (named c) = ltb c n && cond root true (ltb 0 c)
 in-table root n (squares f) = true
 in-table root n (stroked g s) = true
+in-table root n (answer-bytes a) = true
 
 -- question 19 (document 02, E2): is the frame not 0
 unfoldable pub framed : Subject → Bool
@@ -237,6 +248,7 @@ framed nothing = true
 framed (named c) = true
 framed (squares f) = leb 1 f
 framed (stroked g s) = true
+framed (answer-bytes a) = true
 
 -- question 17 (document 02, E1): is the pitch from 0.25 to 16 and each margin from 0 to 100
 unfoldable pub on-page : Subject → Bool
@@ -244,6 +256,7 @@ on-page nothing = true
 on-page (named c) = true
 on-page (squares f) = true
 on-page (stroked g s) = fair g
+on-page (answer-bytes a) = true
 
 -- "a sheet of n cells has 9n − 3 strokes" (document 02, E1)
 unfoldable pub strokes-of : (n : ℕ) → ℕ
@@ -255,6 +268,15 @@ numbered n nothing = true
 numbered n (named c) = true
 numbered n (squares f) = true
 numbered n (stroked g s) = ltb s (strokes-of n)
+numbered n (answer-bytes a) = true
+
+-- question 21 (document 02, E12): are there at most 4,096 answer bytes
+unfoldable pub answerable : Subject → Bool
+answerable nothing = true
+answerable (named c) = true
+answerable (squares f) = true
+answerable (stroked g s) = true
+answerable (answer-bytes a) = leb a most-answers
 
 module _ (call : Call) (g : Given) where
   -- the answer, at cell c where the question is put to each cell
@@ -282,6 +304,7 @@ module _ (call : Call) (g : Given) where
   holds cell-named c = in-table (root-too call) (length (g .table)) (g .subject)
   holds page-fair c = on-page (g .subject)
   holds stroke-numbered c = numbered (length (g .table)) (g .subject)
+  holds answers-few c = answerable (g .subject)
 
 -- ---- the first "no"
 -- nothing refused: 0 and 0
@@ -366,3 +389,8 @@ stroke-given t ps g s =
 unfoldable pub strip-given : Table → (positions : List ℤ) → Given
 strip-given t ps =
     record { source = lent; table = t; allowance = 0; buffers = []; positions = long (length ps); coordinates = ps; subject = nothing }
+
+-- what a drill is given: a table, so many answer bytes and a list
+unfoldable pub drill-given : Table → (answers list : ℕ) → Given
+drill-given t a l =
+    record { source = lent; table = t; allowance = 0; buffers = step-list l ∷ []; positions = absent; coordinates = []; subject = answer-bytes a }

@@ -59,6 +59,11 @@ pub const LAST_LETTER: u8 = 126;
 
 pub const MOST_LABEL: u8 = 40;
 
+// Steps that a drill records (1), and its answer bytes (21).
+pub const MOST_STEPS: usize = 4096;
+
+pub const MOST_ANSWERS: usize = 4096;
+
 // From low to high, both included.
 pub fn between(low: u16, high: u16, n: u16) -> bool
     ensures { λ r. ⌜ r ≡ between low high n ⌝ }

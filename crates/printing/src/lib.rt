@@ -32,7 +32,7 @@ fn first_line(plan: Reading, width: u32, rows: u32) -> Line
 }
 
 // The label of a cell: the part of the file that its record says.
-fn label_at(plan: Reading, file: &[u8], c: usize) -> &[u8]
+pub fn label_at(plan: Reading, file: &[u8], c: usize) -> &[u8]
     requires { ⌜ (c < plan .columns .count) × Taken plan (now file) ⌝ }
     ensures { λ r. ⌜ now r ≡ label-bytes (now (file .entry)) c ⌝ }
 {

@@ -61,6 +61,23 @@ pub enum Stroke {
     Lift,
 }
 
+/// How a drill ends.
+#[derive(Clone, Copy, Debug, PartialEq, Eq)]
+pub enum Outcome {
+    Finished,
+    Spent,
+    Wrong,
+    Full,
+}
+
+/// A drill's end, the answer bytes used and the number of records.
+#[derive(Clone, Copy, Debug, PartialEq, Eq)]
+pub struct Drill {
+    pub outcome: Outcome,
+    pub used: usize,
+    pub records: usize,
+}
+
 mod raw {
     use super::{Page, Record};
 
@@ -165,6 +182,15 @@ mod raw {
         pub count: usize,
     }
 
+    #[repr(C)]
+    pub struct DrillAnswer {
+        pub number: u8,
+        pub cell: u16,
+        pub outcome: u8,
+        pub used: usize,
+        pub records: usize,
+    }
+
     extern "C" {
         pub fn kuzpalen_read(file: *const u8, file_len: usize, table: *mut Record, table_len: usize) -> ReadAnswer;
         pub fn kuzpalen_label(file: *const u8, file_len: usize, cell: usize) -> LabelPart;
@@ -244,6 +270,14 @@ mod raw {
             table: *mut Record,
             table_len: usize,
         ) -> JoinAnswer;
+        pub fn kuzpalen_drill(
+            table: *const Record,
+            table_len: usize,
+            answers: *const u8,
+            answers_len: usize,
+            list: *mut u16,
+            list_len: usize,
+        ) -> DrillAnswer;
     }
 }
 
@@ -400,4 +434,20 @@ pub fn join(first: &[Record], second: &[Record], cell: usize, table: &mut [Recor
         raw::kuzpalen_join(first.as_ptr(), first.len(), second.as_ptr(), second.len(), cell, table.as_mut_ptr(), table.len())
     };
     unless(r.number, r.cell, r.count)
+}
+
+/// Drill: the plan followed with these answers; the recorded steps go to the beginning of the list, which needs room for 4,096.
+pub fn drill(table: &[Record], answers: &[u8], list: &mut [u16]) -> Result<Drill, Refusal> {
+    // SAFETY: the pointers are good for their lengths, and the one that is written shares nothing.
+    let r = unsafe {
+        raw::kuzpalen_drill(table.as_ptr(), table.len(), answers.as_ptr(), answers.len(), list.as_mut_ptr(), list.len())
+    };
+    // The outcomes of include/kuzpalen.h, from 1 on.
+    let outcome = match r.outcome {
+        0 | 1 => Outcome::Finished,
+        2 => Outcome::Spent,
+        3 => Outcome::Wrong,
+        _ => Outcome::Full,
+    };
+    unless(r.number, r.cell, Drill { outcome, used: r.used, records: r.records })
 }

@@ -10,7 +10,7 @@ use bindings::Record;
 use compare::guard::Guarded;
 use reference::generate as make;
 use reference::rng::Rng;
-use reference::{Cell, Form, Refusal, COPY, FORMS, LINES, LISTING, MAX_CELLS, MAX_COORDINATE, MAX_WIDTH, MENDED, SCRATCH};
+use reference::{Cell, Form, Refusal, COPY, ANSWERS, FORMS, LINES, LISTING, MAX_CELLS, MAX_COORDINATE, MAX_WIDTH, MENDED, RECORDS, SCRATCH};
 use std::collections::BTreeMap;
 use std::mem::size_of;
 use std::process::exit;
@@ -51,6 +51,8 @@ struct Rooms {
     lines: Guarded,
     second: Guarded,
     joined: Guarded,
+    answers: Guarded,
+    list: Guarded,
 }
 
 struct Run {
@@ -536,6 +538,46 @@ impl Run {
         }
     }
 
+    fn drill(&mut self, rng: &mut Rng, cells: &[Cell], answers: &[u8]) {
+        let room = if rng.once_in(40) { RECORDS - 1 - rng.index(2) } else { RECORDS + rng.index(3) * rng.index(40) };
+        let mut theirs = vec![rng.next() as u16; room];
+        let at_end = rng.once_in(2);
+        let ours = self.rooms.list.lend(&theirs, at_end);
+        let lent = self.rooms.answers.lend(answers, at_end);
+        let table = self.rooms.table.lend(&records(cells), at_end);
+        let got = bindings::drill(table, lent, ours).map_err(|r| Refusal { number: r.number as u32, cell: r.cell as u32 }).map(|d| {
+            let outcome = match d.outcome {
+                bindings::Outcome::Finished => reference::Outcome::Finished,
+                bindings::Outcome::Spent => reference::Outcome::Spent,
+                bindings::Outcome::Wrong => reference::Outcome::Wrong,
+                bindings::Outcome::Full => reference::Outcome::Full,
+            };
+            reference::Drill { outcome, used: d.used, records: d.records }
+        });
+        let (ours, lent, table) = (ours.to_vec(), lent.to_vec(), table.to_vec());
+        let input = (answers, room, cells);
+        let (expected, met) = reference::drill_met(cells, answers, &mut theirs).map_or_else(|r| (Err(r), Default::default()), |(d, met)| (Ok(d), met));
+        self.same("Drill's answer", &got, &expected, &input);
+        self.same("the list after Drill", &ours, &theirs, &input);
+        self.same("the buffers after Drill", &(lent.as_slice(), table), &(answers, records(cells)), &input);
+        met.into_iter().for_each(|what| self.note("Drill", what));
+        if let Ok(d) = expected {
+            self.note_ranks("Drill", cells, "drilled");
+            let edge = [RECORDS - 1, RECORDS].contains(&d.records) && d.outcome == reference::Outcome::Finished;
+            if edge {
+                self.note("Drill", format!("finished with {}", d.records));
+            }
+            if answers.len() == ANSWERS {
+                self.note("Drill", "4096 answers");
+            }
+        }
+        let answer = match expected {
+            Ok(d) => format!("{:?}", d.outcome),
+            Err(r) => format!("refused {:2}", r.number),
+        };
+        self.count("Drill", answer);
+    }
+
     /// A file of either form, valid or damaged, through Read, Label, List, Copy and Mend.
     fn a_file(&mut self, rng: &mut Rng) {
         let form = rng.pick(&FORMS);
@@ -618,7 +660,7 @@ impl Run {
         self.copy(rng, &cells, &letters, allowance);
     }
 
-    /// A table, valid or damaged, through Layout, Check, Ends, Strip and Frame.
+    /// A table, valid or damaged, through Layout, Check, Ends, Strip, Frame, Drill and the rest that take one.
     fn a_table(&mut self, rng: &mut Rng) {
         let widest = rng.once_in(1_000);
         let mut cells = match () {
@@ -672,6 +714,12 @@ impl Run {
         // A large plan's seventeen sheets take the reference long.
         if cells.len() <= 60 || rng.once_in(4) {
             self.frame(rng, &cells);
+        }
+        let answers = some_answers(rng, &cells);
+        self.drill(rng, &cells, &answers);
+        if rng.once_in(100) {
+            let (plan, answers) = near_full(rng);
+            self.drill(rng, &plan, &answers);
         }
     }
 }
@@ -868,6 +916,72 @@ fn some_frame(rng: &mut Rng, cells: &[Cell]) -> u32 {
     }
 }
 
+/// Answers that follow the plan for a while, where it is one, with a byte that is none now and then; or any bytes.
+fn some_answers(rng: &mut Rng, cells: &[Cell]) -> Vec<u8> {
+    let mut answers: Vec<u8> = Vec::new();
+    let plan = reference::layout(cells, 0, &mut vec![0; 512], &mut vec![0; SCRATCH]).ok().map(|_| reference::Plan::new(cells));
+    // The cells still to do, the next one last.
+    let mut to_do: Vec<usize> = if plan.is_some() { vec![0] } else { Vec::new() };
+    let most = rng.pick(&[3, 10, 40, 40, 400]) as usize;
+    let counts = rng.pick(&[[0u8, 1, 2, 3], [1, 1, 2, 255], [0, 1, 255, 255]]);
+    while let (Some(plan), Some(cell)) = (&plan, to_do.pop()) {
+        if answers.len() >= most || to_do.len() > 20_000 {
+            break;
+        }
+        let sons: Vec<usize> = plan.sons[cell].iter().rev().copied().collect();
+        let byte = match cells[cell].kind {
+            1 => continue,
+            2 => {
+                to_do.extend(&sons);
+                continue;
+            }
+            3 => rng.pick(&counts),
+            4 => rng.index(sons.len()) as u8,
+            _ => rng.index(2) as u8,
+        };
+        match cells[cell].kind {
+            3 => to_do.extend(std::iter::repeat_n(sons[0], byte as usize)),
+            4 => to_do.push(sons[sons.len() - 1 - byte as usize]),
+            _ if byte == 1 => to_do.extend(&sons),
+            _ => {}
+        }
+        answers.push(byte);
+    }
+    if rng.once_in(6) && !answers.is_empty() {
+        let i = rng.index(answers.len());
+        answers[i] = rng.pick(&[2, 16, 17, 255]);
+    }
+    match rng.index(20) {
+        0 => answers.truncate(rng.index(answers.len() + 1)),
+        1..=4 => answers.extend(make::noise(rng, 30)),
+        5 => answers.resize(rng.pick(&[ANSWERS as u64 - 1, ANSWERS as u64, ANSWERS as u64 + 1, ANSWERS as u64 + 100]) as usize, rng.pick(&[0, 1])),
+        6 => answers = make::noise(rng, 300),
+        _ => {}
+    }
+    answers
+}
+
+/// A run of repeats of a step and a wait at its end, and answers that end with 4,095, 4,096 or more records.
+fn near_full(rng: &mut Rng) -> (Vec<Cell>, Vec<u8>) {
+    let cell = |parent, kind| Cell { parent, kind, width: 4, depth: 1, ..Cell::default() };
+    let mut plan = vec![cell(65_535, 2)];
+    let mut answers = Vec::new();
+    for k in 0..16 {
+        let at = plan.len() as u16;
+        if k < 15 {
+            plan.extend([cell(0, 3), cell(at, 1)]);
+            answers.push(255);
+        } else {
+            plan.extend([cell(0, 2), cell(at, 3), cell(at + 1, 1), cell(at, 3), cell(at + 3, 1), cell(at, 5)]);
+            answers.extend([255, rng.pick(&[14, 15, 16, 17, 255]), rng.index(2) as u8]);
+        }
+    }
+    if rng.once_in(4) {
+        answers.pop();
+    }
+    (plan, answers)
+}
+
 /// Where a part of a file begins, and its length.
 fn place_of(part: &[u8], file: &[u8]) -> (usize, usize) {
     (part.as_ptr() as usize - file.as_ptr() as usize, part.len())
@@ -934,7 +1048,7 @@ fn some_table(rng: &mut Rng) -> Vec<Cell> {
 /// The answers that each call can give: all must have been seen in a long run.
 fn unseen(seen: &Seen) -> Vec<String> {
     let mut all: Vec<(&str, String)> = Vec::new();
-    let refusals: [(&str, &[u32]); 12] = [
+    let refusals: [(&str, &[u32]); 13] = [
         ("Read", &[1, 2, 3]),
         ("Label", &[2, 3]),
         ("Layout", &[1, 4, 6, 7, 8, 11, 12, 13, 14]),
@@ -947,6 +1061,7 @@ fn unseen(seen: &Seen) -> Vec<String> {
         ("Stroke", &[1, 4, 6, 7, 8, 11, 12, 13, 15, 17, 18]),
         ("Strip", &[1, 4, 6, 7, 8, 11, 12, 13, 15]),
         ("Join", &[1, 16]),
+        ("Drill", &[1, 4, 6, 7, 8, 11, 12, 13, 21]),
     ];
     for (call, numbers) in refusals {
         all.extend(numbers.iter().map(|n| (call, format!("refused {n:2}"))));
@@ -970,6 +1085,14 @@ fn unseen(seen: &Seen) -> Vec<String> {
     let strips = ["no byte", "blank", "whole bytes", "points, first column odd", "points, least x not 0", "points below row 255", "past the last column that fits", "row of 32 bits"];
     all.extend(strips.map(|a| ("Strip", a.into())));
     all.extend(["0", "more than 0", "none"].map(|a| ("Frame", a.into())));
+    all.extend(["Finished", "Spent", "Wrong", "Full", "run", "choice", "choice by rank", "4096 answers"].map(|a| ("Drill", a.into())));
+    all.extend([0, 1, 255].map(|n| ("Drill", format!("repeat {n}"))));
+    all.extend([0, 1, 255].map(|n| ("Drill", format!("nested repeat {n}"))));
+    for byte in 0..=2 {
+        all.extend(["with", "without"].map(|son| ("Drill", format!("wait {byte} {son}"))));
+    }
+    all.extend([4_095, 4_096].map(|n| ("Drill", format!("finished with {n}"))));
+    all.extend(["moved", "turned", "tied"].map(|ranks| ("Drill", format!("ranks {ranks} drilled"))));
     all.extend([("Layout", "choice laid"), ("Check", "choice kept"), ("Check", "choice S2"), ("Layout", "near widest")].map(|(c, a)| (c, a.into())));
     all.extend(["labels shared", "bytes unused", "more letters than a file has", "an empty label last", "of a copy", "of the same content"].map(|a| ("Copy", a.into())));
     for place in ["a box", "a connector"] {
@@ -1013,6 +1136,8 @@ fn main() {
         lines: Guarded::new(LINES + 200),
         second: Guarded::new(400 * size_of::<Record>()),
         joined: Guarded::new(400 * size_of::<Record>()),
+        answers: Guarded::new(ANSWERS + 200),
+        list: Guarded::new(2 * (RECORDS + 200)),
     };
     let mut run = Run { seed, number: 0, seen: Seen::new(), calls: 0, rooms };
     for number in first..first + inputs {

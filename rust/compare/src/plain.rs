@@ -2,7 +2,7 @@
 //! is measured against. Layout keeps one contour a level in rows of 64 numbers; Check takes each rule in
 //! turn over all pairs of cells, with places in preorder to tell who stands below whom.
 
-use bindings::{Ends, Plan, Record, Refusal, Sheet, Verdict};
+use bindings::{Drill, Ends, Outcome, Plan, Record, Refusal, Sheet, Verdict};
 
 const CELLS: usize = 256;
 const ROW: usize = 64;
@@ -357,6 +357,83 @@ pub fn frame(table: &[Record], squares: u32, scratch: &mut [u32]) -> Result<Opti
         }
     }
     Ok(Some(low))
+}
+
+/// The chain of open cells, each with its next child (0: none) and how often that one is still to be done.
+#[derive(Clone, Copy, Default)]
+struct Open {
+    cell: u16,
+    next: u16,
+    times: u8,
+}
+
+/// What a cell that is no step does when it is opened: its next child and how often; or how the drill ends.
+fn opened(links: &[[u16; 4]; CELLS], kind: u8, c: usize, answers: &[u8], used: &mut usize) -> Result<(u16, u8), Outcome> {
+    let first = links[c][0];
+    if kind == 2 {
+        return Ok((first, 1));
+    }
+    let byte = *answers.get(*used).ok_or(Outcome::Spent)?;
+    *used += 1;
+    match (kind, byte) {
+        (3, 0) | (5, 0) => Ok((0, 0)),
+        (3, _) => Ok((first, byte)),
+        (4, _) => {
+            let mut s = first;
+            for _ in 0..byte {
+                s = if s == 0 { 0 } else { links[s as usize][1] };
+            }
+            if s == 0 { Err(Outcome::Wrong) } else { Ok((s, 1)) }
+        }
+        (_, 1) => Ok((first, 1)),
+        _ => Err(Outcome::Wrong),
+    }
+}
+
+pub fn drill(table: &[Record], answers: &[u8], list: &mut [u16]) -> Result<Drill, Refusal> {
+    if list.len() < 4_096 {
+        return refuse(1, 0);
+    }
+    ask_table(table, 2 * table.len())?;
+    if answers.len() > 4_096 {
+        return refuse(21, 0);
+    }
+    let links = links(table);
+    let mut chain = [Open::default(); 32];
+    let (mut count, mut used, mut records, mut next) = (0, 0, 0, 0);
+    loop {
+        // The cell `next` is opened.
+        let kind = table[next].kind;
+        let ends = if kind == 1 {
+            if records == 4_096 {
+                Err(Outcome::Full)
+            } else {
+                list[records] = next as u16;
+                records += 1;
+                Ok((0, 0))
+            }
+        } else {
+            opened(&links, kind, next, answers, &mut used)
+        };
+        match ends {
+            Err(outcome) => return Ok(Drill { outcome, used, records }),
+            Ok((child, times)) => chain[count] = Open { cell: next as u16, next: child, times },
+        }
+        count += 1;
+        while count > 0 && chain[count - 1].next == 0 {
+            count -= 1;
+        }
+        if count == 0 {
+            return Ok(Drill { outcome: Outcome::Finished, used, records });
+        }
+        let top = &mut chain[count - 1];
+        next = top.next as usize;
+        if top.times > 1 {
+            top.times -= 1;
+        } else {
+            top.next = if table[top.cell as usize].kind == 2 { links[next][1] } else { 0 };
+        }
+    }
 }
 
 /// A cell as Check sees it.

@@ -5,6 +5,7 @@
 //! The words are the document's: father, son, brother, sub-diagram, foot, plumb line.
 
 mod copy;
+mod drill;
 mod frame;
 pub mod generate;
 mod join;
@@ -19,6 +20,7 @@ mod strokes;
 mod strip;
 
 pub use copy::{clean_form, content, copy, Content, COPY};
+pub use drill::{drill, drill_met, transcript, Drill, Outcome, ANSWERS, RECORDS};
 pub use frame::frame;
 pub use join::{ask_part, join};
 pub use layout::{distances_by_pairs, distances_by_paths, layout, place, SCRATCH};

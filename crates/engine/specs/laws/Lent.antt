@@ -13,7 +13,7 @@ use Rattle.plan.specs.Records.{bare, cells-of}
 use Rattle.plan.specs.declared.Record.{Record}
 use Rattle.plan.specs.declared.Columns.{Columns}
 use Rattle.plan.specs.declared.Lettered.{Lettered}
-use Rattle.plan.specs.Questions.{Buffer, scratch, all-roomy, in-file, puts, asked, or-else, refusal, layout, check, ends, frame, strip, layout-given, check-given, ends-given, frame-given, copy-output, copy, copy-given, strip-given}
+use Rattle.plan.specs.Questions.{Buffer, scratch, all-roomy, in-file, puts, asked, or-else, refusal, layout, check, ends, frame, strip, layout-given, check-given, ends-given, frame-given, copy-output, copy, copy-given, strip-given, step-list, drill, drill-given}
 use Rattle.plan.specs.laws.Crowded.{crowded, refusal-crowded, crowded-refuses}
 use Rattle.plan.specs.declared.Refusal.{Refusal}
 use Rattle.layout.specs.Laid.{laid-of, positions-after, Lays}
@@ -23,6 +23,9 @@ use Rattle.fitting.specs.Fitted as fitted
 use Rattle.fitting.specs.Fitted.{Frames}
 use Rattle.fitting.specs.declared.Fitted.{Fitted}
 use Rattle.fitting.specs.declared.Fitted.the-variants as fits
+use Rattle.following.specs.Drilled.{drilled-of, list-after, Drills}
+use Rattle.following.specs.declared.Drilled.{Drilled}
+use Rattle.following.specs.declared.Drilled.the-variants as drilled
 use Rattle.checker.specs.Checked.{checked-of}
 use Rattle.checker.specs.declared.Checked.{Checked}
 use Rattle.checker.specs.declared.Checked.the-variants as checks
@@ -66,6 +69,21 @@ module _ (f : ℕ) (s s′ : List ℕ) (d : Fitted) where
 
   frames-crowded : (u v : Table) → most-cells < length u → most-cells < length v → Frames u f s s′ d → Frames v f s s′ d
   frames-crowded u v p q g = record { answers = g .answers ∙ fitted-crowded u p ∙ sym (fitted-crowded v q); scratch = g .scratch }
+
+module _ (bs xs xs′ : List ℕ) (d : Drilled) where
+  abbrev undrilled : Refusal
+  undrilled = no (step-list (length xs) ∷ [])
+
+  drilled-crowded : (u : Table) → most-cells < length u → drilled-of u bs (refusal drill (drill-given u (length bs) (length xs))) ≡ drilled.Refused (undrilled .number) (undrilled .cell)
+  unfolding drilled-of drill-given in-file puts mem some
+  drilled-crowded u h = rw (refusal-crowded drill (drill-given u (length bs) (length xs)) (λ _. refl) refl refl h, ne-eqb (undrilled .number) 0 (crowded-refuses _))
+
+  list-crowded : (u : Table) → most-cells < length u → list-after u bs (refusal drill (drill-given u (length bs) (length xs))) xs ≡ xs
+  unfolding list-after drill-given in-file puts mem some
+  list-crowded u h = rw (refusal-crowded drill (drill-given u (length bs) (length xs)) (λ _. refl) refl refl h, ne-eqb (undrilled .number) 0 (crowded-refuses _))
+
+  drills-crowded : (u v : Table) → most-cells < length u → most-cells < length v → Drills u bs xs xs′ d → Drills v bs xs xs′ d
+  drills-crowded u v p q g = record { answer = g .answer ∙ drilled-crowded u p ∙ sym (drilled-crowded v q); list = g .list ∙ list-crowded u p ∙ sym (list-crowded v q) }
 
 check-crowded : (ps : List ℤ) (al : ℕ) (u : Table) → most-cells < length u → checked-of u ps al ≡ checks.Refused (no [] .number) (no [] .cell)
 unfolding checked-of check-given in-file puts mem some
@@ -125,3 +143,6 @@ module _ (letters : List ℕ) (al : ℕ) (out out′ : List ℕ) (d : Copied) wh
 
   pub strip-lent : (ps : List ℤ) (row first : ℕ) (bs bs′ : List ℕ) (d : Refusal) → Strips (table-of r) ps row first bs bs′ d → Strips (cells-of t) ps row first bs bs′ d
   strip-lent ps row first bs bs′ d h = of-records (λ u. Strips u ps row first bs bs′ d) t (strips-crowded ps row first bs bs′ d) (rw e at h)
+
+  pub drill-lent : (bs xs xs′ : List ℕ) (d : Drilled) → Drills (table-of r) bs xs xs′ d → Drills (cells-of t) bs xs xs′ d
+  drill-lent bs xs xs′ d h = of-records (λ u. Drills u bs xs xs′ d) t (drills-crowded bs xs xs′ d) (rw e at h)

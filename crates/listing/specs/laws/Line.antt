@@ -6,7 +6,7 @@ use native.Mathlib.Omega.{arith}
 use lib.IntN.{ℤ}
 use lib.ListN.{length}
 use lib.Seq.{take-append-seam}
-use Rattle.listing.specs.Printed.{Bytes, space, line-feed, sheet-word, refused-word, decimal, signed, line, sheet-line, label-field, cell-line, refused-line, mended-line, lines-joined}
+use Rattle.listing.specs.Printed.{Bytes, space, line-feed, sheet-word, refused-word, decimal, signed, line, sheet-line, label-field, cell-line, refused-line, mended-line, lines-joined, step-line, end-line}
 use Rattle.listing.specs.Printed.{bitmap-word, bitmap-line}
 use Rattle.listing.specs.Line.{spaced, line-of, text}
 
@@ -59,3 +59,12 @@ joined-append (l ∷ ls) ms = ap (λ (t : Bytes). l ++ t) (joined-append ls ms) 
 pub bitmap-line-is : (c r : ℕ) → bitmap-word ++ (space ∷ decimal c) ++ (space ∷ decimal r) ++ (line-feed ∷ []) ≡ bitmap-line c r
 unfolding bitmap-line line
 bitmap-line-is c r = simp append-assoc
+
+pub step-line-is : (c : ℕ) (l : Bytes) → decimal c ++ spaced l ++ (line-feed ∷ []) ≡ step-line c l
+unfolding step-line line label-field spaced
+step-line-is c [] = simp append-assoc
+step-line-is c (b ∷ l) = simp append-assoc
+
+pub end-line-is : (word : Bytes) (u n : ℕ) → word ++ (space ∷ decimal u) ++ (space ∷ decimal n) ++ (line-feed ∷ []) ≡ end-line word u n
+unfolding end-line line
+end-line-is word u n = simp append-assoc

@@ -6,12 +6,12 @@ use Prim.Native.Nat.{ℕ}
 use lib.Dec.{leb, ltb}
 use lib.ListN.{length}
 use lib.IntN.{ℤ}
-use Rattle.plan.specs.Limits.{scratch-size, listing-size, most-allowance}
+use Rattle.plan.specs.Limits.{scratch-size, listing-size, most-allowance, most-steps, most-answers}
 use Rattle.plan.specs.Lists.{some, mem}
 use Rattle.plan.specs.Plan.{Table}
 use Rattle.plan.specs.Pages.{fair}
 use Rattle.plan.specs.declared.Page.{Page}
-use Rattle.plan.specs.Questions.{roomy, all-roomy, enough, in-table, in-file, sequence, puts, root-too, number, holds, ask, none, asked, or-else, framed, on-page, strokes-of, numbered, refusal, layout, check, ends, list, frame, stroke, strip, layout-given, check-given, ends-given, list-given, frame-given, stroke-given, strip-given}
+use Rattle.plan.specs.Questions.{roomy, all-roomy, enough, in-table, in-file, sequence, puts, root-too, number, holds, ask, none, asked, or-else, framed, on-page, strokes-of, numbered, refusal, layout, check, ends, list, frame, stroke, strip, layout-given, check-given, ends-given, list-given, frame-given, stroke-given, strip-given, answerable, drill, drill-given}
 use Rattle.plan.specs.laws.Kept.{asked-last, asked-true, and-true, or-assoc, none-first, each-last, put, with-each, kept, refusal-kept, turn-ends, turn-once, turn-table, turn-near}
 use Rattle.plan.specs.Steps.{counted-refusal, lent-refusal, near-refusal}
 
@@ -64,6 +64,13 @@ module _ (t : Table) where
       let v = strip-given t ps in
       refusal-kept strip v
       ∙ simp (turn-once strip v, turn-table strip v refl, turn-near strip v, turn-ends strip v, asked-true 0 0, none-first, and-true, or-assoc, near-last ps (length t))
+
+  -- document 02, E12: 21 right behind 13
+  pub drill-refusal : (a l : ℕ) → refusal drill (drill-given t a l) ≡ or-else (asked 1 (leb most-steps l) 0) (or-else (counted-refusal t) (asked 21 (leb a most-answers) 0))
+  unfolding kept put with-each sequence number puts mem some ask holds roomy all-roomy enough answerable in-file counted-refusal drill-given
+  drill-refusal a l =
+      let g = drill-given t a l in
+      refusal-kept drill g ∙ simp (turn-once drill g, turn-table drill g refl, turn-ends drill g, asked-true 0 0, none-first, and-true, or-assoc, asked-last 20 (leb a most-answers) 0)
 
 -- the listing puts one question, and has no table to put the others to
 pub list-refusal : (room : ℕ) → refusal list (list-given room) ≡ asked 1 (leb listing-size room) 0

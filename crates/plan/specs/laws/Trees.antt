@@ -9,9 +9,9 @@ use lib.ListN.{length, getD, set}
 use lib.Seq.{getD-set-same, getD-set-other}
 use lib.Dec.{eqb}
 use borrow.Author.Tests.{eq-eqb, ne-eqb}
-use Rattle.plan.specs.Lists.{from, keep}
+use Rattle.plan.specs.Lists.{At, from, keep}
 use Rattle.plan.specs.Plan.{Table, Is, Sound, parent, D, filed, children, path, level, row}
-use Rattle.plan.specs.laws.Plan.{children-length}
+use Rattle.plan.specs.laws.Plan.{child-read, children-length}
 use Rattle.plan.specs.Limits.{most-depth, most-cells}
 use Rattle.plan.specs.laws.Paths.{lower, from-parents, path-zero, path-suc, row-suc}
 use Rattle.plan.specs.Columns.{table}
@@ -103,6 +103,13 @@ module _ (t : Table) (sound : Sound t) where
   pub level-suc : (m : ℕ) → level t (suc m) ≡ suc (level t (parent t (suc m)))
   unfolding level
   level-suc m = path-level (parent t (suc m))
+
+  pub level-child : (c i s : ℕ) → At (children t c) i s → level t s ≡ suc (level t c)
+  level-child c i s h = go s (child-read t c i s h .low) (child-read t c i s h .of)
+    where
+      go : (s : ℕ) → 1 ≤ s → parent t s ≡ c → level t s ≡ suc (level t c)
+      go zero l e = absurd (omega arith)
+      go (suc m) l e = level-suc m ∙ ap (λ (a : ℕ). suc (level t a)) e
 
   pub level-most : (a : ℕ) → level t a ≤ a
   level-most = from-parents t sound (λ a. level t a ≤ a) (unfold level in omega arith) (λ m g. omega (arith, level-suc m, lower t sound m))

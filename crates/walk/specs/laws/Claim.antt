@@ -10,6 +10,7 @@ use Rattle.plan.specs.Limits.{most-cells, farthest}
 use Rattle.plan.specs.Lists.{At}
 use Rattle.plan.specs.Plan.{Table, Is, W, D, children, place, level, row}
 use Rattle.plan.specs.laws.Paths.{Below, below-split, child-less, row-child}
+use Rattle.plan.specs.laws.Trees.{level-child}
 use Rattle.contours.specs.Contour.{Contour, greatest, offset}
 use Rattle.contours.specs.Sheet.{contours, whole-contour}
 use Rattle.contours.specs.laws.Forest.{Forest, none, tree, Grown}
@@ -19,7 +20,7 @@ use Rattle.joining.specs.Joining.{Memory, memory-of, mark}
 use Rattle.links.specs.Links.{link}
 use Rattle.walk.specs.Machine.{Chart, State, wide, deep, apt, closed, step, Turning, Closing}
 use Rattle.walk.specs.laws.Machine.{step-open, step-close, Safe}
-use Rattle.walk.specs.laws.Tree.{Tail, tail-all, tail-head, tail-next, tail-first, Out, below-below, sum, below-most, out-later, level-child}
+use Rattle.walk.specs.laws.Tree.{Tail, tail-all, tail-head, tail-next, tail-first, Out, below-below, sum, below-most, out-later}
 use Rattle.walk.specs.laws.Shows.{Shows, SameMarks, Kept, kept-none, kept-then, Fine, Long, open-shows, Shut, closing, shut}
 use Rattle.walk.specs.Walked.{Suits, Right}
 

@@ -1,15 +1,14 @@
 -- The tree of a table as the walk meets it: the children of a cell from some place on, and what is below them. Assumes nothing.
-use mathlib.Core.Path.{_≡_, refl, _∙_, ap, subst}
+use mathlib.Core.Path.{_≡_, refl, subst}
 use mathlib.Core.List.{List, [], _∷_}
-use Prim.Native.Nat.{ℕ, zero, suc, _+_, _≤_}
+use Prim.Native.Nat.{ℕ, suc, _+_, _≤_}
 use native.Mathlib.Nat.{zero-add, add-zero}
 use native.Mathlib.Omega.{arith}
 use lib.ListN.{length, getD}
 use Rattle.plan.specs.Lists.{At, total}
-use Rattle.plan.specs.Plan.{Table, Is, Sound, parent, children, level, subtree}
+use Rattle.plan.specs.Plan.{Table, Is, Sound, children, subtree}
 use Rattle.plan.specs.laws.Plan.{child-read, child-place}
 use Rattle.plan.specs.laws.Paths.{Below, below-within, child-less}
-use Rattle.plan.specs.laws.Trees.{level-suc}
 use Rattle.plan.specs.laws.Sums.{disjoint, total-parts}
 use Rattle.contours.specs.laws.Forest.{Forest, none, tree, Grown}
 use Rattle.folding.specs.laws.Lists.{at-get, get-past}
@@ -59,13 +58,6 @@ module _ (t : Table) (sound : Sound t) where
       let e : c ≡ s = disjoint t sound f c s x (child-read t f o c hc) (child-read t f (o + suc i) s hs) (below-within t sound v) (below-within t sound w) in
       let q : o ≡ o + suc i = child-place t f o (o + suc i) s (subst (At (children t f) o) e hc) hs in
       omega arith
-
-  pub level-child : (c i s : ℕ) → At (children t c) i s → level t s ≡ suc (level t c)
-  level-child c i s h = go s (child-read t c i s h .low) (child-read t c i s h .of)
-    where
-      go : (s : ℕ) → 1 ≤ s → parent t s ≡ c → level t s ≡ suc (level t c)
-      go zero l e = absurd (omega arith)
-      go (suc m) l e = level-suc t sound m ∙ ap (λ (a : ℕ). suc (level t a)) e
 
   pub sum-within : (f : ℕ → ℕ) {cs : List ℕ} {F : Forest} → Grown t cs F → ((i s : ℕ) → At cs i s → Is t s) → sum f F ≤ total (λ s. total f (subtree t s)) cs
   unfolding sum total

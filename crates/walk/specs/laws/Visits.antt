@@ -11,6 +11,7 @@ use Rattle.plan.specs.laws.Lists.{at-getD, at-less}
 use Rattle.plan.specs.Plan.{Table, Is, children, level, Child}
 use Rattle.plan.specs.laws.Plan.{child-read, child-show}
 use Rattle.plan.specs.laws.Paths.{Below, below-root, below-split, below-is, below-child, child-less}
+use Rattle.plan.specs.laws.Trees.{level-child}
 use Rattle.plan.specs.Fit.{Fit}
 use Rattle.contours.specs.laws.Forest.{Forest, none, tree, Grown, grown, forest}
 use Rattle.joining.specs.Joining.{Memory, memory-of}
@@ -18,7 +19,7 @@ use Rattle.links.specs.Links.{Links, link}
 use Rattle.walk.specs.Machine.{Chart, State, step}
 use Rattle.walk.specs.Turns.{stack-of, state-of}
 use Rattle.walk.specs.laws.Turns.{stack-of-length}
-use Rattle.walk.specs.laws.Tree.{Tail, tail-all, tail-head, tail-next, tail-first, sum, level-child, below-most, out-later}
+use Rattle.walk.specs.laws.Tree.{Tail, tail-all, tail-head, tail-next, tail-first, sum, below-most, out-later}
 use Rattle.walk.specs.Preorder.{in-turn, preorder-to, preorder}
 use Rattle.walk.specs.Opened.{begin, run, opening, visits, opened, OpenCells, Once, EachOnce, InOrder, Visiting, Visited}
 

@@ -67,7 +67,10 @@ fn main() {
     let args: Vec<String> = std::env::args().skip(1).collect();
     match args.split_first() {
         Some((plan, named)) => programs(plan, named),
-        None => calls(),
+        None => {
+            calls();
+            drills();
+        }
     }
 }
 
@@ -102,6 +105,26 @@ fn calls() {
             table_calls(shape, &cells.iter().map(record).collect::<Vec<_>>(), ", ranks");
         }
         wide_strips(shape);
+    }
+}
+
+/// 4,096 records, each through so many levels: nested repeats over a chain of runs down to one step.
+fn drills() {
+    println!("| drill | levels | cells | bytes used | engine ns | Rust ns | ratio |\n|---|---|---|---|---|---|---|");
+    for levels in [2, 8, 16, 31] {
+        let cell = |parent: usize, kind| Record { parent: parent as u16, kind, width: 4, depth: 1, ..Record::default() };
+        let mut table = vec![Record { parent: 65_535, ..cell(0, 3) }, cell(0, 3)];
+        table.extend((1..levels).map(|c| cell(c, if c + 1 == levels { 1 } else { 2 })));
+        let answers: Vec<u8> = [17].into_iter().chain([255; 16]).chain([16]).collect();
+        let (mut list, mut other) = (vec![0; 4_096], vec![0; 4_096]);
+        let drill = bindings::drill(&table, &answers, &mut list).expect("a drill");
+        assert_eq!(Ok(drill), plain::drill(&table, &answers, &mut other));
+        assert_eq!((list.clone(), drill.records), (other.clone(), 4_096));
+        let (engine, rust) = race(
+            || { let _ = black_box(bindings::drill(black_box(&table), &answers, &mut list)); },
+            || { let _ = black_box(plain::drill(black_box(&table), &answers, &mut other)); },
+        );
+        println!("| 4,096 records | {levels} | {} | {} | {engine:.0} | {rust:.0} | {:.2} |", table.len(), drill.used, engine / rust);
     }
 }
 

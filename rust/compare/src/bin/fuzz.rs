@@ -6,7 +6,7 @@
 //!     fuzz library SECONDS SEED
 //!     fuzz program SECONDS SEED COMMAND...
 
-use bindings::{Record, Verdict};
+use bindings::{Outcome, Record, Verdict};
 use reference::generate as make;
 use reference::rng::Rng;
 use reference::FORMS;
@@ -285,11 +285,36 @@ fn mend_calls(rng: &mut Rng) -> Result<(), &'static str> {
     }
 }
 
+/// Drill, and what it says against Layout; a byte more after the last one used changes nothing.
+fn drill_calls(rng: &mut Rng) -> Result<(), &'static str> {
+    let table = lent(&some_table(rng));
+    let length = if rng.once_in(10) { rng.index(4_096) } else { 4_096 + rng.index(3) };
+    let fill = rng.next() as u16;
+    let mut list = lent(&vec![fill; length]);
+    let most = rng.pick(&[3, 30, 4_100]);
+    let answers: Vec<u8> = (0..rng.index(most)).map(|_| rng.pick(&[0, 0, 1, 1, 1, 2, 3, 255])).collect();
+    let drilled = bindings::drill(&table, &lent(&answers), &mut list);
+    let records = drilled.map_or(0, |d| d.records);
+    if list[records..].iter().any(|n| *n != fill) || list[..records].iter().any(|n| table[*n as usize].kind != 1) {
+        return Err("Drill left the list otherwise than it should");
+    }
+    match drilled {
+        Ok(d) if d.used > answers.len() || d.outcome == Outcome::Spent && d.used != answers.len() => Err("Drill used other bytes"),
+        Ok(d) if d.outcome == Outcome::Full && d.records != 4_096 => Err("Drill is full before it is"),
+        Ok(d) if d.outcome != Outcome::Spent && bindings::drill(&table, &lent(&answers[..d.used]), &mut list) != drilled => Err("a byte that was not used changes the drill"),
+        Err(r) if r.number != 21 && r.number != 1 => {
+            let laid = bindings::layout(&table, 0, &mut vec![0; SCRATCH], &mut vec![0; 2 * table.len()]);
+            if laid == Err(r) { Ok(()) } else { Err("Drill refuses otherwise than Layout") }
+        }
+        _ => Ok(()),
+    }
+}
+
 fn library(end: Instant, seed: u64) -> u64 {
     let mut number = 0;
     while Instant::now() < end {
         let mut rng = Rng::new(seed, number);
-        let done = match number % 9 {
+        let done = match number % 10 {
             0 | 1 => table_calls(&mut rng),
             2 => file_calls(&mut rng),
             3 => list_call(&mut rng),
@@ -297,7 +322,8 @@ fn library(end: Instant, seed: u64) -> u64 {
             5 => mend_calls(&mut rng),
             6 => strip_calls(&mut rng),
             7 => join_call(&mut rng),
-            _ => frame_calls(&mut rng),
+            8 => frame_calls(&mut rng),
+            _ => drill_calls(&mut rng),
         };
         done.unwrap_or_else(|what| fault(what, seed, number));
         number += 1;

@@ -1,0 +1,4 @@
+pub mod Drilled
+pub mod Machine
+pub mod Needed
+pub mod laws

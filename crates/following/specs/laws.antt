@@ -1,0 +1,6 @@
+pub mod Machine
+pub mod Siblings
+pub mod Runs
+pub mod Follows
+pub mod Drilled
+pub mod Promised

@@ -1,0 +1,419 @@
+// THE DRILL (document 02, E12): a plan followed with a list of answers, as a loop over the chain of open cells.
+use asking::asked;
+use asking::counted_refusal;
+use links::links_of;
+use plan::Columns;
+use plan::Refusal;
+use plan::limits::MOST_ANSWERS;
+use plan::limits::MOST_STEPS;
+use whole::numbers::wide16;
+ghost use mathlib.Core.Path.{_≡_};
+ghost use mathlib.Core.List.{_∷_, _++_};
+ghost use mathlib.Core.Bool.{_&&_};
+ghost use Prim.Native.Nat.{_+_, _*_, _≤_, _<_};
+ghost use lib.ListN.{length, getD, drop};
+ghost use lib.Dec.{eqb, ltb};
+ghost use Rattle.plan.specs.Limits.{«most-steps»};
+ghost use Rattle.plan.specs.Fit.{Fit};
+ghost use Rattle.plan.specs.Columns.{«table-of»};
+ghost use Rattle.plan.specs.Questions.{refusal, drill, «drill-given»};
+ghost use Rattle.links.specs.Links.{link, Links};
+ghost use Rattle.moves.specs.Drill.{«drill-of»};
+ghost use Rattle.following.specs.Machine.{after, later, hops, repeated, picked, waiting, answered, opened, frame, frames, top, below, passed, enter, step, «outcome-of», «so-far», «state-of»};
+ghost use Rattle.following.specs.Drilled.{«told-as», «drill-told», Drills};
+ghost use Rattle.following.specs.Needed.{Row, Cell, Passing, Entering, Turning, Wrote};
+
+// What is still to do of an open cell: the next child, 0 where there is none, and how often.
+pub struct Todo {
+    pub next: u16,
+    pub times: u8,
+}
+
+// What a cell does when it is opened: its next child and how often; how the drill ended (0 goes on, 1 spent, 2 wrong, 3 full); bytes used.
+pub struct Opened {
+    pub next: u16,
+    pub times: u8,
+    pub halt: u8,
+    pub used: usize,
+}
+
+// The chain of open cells, from the root down, and beside each what is still to do of it.
+pub struct Chain {
+    pub cells: [u16; 32],
+    pub nexts: [u16; 32],
+    pub times: [u8; 32],
+    pub count: usize,
+}
+
+// The drill after a turn.
+pub struct Turned {
+    pub chain: Chain,
+    pub halt: u8,
+    pub used: usize,
+    pub records: usize,
+}
+
+// How the drill ended, with the bytes used and the number of records; or the refusal's number and cell.
+pub enum Drilled {
+    Finished(usize, usize),
+    Spent(usize, usize),
+    Wrong(usize, usize),
+    Full(usize, usize),
+    Refused(u8, u16),
+}
+
+// Link k of the cell c.
+fn link(links: &[u16], c: u16, k: usize) -> u16
+    requires { ⌜ (4 * c + 4 ≤ length (now links)) × (k < 4) ⌝ }
+    ensures { λ r. ⌜ r ≡ link (now (links .entry)) c k ⌝ }
+{
+    links[4 * wide16(c) + k]
+}
+
+fn kind_of(kinds: &[u8], c: u16) -> u8
+    requires { ⌜ c < length (now kinds) ⌝ }
+    ensures { λ r. ⌜ r ≡ getD (now (kinds .entry)) c 0 ⌝ }
+{
+    kinds[wide16(c)]
+}
+
+// What an open cell of this kind does after its child n, which was to be done so often.
+fn after(links: &[u16], kind: u8, n: u16, times: u8) -> Todo
+    requires { ⌜ 4 * n + 4 ≤ length (now links) ⌝ }
+    ensures { λ r. ⌜ r ≡ after (now (links .entry)) kind n times ⌝ }
+{
+    if 1 < times {
+        return Todo {
+            next: n,
+            times: times - 1,
+        };
+    }
+    if kind == 2 {
+        return Todo {
+            next: link(links, n, 1),
+            times: 1,
+        };
+    }
+    Todo { next: 0, times: 0 }
+}
+
+// The next sibling, 0 where there is none.
+fn later(links: &[u16], n: u16) -> u16
+    requires { ⌜ 4 * n + 4 ≤ length (now links) ⌝ }
+    ensures { λ r. ⌜ r ≡ later (now (links .entry)) n ⌝ }
+{
+    if n == 0 {
+        return 0;
+    }
+    link(links, n, 1)
+}
+
+// The sibling a places after n, 0 where there is none.
+fn sibling(links: &[u16], n: u16, a: u8) -> u16
+    requires { ⌜ Row (now links) n ⌝ }
+    ensures { λ r. ⌜ r ≡ hops (now (links .entry)) n a ⌝ }
+{
+    let mut s = n;
+    let mut i = a;
+    while 0 < i {
+        s = later(links, s);
+        i -= 1;
+    }
+    s
+}
+
+// A repeat, whose byte is a.
+fn repeated(first: u16, a: u8, used: usize) -> Opened
+    ensures { λ r. ⌜ r ≡ repeated first a used ⌝ }
+{
+    if a == 0 {
+        return Opened {
+            next: 0,
+            times: 0,
+            halt: 0,
+            used,
+        };
+    }
+    Opened {
+        next: first,
+        times: a,
+        halt: 0,
+        used,
+    }
+}
+
+// A choice, whose byte names the child n, 0 where there is none.
+fn picked(n: u16, used: usize) -> Opened
+    ensures { λ r. ⌜ r ≡ picked n used ⌝ }
+{
+    if n == 0 {
+        return Opened {
+            next: 0,
+            times: 0,
+            halt: 2,
+            used,
+        };
+    }
+    Opened {
+        next: n,
+        times: 1,
+        halt: 0,
+        used,
+    }
+}
+
+// A wait, whose byte is a.
+fn waiting(first: u16, a: u8, used: usize) -> Opened
+    ensures { λ r. ⌜ r ≡ waiting first a used ⌝ }
+{
+    if a == 0 {
+        return Opened {
+            next: 0,
+            times: 0,
+            halt: 0,
+            used,
+        };
+    }
+    if a == 1 {
+        return Opened {
+            next: first,
+            times: 1,
+            halt: 0,
+            used,
+        };
+    }
+    Opened {
+        next: 0,
+        times: 0,
+        halt: 2,
+        used,
+    }
+}
+
+// A repeat, a choice or a wait s, whose byte is a.
+fn answered(links: &[u16], s: u16, kind: u8, a: u8, used: usize) -> Opened
+    requires { ⌜ Cell (now links) s ⌝ }
+    ensures { λ r. ⌜ r ≡ answered (now (links .entry)) s kind a used ⌝ }
+{
+    let first = link(links, s, 0);
+    if kind == 3 {
+        return repeated(first, a, used);
+    }
+    if kind == 4 {
+        return picked(sibling(links, first, a), used);
+    }
+    waiting(first, a, used)
+}
+
+fn byte_at(answers: &[u8], i: usize) -> u8
+    requires { ⌜ i < length (now answers) ⌝ }
+    ensures { λ r. ⌜ r ≡ getD (now (answers .entry)) i 0 ⌝ }
+{
+    answers[i]
+}
+
+// A cell s that is no step is opened: a run does all its children, any other takes a byte.
+fn open_cell(links: &[u16], answers: &[u8], s: u16, kind: u8, used: usize) -> Opened
+    requires { ⌜ Cell (now links) s ⌝ }
+    ensures { λ r. ⌜ r ≡ opened (now (links .entry)) (now (answers .entry)) s kind used ⌝ }
+{
+    if kind == 2 {
+        return Opened {
+            next: link(links, s, 0),
+            times: 1,
+            halt: 0,
+            used,
+        };
+    }
+    if used < answers.len() {
+        return answered(links, s, kind, byte_at(answers, used), used + 1);
+    }
+    Opened {
+        next: 0,
+        times: 0,
+        halt: 1,
+        used,
+    }
+}
+
+// One more open cell.
+fn pushed(chain: Chain, s: u16, next: u16, times: u8) -> Chain
+    requires { ⌜ chain .count < 32 ⌝ }
+    ensures { λ r. ⌜ frames r ≡ frame s next times ∷ frames chain ⌝ }
+    ensures { λ r. ⌜ r .count ≡ chain .count + 1 ⌝ }
+{
+    let k = chain.count;
+    let mut c = chain;
+    c.cells[k] = s;
+    c.nexts[k] = next;
+    c.times[k] = times;
+    c.count = k + 1;
+    c
+}
+
+// The next child of the latest open cell is begun: what is to do after it.
+fn passed(links: &[u16], kinds: &[u8], chain: Chain) -> Chain
+    requires { ⌜ Passing (now links) (now kinds) chain ⌝ }
+    ensures { λ r. ⌜ frames r ≡ passed (now (links .entry)) (now (kinds .entry)) (top chain) ∷ below chain ⌝ }
+    ensures { λ r. ⌜ r .count ≡ chain .count ⌝ }
+{
+    let k = chain.count - 1;
+    let mut c = chain;
+    let t = after(links, kind_of(kinds, c.cells[k]), c.nexts[k], c.times[k]);
+    c.nexts[k] = t.next;
+    c.times[k] = t.times;
+    c
+}
+
+// The cell s is opened. A step is recorded, where there is room.
+fn entered(
+    links: &[u16],
+    kinds: &[u8],
+    answers: &[u8],
+    s: u16,
+    chain: Chain,
+    used: usize,
+    records: usize,
+    list: &mut [u16],
+) -> Turned
+    requires { ⌜ Entering (now links) (now kinds) s (chain .count) records (now list) ⌝ }
+    ensures { λ r. ⌜ state-of (r .chain) (r .halt) (r .used) (r .records) (now (list .exit)) ≡ enter (now (links .entry)) (now (kinds .entry)) (now (answers .entry)) s (frames chain) (so-far 0 used records (now (list .entry))) ⌝ }
+    ensures { λ r. ⌜ Wrote records (r .records) (now (list .entry)) (now (list .exit)) ⌝ }
+{
+    let kind = kind_of(kinds, s);
+    if kind == 1 {
+        if records < MOST_STEPS {
+            list[records] = s;
+            return Turned {
+                chain: pushed(chain, s, 0, 0),
+                halt: 0,
+                used,
+                records: records + 1,
+            };
+        }
+        return Turned {
+            chain: pushed(chain, s, 0, 0),
+            halt: 3,
+            used,
+            records,
+        };
+    }
+    let o = open_cell(links, answers, s, kind, used);
+    Turned {
+        chain: pushed(chain, s, o.next, o.times),
+        halt: o.halt,
+        used: o.used,
+        records,
+    }
+}
+
+// One turn: the next child of the latest open cell is opened; or, where it has none, that cell is closed.
+fn turn(
+    links: &[u16],
+    kinds: &[u8],
+    answers: &[u8],
+    chain: Chain,
+    used: usize,
+    records: usize,
+    list: &mut [u16],
+) -> Turned
+    requires { ⌜ Turning (now links) (now kinds) chain records (now list) ⌝ }
+    ensures { λ r. ⌜ state-of (r .chain) (r .halt) (r .used) (r .records) (now (list .exit)) ≡ step (now (links .entry)) (now (kinds .entry)) (now (answers .entry)) (state-of chain 0 used records (now (list .entry))) ⌝ }
+    ensures { λ r. ⌜ Wrote records (r .records) (now (list .entry)) (now (list .exit)) ⌝ }
+{
+    let k = chain.count - 1;
+    let n = chain.nexts[k];
+    if n == 0 {
+        let mut c = chain;
+        c.count = k;
+        return Turned {
+            chain: c,
+            halt: 0,
+            used,
+            records,
+        };
+    }
+    entered(
+        links,
+        kinds,
+        answers,
+        n,
+        passed(links, kinds, chain),
+        used,
+        records,
+        list,
+    )
+}
+
+// Whether there is a further turn.
+fn goes_on(halt: u8, count: usize) -> bool
+    ensures { λ r. ⌜ r ≡ eqb halt 0 && ltb 0 count ⌝ }
+{
+    halt == 0 && 0 < count
+}
+
+// The whole drill of a table with its links.
+fn followed(t: Columns, links: &[u16], answers: &[u8], list: &mut [u16]) -> Turned
+    requires { ⌜ Fit (table-of t) × Links (table-of t) (now links) × (most-steps ≤ length (now list)) ⌝ }
+    ensures { λ r. ⌜ (so-far (r .halt) (r .used) (r .records) (now (list .exit)) ≡ drill-of (table-of t) (now (answers .entry))) × Wrote 0 (r .records) (now (list .entry)) (now (list .exit)) ⌝ }
+{
+    let empty = Chain {
+        cells: [0u16; 32],
+        nexts: [0u16; 32],
+        times: [0u8; 32],
+        count: 0,
+    };
+    let mut at = entered(links, &t.kind, answers, 0, empty, 0, 0, list);
+    while goes_on(at.halt, at.chain.count) {
+        let chain = at.chain;
+        at = turn(links, &t.kind, answers, chain, at.used, at.records, list);
+    }
+    at
+}
+
+fn told(halt: u8, used: usize, records: usize) -> Drilled
+    ensures { λ r. ⌜ r ≡ told-as (outcome-of halt) used records ⌝ }
+{
+    match halt {
+        0 => Drilled::Finished(used, records),
+        1 => Drilled::Spent(used, records),
+        2 => Drilled::Wrong(used, records),
+        _ => Drilled::Full(used, records),
+    }
+}
+
+// The drill of a table that no question refuses, over a list of at least 4,096 numbers.
+fn follow(t: Columns, answers: &[u8], list: &mut [u16]) -> Drilled
+    requires { ⌜ Fit (table-of t) × (most-steps ≤ length (now list)) ⌝ }
+    ensures { λ r. ⌜ (r ≡ drill-told (drill-of (table-of t) (now (answers .entry)))) × (now (list .exit) ≡ drill-of (table-of t) (now (answers .entry)) .steps ++ drop (length (drill-of (table-of t) (now (answers .entry)) .steps)) (now (list .entry))) ⌝ }
+{
+    let links = links_of(t);
+    let e = followed(t, &links, answers, list);
+    told(e.halt, e.used, e.records)
+}
+
+// The questions that the drill puts: 1 (the list), 4, 6 to 8, 11 to 13, 21.
+fn drill_refusal(t: Columns, answers: usize, list: usize) -> Refusal
+    ensures { λ r. ⌜ r ≡ refusal drill (drill-given (table-of t) answers list) ⌝ }
+{
+    let long = asked(1, MOST_STEPS <= list, 0);
+    if long.number != 0 {
+        return long;
+    }
+    let lent = counted_refusal(&t.parent, &t.kind, &t.width, &t.depth, t.count);
+    if lent.number != 0 {
+        return lent;
+    }
+    asked(21, answers <= MOST_ANSWERS, 0)
+}
+
+// Drill: the questions, then the drill.
+pub fn drill(t: Columns, answers: &[u8], list: &mut [u16]) -> Drilled
+    ensures { λ r. ⌜ Drills (table-of t) (now (answers .entry)) (now (list .entry)) (now (list .exit)) r ⌝ }
+{
+    let r = drill_refusal(t, answers.len(), list.len());
+    if r.number != 0 {
+        return Drilled::Refused(r.number, r.cell);
+    }
+    follow(t, answers, list)
+}

@@ -1,0 +1,5 @@
+pub mod Drill
+pub mod Worked
+pub mod Moves
+pub mod Theorems
+pub mod laws

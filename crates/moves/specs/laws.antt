@@ -1,0 +1,5 @@
+pub mod Drill
+pub mod Moves
+pub mod Beyond
+pub mod Passes
+pub mod Steps
