@@ -133,6 +133,7 @@ pub data Call : Type 0 where
   copy : Call
   mend : Call
   stroke : Call
+  strip : Call
 
 -- the numbers of the questions that a call puts
 unfoldable pub puts : Call → List ℕ
@@ -148,6 +149,7 @@ puts copy = 1 ∷ from 4 11
 -- of the mended file, as document 02, E11, says: "the refusal it would get"
 puts mend = from 1 14
 puts stroke = 1 ∷ 4 ∷ 6 ∷ 7 ∷ 8 ∷ 11 ∷ 12 ∷ 13 ∷ 15 ∷ 17 ∷ 18 ∷ []
+puts strip = 1 ∷ 4 ∷ 6 ∷ 7 ∷ 8 ∷ 11 ∷ 12 ∷ 13 ∷ 15 ∷ []
 
 -- whether the root may be named
 unfoldable pub root-too : Call → Bool
@@ -161,6 +163,7 @@ root-too frame = true
 root-too copy = true
 root-too mend = true
 root-too stroke = true
+root-too strip = true
 
 -- ---- what each question asks
 unfoldable pub roomy : Buffer → Bool
@@ -354,3 +357,8 @@ copy-given t labels letters al room =
 unfoldable pub stroke-given : Table → (positions : List ℤ) → Page → (s : ℕ) → Given
 stroke-given t ps g s =
     record { source = lent; table = t; allowance = 0; buffers = []; positions = long (length ps); coordinates = ps; subject = stroked g s }
+
+-- what a strip is given (document 02, E8), of which a question asks: a table and positions
+unfoldable pub strip-given : Table → (positions : List ℤ) → Given
+strip-given t ps =
+    record { source = lent; table = t; allowance = 0; buffers = []; positions = long (length ps); coordinates = ps; subject = nothing }

@@ -11,7 +11,7 @@ use Rattle.plan.specs.Lists.{some, mem}
 use Rattle.plan.specs.Plan.{Table}
 use Rattle.plan.specs.Pages.{fair}
 use Rattle.plan.specs.declared.Page.{Page}
-use Rattle.plan.specs.Questions.{roomy, all-roomy, enough, in-table, in-file, sequence, puts, root-too, number, holds, ask, none, asked, or-else, framed, on-page, strokes-of, numbered, refusal, layout, check, ends, list, frame, stroke, layout-given, check-given, ends-given, list-given, frame-given, stroke-given}
+use Rattle.plan.specs.Questions.{roomy, all-roomy, enough, in-table, in-file, sequence, puts, root-too, number, holds, ask, none, asked, or-else, framed, on-page, strokes-of, numbered, refusal, layout, check, ends, list, frame, stroke, strip, layout-given, check-given, ends-given, list-given, frame-given, stroke-given, strip-given}
 use Rattle.plan.specs.laws.Kept.{asked-last, asked-true, and-true, or-assoc, none-first, each-last, put, with-each, kept, refusal-kept, turn-ends, turn-once, turn-table, turn-near}
 use Rattle.plan.specs.Steps.{counted-refusal, lent-refusal, near-refusal}
 
@@ -56,6 +56,14 @@ module _ (t : Table) where
       let v = stroke-given t ps g s in
       refusal-kept stroke v
       ∙ simp (turn-once stroke v, turn-table stroke v refl, turn-near stroke v, turn-ends stroke v, asked-true 0 0, none-first, and-true, or-assoc, asked-last 17 (ltb s (strokes-of (length t))) 0)
+
+  -- document 02, E8
+  pub strip-refusal : (ps : List ℤ) → refusal strip (strip-given t ps) ≡ or-else (lent-refusal t (length ps)) (near-refusal ps (length t))
+  unfolding kept put with-each sequence number puts mem some ask holds all-roomy enough in-file lent-refusal strip-given
+  strip-refusal ps =
+      let v = strip-given t ps in
+      refusal-kept strip v
+      ∙ simp (turn-once strip v, turn-table strip v refl, turn-near strip v, turn-ends strip v, asked-true 0 0, none-first, and-true, or-assoc, near-last ps (length t))
 
 -- the listing puts one question, and has no table to put the others to
 pub list-refusal : (room : ℕ) → refusal list (list-given room) ≡ asked 1 (leb listing-size room) 0
