@@ -144,7 +144,7 @@ if strace -o "$work/trace" -e inject=getpid:signal=KILL true 2> /dev/null; then
             rm -rf "$work/there"
             mkdir "$work/there"
             [ "$before" = absent ] || printf 'what stood here' > "$work/there/second"
-            strace -o "$work/trace" -e "inject=all:signal=KILL:when=$call" "$mend" "$work/there/second" < "$work/narrow" > /dev/null 2>&1
+            (strace -o "$work/trace" -e "inject=all:signal=KILL:when=$call" "$mend" "$work/there/second" < "$work/narrow"; :) > /dev/null 2>&1
             if [ -e "$work/there/second" ]; then
                 cmp -s "$work/good" "$work/there/second" || same "the second file, killed at call $call" "what stood here" "$(cat "$work/there/second")"
                 [ "$before" = there ] || { cmp -s "$work/good" "$work/there/second"; same "the second file is whole, killed at call $call" 0 $?; }

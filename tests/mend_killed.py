@@ -21,13 +21,8 @@ def main():
     seen = {'absent': 0, 'as it was': 0, 'whole': 0}
     with tempfile.TemporaryDirectory() as folder:
         second = os.path.join(folder, 'second')
-        # how long an undisturbed run takes
-        took = []
-        for _ in range(20):
-            began = time.perf_counter()
-            subprocess.run([program, second], stdin=open(plan, 'rb'), stdout=subprocess.DEVNULL, check=False)
-            took.append(time.perf_counter() - began)
-        longest = sorted(took)[-3] * 1.5
+        # within this many seconds a run is killed: longer where runs were killed before their end, shorter where they got there
+        span = 0.002
         for number in range(TIMES):
             for name in os.listdir(folder):
                 os.unlink(os.path.join(folder, name))
@@ -36,7 +31,7 @@ def main():
                 with open(second, 'wb') as f:
                     f.write(OLD)
             child = subprocess.Popen([program, second], stdin=open(plan, 'rb'), stdout=subprocess.DEVNULL, stderr=subprocess.DEVNULL)
-            until = time.perf_counter() + chance.uniform(0, longest)
+            until = time.perf_counter() + chance.uniform(0, span)
             while time.perf_counter() < until:
                 pass
             child.kill()
@@ -44,8 +39,10 @@ def main():
             found = open(second, 'rb').read() if os.path.exists(second) else None
             if found == whole:
                 seen['whole'] += 1
+                span *= 0.9
             elif found == (OLD if there else None):
                 seen['as it was' if there else 'absent'] += 1
+                span *= 1.1
             else:
                 print(f'tests/mend_killed.py: killed in run {number}, the second file is {found!r}')
                 return 1

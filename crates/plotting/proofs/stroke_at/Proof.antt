@@ -24,8 +24,9 @@ use Rattle.plan.proofs.Page.Laws as G′
 use Rattle.strokes.proofs.Stroked as L
 use Rattle.strokes.proofs.Stroked.Laws as L′
 use Rattle.engine.proofs.InTurn.{Of, Told, Answered, Calling, Follows, table-ty, positions-ty}
-use Rattle.engine.proofs.Lent.{meets-lent}
+use Rattle.engine.proofs.Lent.{by-columns, columned, meets-lent}
 use Rattle.records.proofs.columns_of.Symbol as apart
+use Rattle.records.proofs.columns_of.Met as apart-thm
 use Rattle.strokes.proofs.stroke_at.Symbol as core
 use Rattle.strokes.proofs.stroke_at.Met as core-thm
 use Rattle.plotting.proofs.stroke_at.Key as own
@@ -54,7 +55,7 @@ module _ {M : Type 1} (𝓤 : URA M) (H : Heap 𝓤) (A : Atoms 𝓤) (W : Given
 pub stroke-at-spec : {M : Type 1} → stated.statement M
 unfolding code.routine
 stroke-at-spec 𝓤 H 𝓜 𝓖 𝓡 =
-    meets-lent 𝓤 H 𝓜 𝓖 𝓡 code.env own.name core.name code.function (code.unfolded 𝓤 H 𝓜 𝓡) core.routine code.calls-records·columns-of code.calls-strokes·stroke-at L′.mir 1 others L.the-row
+    meets-lent by-columns 𝓤 H 𝓜 𝓖 𝓡 code.env own.name core.name code.function (code.unfolded 𝓤 H 𝓜 𝓡) apart.routine core.routine code.calls-records·columns-of code.calls-strokes·stroke-at (apart-thm.met 𝓤 H 𝓜 𝓖 𝓡) (columned 𝓤 H (𝓖 .A) (givenOf 𝓤 H 𝓜 𝓖)) L′.mir 1 others L.the-row
     (λ r u is. EL.lawful L.the-type L′.the-laws 𝓤 H (𝓖 .A) (givenOf 𝓤 H 𝓜 𝓖) tt .typed r _ is .0) (λ κs t a e r. r ≡ stroked-of t (a .0 .now) (a .1 .0) (a .1 .1 .0))
     (λ κs t c q a e r. stroke-lent t c q (a .0 .now) (a .1 .0) (a .1 .1 .0) r) (λ κ. core-thm.met 𝓤 H 𝓜 𝓖 𝓡)
     (λ κs. (slice-vals, (LL.vals G.the-type G′.the-laws, (uint-vals w64, tt)))) (λ κs. (shr-slice-tells (named 1) (κs .1 .0) i32, (LL.tells G.the-type G′.the-laws, (uint-tells w64, tt))))
