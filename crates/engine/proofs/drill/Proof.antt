@@ -22,8 +22,9 @@ use Rattle.plan.proofs.Columns.Laws as B′
 use Rattle.following.proofs.Drilled as L
 use Rattle.following.proofs.Drilled.Laws as L′
 use Rattle.engine.proofs.InTurn.{Told, Answered, Calling, Follows}
-use Rattle.engine.proofs.Lent.{meets-lent}
+use Rattle.engine.proofs.Lent.{by-columns, columned, meets-lent}
 use Rattle.records.proofs.columns_of.Symbol as apart
+use Rattle.records.proofs.columns_of.Met as apart-thm
 use Rattle.following.proofs.drill.Symbol as core
 use Rattle.following.proofs.drill.Met as core-thm
 use Rattle.engine.proofs.drill.Key as own
@@ -57,7 +58,7 @@ module _ {M : Type 1} (𝓤 : URA M) (H : Heap 𝓤) (A : Atoms 𝓤) (W : Given
 pub drill-spec : {M : Type 1} → stated.statement M
 unfolding code.routine
 drill-spec 𝓤 H 𝓜 𝓖 𝓡 =
-    meets-lent 𝓤 H 𝓜 𝓖 𝓡 code.env own.name core.name code.function (code.unfolded 𝓤 H 𝓜 𝓡) core.routine code.calls-records·columns-of code.calls-following·drill L′.mir
+    meets-lent by-columns 𝓤 H 𝓜 𝓖 𝓡 code.env own.name core.name code.function (code.unfolded 𝓤 H 𝓜 𝓡) apart.routine core.routine code.calls-records·columns-of code.calls-following·drill (apart-thm.met 𝓤 H 𝓜 𝓖 𝓡) (columned 𝓤 H (𝓖 .A) (givenOf 𝓤 H 𝓜 𝓖)) L′.mir
     2 others L.the-row (λ r u is. EL.lawful L.the-type L′.the-laws 𝓤 H (𝓖 .A) (givenOf 𝓤 H 𝓜 𝓖) tt .typed r _ is .0)
     (λ κs t a e r. Drills t (a .0 .now) (a .1 .0 .now) (e .1 .0 .now) r)
     (λ κs t c q a e r. drill-lent t c q (a .0 .now) (a .1 .0 .now) (e .1 .0 .now) r) (λ κ. core-thm.met 𝓤 H 𝓜 𝓖 𝓡)
