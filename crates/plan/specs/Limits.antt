@@ -86,3 +86,7 @@ most-label = 40
 -- the parent of the root (question 6)
 abbrev pub no-parent : ℕ
 no-parent = 65535
+
+-- numbers of 32 bits in the second scratch of a sheet that is being made (question 1; document 02, E9)
+abbrev pub second-size : ℕ
+second-size = 1024

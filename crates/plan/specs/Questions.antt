@@ -7,7 +7,7 @@ use lib.ListN.{length, getD}
 use lib.Dec.{eqb, leb, ltb}
 use lib.IntN.{ℤ, pos}
 use Rattle.whole.specs.Range.{in-range}
-use Rattle.plan.specs.Limits.{between, most-cells, most-width, most-depth, most-level, last-row, most-allowance, farthest, scratch-size, listing-size, least-file, most-file, trailer-size, first-letter, last-letter, most-label, no-parent}
+use Rattle.plan.specs.Limits.{between, most-cells, most-width, most-depth, most-level, last-row, most-allowance, farthest, scratch-size, second-size, listing-size, least-file, most-file, trailer-size, first-letter, last-letter, most-label, no-parent}
 use Rattle.plan.specs.Forms.{marked, form-of, record-size, widest}
 use Rattle.plan.specs.Lists.{from, mem}
 use Rattle.plan.specs.Plan.{Table, parent, kind, W, D, children, level, row}
@@ -15,19 +15,23 @@ use Rattle.plan.specs.Kinds.{known, allows, bordered}
 use Rattle.plan.specs.declared.Refusal.{Refusal}
 
 -- ---- what a call is given
--- a lent buffer of a length that question 1 asks for, with the length that it has: a table to fill, Layout's scratch, the output of a listing
+-- a lent buffer of a length that question 1 asks for, with the length that it has: a table to fill, Layout's scratch, the output of a listing;
+-- the second scratch of a sheet that is being made (document 02, E9)
 pub data Buffer : Type 0 where
   to-fill scratch output : ℕ → Buffer
+  second-scratch : ℕ → Buffer
 
 -- the length of the positions, where the call has them
 pub data Lent : Type 0 where
   absent : Lent
   long : ℕ → Lent
 
--- what a call is asked about besides: a cell that is named; a frame of so many squares
+-- what a call is asked about besides: a cell that is named; a frame of so many squares; the cells that are finished so far and, of them or not, the
+-- cell whose reach is asked for (document 02, E9)
 pub data Subject : Type 0 where
   nothing : Subject
   named squares : ℕ → Subject
+  reach-of : (finished : List ℕ) → ℕ → Subject
 
 -- the part of the file's label bytes that is a cell's label
 pub record Label : Type 0 where
@@ -64,6 +68,7 @@ pub data Question : Type 0 where
   buffers-long file-sized file-marked cells-counted positions-long letters-printable : Question
   parent-lower kind-known box-sized label-inside label-fits : Question
   children-allowed level-low rows-few frame-wide allowance-small coordinates-near cell-named : Question
+  cell-finished : Question
 
 -- the documents' number, which a refusal returns
 unfoldable pub number : Question → ℕ
@@ -85,6 +90,7 @@ number frame-wide = 19
 number allowance-small = 14
 number coordinates-near = 15
 number cell-named = 16
+number cell-finished = 20
 
 -- a question put once, or questions put to each cell in turn
 pub data Step : Type 0 where
@@ -107,11 +113,13 @@ sequence =
     ∷ once allowance-small
     ∷ each (coordinates-near ∷ [])
     ∷ once cell-named
+    ∷ each (cell-finished ∷ [])
     ∷ []
 
 -- ---- the calls
 pub data Call : Type 0 where
   read label layout check ends list frame : Call
+  start step reach : Call
 
 -- the numbers of the questions that a call puts
 unfoldable pub puts : Call → List ℕ
@@ -123,6 +131,9 @@ puts ends = 1 ∷ 4 ∷ 6 ∷ 7 ∷ 8 ∷ 11 ∷ 12 ∷ 13 ∷ 15 ∷ 16 ∷ []
 -- what is wrong with the file it prints, as document 01 says
 puts list = 1 ∷ []
 puts frame = 1 ∷ 4 ∷ 6 ∷ 7 ∷ 8 ∷ 11 ∷ 12 ∷ 13 ∷ 19 ∷ []
+puts start = 1 ∷ 4 ∷ 6 ∷ 7 ∷ 8 ∷ 11 ∷ 12 ∷ 13 ∷ 14 ∷ []
+puts step = 1 ∷ 4 ∷ 6 ∷ 7 ∷ 8 ∷ 11 ∷ 12 ∷ 13 ∷ 14 ∷ []
+puts reach = 1 ∷ 4 ∷ 6 ∷ 7 ∷ 8 ∷ 11 ∷ 12 ∷ 13 ∷ 14 ∷ 16 ∷ 20 ∷ []
 
 -- whether the root may be named
 unfoldable pub root-too : Call → Bool
@@ -133,12 +144,16 @@ root-too layout = true
 root-too check = true
 root-too list = true
 root-too frame = true
+root-too start = true
+root-too step = true
+root-too reach = true
 
 -- ---- what each question asks
 unfoldable pub roomy : Buffer → Bool
 roomy (to-fill m) = leb most-cells m
 roomy (scratch m) = leb scratch-size m
 roomy (output m) = leb listing-size m
+roomy (second-scratch m) = leb second-size m
 
 unfoldable pub all-roomy : List Buffer → Bool
 all-roomy [] = true
@@ -184,12 +199,21 @@ unfoldable pub in-table : (root : Bool) → (n : ℕ) → Subject → Bool
 in-table root n nothing = true
 in-table root n (named c) = ltb c n && cond root true (ltb 0 c)
 in-table root n (squares f) = true
+in-table root n (reach-of finished c) = ltb c n && cond root true (ltb 0 c)
 
 -- question 19 (document 02, E2): is the frame not 0
 unfoldable pub framed : Subject → Bool
 framed nothing = true
 framed (named c) = true
 framed (squares f) = leb 1 f
+framed (reach-of finished c) = true
+
+-- question 20 (document 02, E9), put to each cell: is it finished, if it is the one whose reach is asked for
+unfoldable pub finished-at : Subject → ℕ → Bool
+finished-at nothing c = true
+finished-at (named x) c = true
+finished-at (squares f) c = true
+finished-at (reach-of finished x) c = cond (eqb c x) (mem c finished) true
 
 module _ (call : Call) (g : Given) where
   -- the answer, at cell c where the question is put to each cell
@@ -215,6 +239,7 @@ module _ (call : Call) (g : Given) where
   holds allowance-small c = leb (g .allowance) most-allowance
   holds coordinates-near c = near (getD (g .coordinates) (2 * c) (pos 0)) && near (getD (g .coordinates) (2 * c + 1) (pos 0))
   holds cell-named c = in-table (root-too call) (length (g .table)) (g .subject)
+  holds cell-finished c = finished-at (g .subject) c
 
 -- ---- the first "no"
 -- nothing refused: 0 and 0
@@ -276,3 +301,17 @@ list-given room = record { source = lent; table = []; allowance = 0; buffers = o
 unfoldable pub frame-given : Table → (squares scratch : ℕ) → Given
 frame-given t f s =
     record { source = lent; table = t; allowance = 0; buffers = scratch s ∷ []; positions = absent; coordinates = []; subject = squares f }
+
+-- what the three calls on a sheet that is being made are given (document 02, E9): a table, an allowance and two scratches; a step positions too; a reading the cell,
+-- and the cells that are finished when it is asked for
+unfoldable pub start-given : Table → (allowance scratch second : ℕ) → Given
+start-given t al s m =
+    record { source = lent; table = t; allowance = al; buffers = scratch s ∷ second-scratch m ∷ []; positions = absent; coordinates = []; subject = nothing }
+
+unfoldable pub step-given : Table → (allowance scratch second positions : ℕ) → Given
+step-given t al s m p =
+    record { source = lent; table = t; allowance = al; buffers = scratch s ∷ second-scratch m ∷ []; positions = long p; coordinates = []; subject = nothing }
+
+unfoldable pub reach-given : Table → (allowance scratch second : ℕ) → (finished : List ℕ) → (asked-for : ℕ) → Given
+reach-given t al s m finished c =
+    record { source = lent; table = t; allowance = al; buffers = scratch s ∷ second-scratch m ∷ []; positions = absent; coordinates = []; subject = reach-of finished c }
