@@ -1,0 +1,6 @@
+pub mod Postorder
+pub mod Made
+pub mod Finishing
+pub mod Order
+pub mod Guard
+pub mod laws
