@@ -18,7 +18,7 @@ use Rattle.joining.specs.laws.Joining.{length-four}
 use Rattle.joining.specs.laws.Numbers.{box-low, max-le}
 use Rattle.joining.specs.laws.Marks.{mark-one, mark-other}
 use Rattle.folding.specs.laws.Lists.{get-past}
-use Rattle.walk.specs.Machine.{Chart, wide, deep, top, stretch, closed, root-closed, Closing, Ending}
+use Rattle.walk.specs.Machine.{Chart, wide, deep, top, stretch, closed, root-closed, Closing, Ending, Rooting}
 use Rattle.walk.specs.laws.Stretch.{stretch-length}
 use Rattle.finishing.specs.Made.{count-at}
 use Rattle.finishing.specs.Guard.{OwnRows, TheirRows, Guarded, Guards, Tells, Greatest, Static, advanced, Tried, Finished}
@@ -142,15 +142,6 @@ module _ (b : Chart) (level f c : ℕ) (xs ms : List ℕ) (s : Static b level f 
         };
       }
 
--- and of the root
-pub guard-ending : (b : Chart) (level f : ℕ) (xs ms : List ℕ) → Static b level f 0 xs ms → OwnRows ms 0 (deep b 0) 0 → Ending b (memory-of xs ms)
-guard-ending b level f xs ms s g =
-    record {
-      widths = omega (arith, s .widths);
-      depths = omega (arith, s .depths);
-      rooting = record { completing = record { column = omega arith; own = omega (arith, s .marks); rows = omega (arith, s .rows, g .fit); behind = g .behind } };
-    }
-
 -- ---- and it holds wherever the walk is
 module _ (b : Chart) (xs ms : List ℕ) (lx : length xs ≡ scratch-size) where
   pub closing-guard : (level f c : ℕ) → f ≢ c → Closing b level f c xs ms → Guarded xs ms c f (deep b c) (top b c)
@@ -211,9 +202,6 @@ module _ (b : Chart) (level f c : ℕ) (xs ms : List ℕ) (s : Static b level f 
       go zero l u g = absurd (omega arith)
       go (suc p) l u g = set-guard xs ms (suc p) f (deep b (suc p)) (top b (suc p)) 0 (λ _. u) g
 
-  pub root-ending : c ≡ 0 → OwnRows ms 0 (deep b 0) 0 → Ending b (memory-of (set xs count-at 0) ms)
-  root-ending e g = guard-ending b level f (set xs count-at 0) ms (subst (λ (z : ℕ). Static b level f z (set xs count-at 0) ms) e (set-static b level f c xs ms 0 s)) g
-
 -- ---- what was tried
 pub tried-yes : {m n done : Memory} {guard : Type 0} → n ≡ done → Tried m n done guard true
 tried-yes e = record { yes = λ _. e; no = λ z. absurd (bool-apart z); fires = λ z. absurd (bool-apart z) }
@@ -231,3 +219,25 @@ module _ (b : Chart) (level f c : ℕ) (xs ms : List ℕ) (n : Memory) (r : Bool
 
   pub finished-root : c ≡ 0 → Tried (memory-of xs ms) n (root-closed (memory-of (set xs count-at 0) ms) (deep b 0) (wide b 0)) (OwnRows ms 0 (deep b 0) 0) r → Finished b level f c (memory-of xs ms) n r
   finished-root e h = rw e h
+
+-- ---- the numbers that the code finds on its way
+-- the rows that are lent to be read
+pub part-stretch : (xs : List ℕ) (y n m : ℕ) → n ≡ m → take (row-size * y + row-size * n - row-size * y) (drop (row-size * y) xs) ≡ stretch xs y m
+part-stretch xs y n m e = let q : row-size * y + row-size * n - row-size * y ≡ row-size * m = omega (arith, e) in ap (λ (k : ℕ). take k (drop (row-size * y) xs)) q
+
+pub guard-found : (xs ms : List ℕ) (c f : ℕ) {d d′ y y′ : ℕ} → d ≡ d′ → y ≡ y′ → Guarded xs ms c f d′ y′ → Guarded xs ms c f d y
+guard-found xs ms c f ed ey g = rw (ed, ey) g
+
+pub child-ready : (b : Chart) (level f c : ℕ) (xs ms : List ℕ) → Static b level f c xs ms → 1 ≤ c → {d y : ℕ} → d ≡ deep b c → y ≡ top b c → Guarded xs ms c f d y → Closing b level f c (set xs count-at 0) ms
+child-ready b level f c xs ms s l ed ey g = child-closing b level f c xs ms s l (guard-found xs ms c f (sym ed) (sym ey) g)
+
+pub root-ready : (xs ms : List ℕ) (d : ℕ) → length xs ≡ scratch-size → length ms ≡ second-size → OwnRows ms 0 d 0 → Rooting (memory-of (set xs count-at 0) ms) d
+root-ready xs ms d lx lm g =
+    let l = length-set xs count-at 0 in
+    record { completing = record { column = omega arith; own = omega (arith, lm); rows = omega (arith, l, lx, g .fit); behind = g .behind } }
+
+pub root-found : (m : Memory) {d d′ w w′ : ℕ} → d ≡ d′ → w ≡ w′ → root-closed m d w ≡ root-closed m d′ w′
+root-found m ed ew = rw (ed, ew) refl
+
+pub root-needs : (b : Chart) (level f c : ℕ) (xs ms : List ℕ) → Static b level f c xs ms → c ≡ 0 → deep b 0 + 1 ≤ last-row + 1
+root-needs b level f c xs ms s e = let h = s .fits in let k : deep b c + 1 ≤ last-row + 1 = omega (arith, h) in subst (λ (z : ℕ). deep b z + 1 ≤ last-row + 1) e k

@@ -200,6 +200,14 @@ module _ (t : Table) (al : ℕ) (xs ms : List ℕ) (ps : List ℤ) {r : Refusal}
   }
 
 -- ---- a reading
+pub read-yes : (t : Table) (xs ms : List ℕ) (c : ℕ) {b : Bool} {k l r : ℕ} → b ≡ mem c (take k (postorder t)) → b ≡ true → k ≡ getD xs count-at 0 → l ≡ mark ms c 1 → r ≡ mark ms c 2 → reached.Sides l r ≡ read t xs ms c
+unfolding read
+read-yes t xs ms c eb met ek el er = rw (← ek, ← eb, met, el, er) refl
+
+pub read-no : (t : Table) (xs ms : List ℕ) (c : ℕ) {b : Bool} {k : ℕ} → b ≡ mem c (take k (postorder t)) → b ≡ false → k ≡ getD xs count-at 0 → reached.Refused 20 c ≡ read t xs ms c
+unfolding read
+read-no t xs ms c eb unmet ek = rw (← ek, ← eb, unmet) refl
+
 cells-mem : (t : Table) (c : ℕ) → Is t c → T (mem c (cells t))
 unfolding cells
 cells-mem t c i = from-show 0 (length t) c (omega arith) (omega arith)

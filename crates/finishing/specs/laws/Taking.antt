@@ -1,10 +1,11 @@
 -- One step over columns. Nothing that a reader must believe stands here. Assumes nothing.
 use mathlib.Core.Path.{_≡_, refl, _∙_, ap, sym, subst}
 use mathlib.Core.Logic.{_≢_, _⊎_, inl, inr}
-use mathlib.Core.List.{List}
+use mathlib.Core.List.{List, [], _∷_}
 use mathlib.Core.Bool.{Bool, true, false}
-use Prim.Native.Nat.{ℕ, zero, suc, _+_, _-_, _*_, _≤_, _<_}
+use Prim.Native.Nat.{ℕ, zero, suc, _+_, _-_, _*_, _≤_, _<_, min}
 use native.Mathlib.Omega.{arith}
+use native.Mathlib.Decide.{decLt}
 use lib.Dec.{T}
 use lib.ListN.{length, getD, set, take, replicate, length-replicate}
 use Rattle.joining.specs.Joining.{Memory, memory-of, mark}
@@ -26,9 +27,10 @@ use Rattle.walk.specs.Walked.{Suits}
 use Rattle.plan.specs.Lists as lists
 use Rattle.finishing.specs.Postorder.{postorder}
 use Rattle.finishing.specs.Made.{finishes, worked, count-at, made}
+use Rattle.finishing.specs.laws.Members.{order-length}
 use Rattle.finishing.specs.laws.Passed.{Ready, closes}
 use Rattle.finishing.specs.laws.Whole.{ready, one-more, ended}
-use Rattle.finishing.specs.laws.Final.{worked-long, count-out, Reaches, reaches}
+use Rattle.finishing.specs.laws.Final.{worked-long, count-out}
 use Rattle.finishing.specs.Order.{Seeks, nth, met}
 use Rattle.finishing.specs.laws.Order.{seeks, nth-is, nth-in, met-is}
 use Rattle.finishing.specs.Guard.{Guards, advanced, Static, Finished, up-of, Took}
@@ -42,6 +44,12 @@ pub up-child : (ps : List ℕ) (c : ℕ) → 1 ≤ c → up-of ps c ≡ getD ps 
 unfolding up-of
 up-child ps zero l = absurd (omega arith)
 up-child ps (suc p) l = refl
+
+take-all : (n : ℕ) (l : List ℕ) → length l ≤ n → take n l ≡ l
+take-all zero [] h = refl
+take-all zero (x ∷ l) h = absurd (omega arith)
+take-all (suc n) [] h = refl
+take-all (suc n) (x ∷ l) h = ap (λ (r : List ℕ). x ∷ r) (take-all n l (omega arith))
 
 zero-or : (c : ℕ) → (c ≡ 0) ⊎ (1 ≤ c)
 zero-or zero = inl refl
@@ -64,6 +72,30 @@ taken-out t sound al k xs ms e =
     let r : xs ≡ made t al k .rows = ap (λ (m : Memory). m .rows) e in
     let q : ms ≡ worked t al k .marks = unfold made in ap (λ (m : Memory). m .marks) e in
     (λ i. memory-of ((ap (λ (z : List ℕ). set z count-at 0) r ∙ count-out t sound al k) i) (q i))
+
+-- ---- the order, from columns
+module _ (t : Columns) (fit : Fit (table-of t)) (ls : List ℕ) (links : Links (table-of t) ls) where
+  ups : (c : ℕ) → Is (table-of t) c → getD (t .parent) c 0 ≡ parent (table-of t) c
+  ups c i = sym (parent-is t c (omega (arith, length-is t)))
+
+  pub seeking : Seeks ls (t .parent) (t .count) × (0 < t .count)
+  seeking = (subst (Seeks ls (t .parent)) (length-is t) (seeks (table-of t) fit ls (t .parent) links ups), omega (arith, length-is t, fit .some-cell))
+
+  -- a number of steps past the last is as the last
+  pub met-here : (k x : ℕ) → met ls (t .parent) x (min k (t .count)) ≡ lists.mem x (take k (postorder (table-of t)))
+  met-here k x =
+      let n = length-is t in
+      met-is (table-of t) fit ls (t .parent) links ups x (min k (t .count)) (omega (arith, n))
+      ∙ ap (λ (l : List ℕ). lists.mem x l) (go (decLt k (t .count)))
+    where
+      size : length (postorder (table-of t)) ≡ t .count
+      size = order-length (table-of t) (fit .sound) (fit .some-cell) ∙ length-is t
+
+      go : Dec (k < t .count) → take (min k (t .count)) (postorder (table-of t)) ≡ take k (postorder (table-of t))
+      go (yes l) = let e : min k (t .count) ≡ k = omega arith in ap (λ (i : ℕ). take i (postorder (table-of t))) e
+      go (no ge) =
+          let e : min k (t .count) ≡ t .count = omega arith in
+          ap (λ (i : ℕ). take i (postorder (table-of t))) e ∙ take-all (t .count) (postorder (table-of t)) (omega (arith, size)) ∙ sym (take-all k (postorder (table-of t)) (omega (arith, size)))
 
 module _ (t : Columns) (fit : Fit (table-of t)) (long : Long t) (tops levels ls : List ℕ) (ct : Column tops (t .count) (row (table-of t))) (cl : Column levels (t .count) (level (table-of t)))
     (links : Links (table-of t) ls) (al : ℕ) where
@@ -94,16 +126,6 @@ module _ (t : Columns) (fit : Fit (table-of t)) (long : Long t) (tops levels ls 
         deep-of = λ c i. sym (depth-is t c (omega (arith, length-is t)));
         top-of = λ c i. ct .each c (omega (arith, count));
       }
-
-  pub seeking : Seeks ls ps (t .count) × (0 < t .count)
-  seeking = (subst (Seeks ls ps) count (seeks tab fit ls ps links up), omega (arith, count, fit .some-cell))
-
-  -- the reach that is read
-  pub met-here : (k x : ℕ) → k ≤ t .count → met ls ps x k ≡ lists.mem x (take k (postorder tab))
-  met-here k x l = met-is tab fit ls ps links up x k (omega (arith, count))
-
-  pub reached : (k x : ℕ) → k ≤ t .count → T (lists.mem x (take k (postorder tab))) → Reaches tab b suits (made tab al k .marks) x
-  reached k x l m = reaches tab b suits k x (omega (arith, count)) m
 
   module _ (k : ℕ) (k-less : k < t .count) (c f lv : ℕ) (ec : c ≡ nth ls ps k) (ef : f ≡ up-of ps c) (el : lv ≡ getD levels f 0) (xs ms : List ℕ) (lx : length xs ≡ scratch-size) (lm : length ms ≡ second-size) where
     k-in : k < length tab
