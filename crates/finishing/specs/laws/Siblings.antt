@@ -20,7 +20,7 @@ use Rattle.finishing.specs.laws.Postorder.{post, post-all}
 use Rattle.finishing.specs.laws.Members.{Found, post-read, mem-either, below-up}
 
 -- a is at or below one sibling, b at or below a later one
-pub record Earlier (t : Table) (a b : ℕ) : Type 0 where
+pub record Ahead (t : Table) (a b : ℕ) : Type 0 where
   pub of : ℕ
   pub i : ℕ
   pub j : ℕ
@@ -62,7 +62,7 @@ module _ (t : Table) (sound : Sound t) where
   under a b f k h v ne = elim (below-up t sound v) [ inl e ↦ absurd (ne e) | inr w ↦ subst (λ (z : ℕ). Below t z b) (child-read t f k a h .of) w ]
 
   -- x at or below c, y at or below a later sibling of c: then y is not earlier
-  not-earlier : (f o c o′ s x y : ℕ) → At (children t f) o c → At (children t f) o′ s → o < o′ → Below t x c → Below t y s → Earlier t y x → ⊥
+  not-earlier : (f o c o′ s x y : ℕ) → At (children t f) o c → At (children t f) o′ s → o < o′ → Below t x c → Below t y s → Ahead t y x → ⊥
   not-earlier f o c o′ s x y hc hs lt v w e = go (ℕ-discrete (e .q) c) (comparable c (e .q) x v (e .b-below))
     where
       go : Dec (e .q ≡ c) → Below t c (e .q) ⊎ Below t (e .q) c → ⊥
@@ -83,19 +83,19 @@ module _ (t : Table) (sound : Sound t) where
           omega (arith, share f o o′ c s y hc hs y-c w)
 
   -- x strictly below c: then c is not earlier
-  not-above : (c x : ℕ) → Below t x c → Earlier t c x → ⊥
+  not-above : (c x : ℕ) → Below t x c → Ahead t c x → ⊥
   not-above c x v e = omega (arith, share (e .of) (e .i) (e .j) (e .p) (e .q) x (e .first) (e .second) (below-below v (e .a-below)) (e .b-below), e .less)
 
 abbrev Sorted : Table → List ℕ → Type 0
 Sorted t [] = Unit {0}
-Sorted t (x ∷ l) = ((c : ℕ) → T (mem c l) → Earlier t c x → ⊥) × Sorted t l
+Sorted t (x ∷ l) = ((c : ℕ) → T (mem c l) → Ahead t c x → ⊥) × Sorted t l
 
-sorted-append : (t : Table) (xs ys : List ℕ) → Sorted t xs → Sorted t ys → ((x c : ℕ) → T (mem x xs) → T (mem c ys) → Earlier t c x → ⊥) → Sorted t (xs ++ ys)
+sorted-append : (t : Table) (xs ys : List ℕ) → Sorted t xs → Sorted t ys → ((x c : ℕ) → T (mem x xs) → T (mem c ys) → Ahead t c x → ⊥) → Sorted t (xs ++ ys)
 sorted-append t [] ys p q h = q
 sorted-append t (x ∷ xs) ys p q h =
     ((λ c m. elim (mem-either c xs ys m) [ inl k ↦ p .0 c k | inr k ↦ h x c (mem-here x x xs refl) k ]), sorted-append t xs ys (p .1) q (λ z c m. h z c (mem-there z x xs m)))
 
-sorted-at : (t : Table) (l : List ℕ) → Sorted t l → (i j : ℕ) → i < j → j < length l → Earlier t (getD l j 0) (getD l i 0) → ⊥
+sorted-at : (t : Table) (l : List ℕ) → Sorted t l → (i j : ℕ) → i < j → j < length l → Ahead t (getD l j 0) (getD l i 0) → ⊥
 sorted-at t [] o i j a b = absurd (omega arith)
 sorted-at t (x ∷ l) o i zero a b = absurd (omega arith)
 sorted-at t (x ∷ l) o zero (suc j) a b = o .0 (getD l j 0) (at-mem l j (getD l j 0) (at-getD l j 0 (omega arith)))
@@ -107,7 +107,7 @@ module _ (t : Table) (sound : Sound t) where
   post-sorted Grown.nil f o ta = tt
   post-sorted (Grown.cons {c = c} {cs = cs} {F = F} {r = r} g k) f o ta =
       let hc = tail-head t f o c cs ta in
-      let later : (x q : ℕ) → Below t x c → T (mem q (post r)) → Earlier t q x → ⊥ =
+      let later : (x q : ℕ) → Below t x c → T (mem q (post r)) → Ahead t q x → ⊥ =
       (λ x q v m.
       let d = post-read t k q m in
       not-earlier t sound f o c (o + suc (d .at)) (d .top) x q hc (ta .on (suc (d .at)) (d .top) (d .there)) (omega arith) v (d .below)) in
@@ -115,10 +115,10 @@ module _ (t : Table) (sound : Sound t) where
       (λ x q m n.
       let d = post-read t g x m in
       let v : Below t x c = Below.down (d .at) (d .top) (d .there) (d .below) in
-      elim (mem-cases q c (post r) n) [ inl e ↦ (λ w. not-above t sound c x v (subst (λ (z : ℕ). Earlier t z x) e w)) | inr j ↦ later x q v j ])
+      elim (mem-cases q c (post r) n) [ inl e ↦ (λ w. not-above t sound c x v (subst (λ (z : ℕ). Ahead t z x) e w)) | inr j ↦ later x q v j ])
 
   -- of two cells, the one below the earlier sibling is finished first
-  pub siblings-first : (i j : ℕ) → i < length (postorder t) → j < length (postorder t) → Earlier t (getD (postorder t) i 0) (getD (postorder t) j 0) → i < j
+  pub siblings-first : (i j : ℕ) → i < length (postorder t) → j < length (postorder t) → Ahead t (getD (postorder t) i 0) (getD (postorder t) j 0) → i < j
   siblings-first i j a b e =
       let s : Sorted t (postorder t) = rw (post-all t) (sorted-append t (post (forest t (length t) 0)) (0 ∷ []) (post-sorted (grown t sound 0) 0 0 (tail-all t 0)) ((λ c m. absurd (mem-none c m)), tt) (λ x c m n.
       elim (mem-cases c 0 [] n) [
