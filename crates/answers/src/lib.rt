@@ -1,11 +1,14 @@
 // The answers of the calls for C and Rust, as structs of numbers: number and cell of a refusal first, and 0 for all that a case does not have.
 use checker::Checked;
 use ends::Ended;
+use finishing::Reached;
+use finishing::Started;
+use finishing::Stepped;
 use fitting::Fitted;
 use layout::Laid;
 use printing::Listed;
 ghost use mathlib.Core.Path.{_≡_};
-ghost use Rattle.answers.specs.Answers.{«read-answer», «laid-answer», «check-answer», «ends-answer», «list-answer», «frame-answer»};
+ghost use Rattle.answers.specs.Answers.{«read-answer», «laid-answer», «check-answer», «ends-answer», «list-answer», «frame-answer», «start-answer», «step-answer», «reach-answer»};
 
 // Number and cell of the refusal, or 0 and 0; the number of cells and the allowance.
 #[repr(C)]
@@ -77,6 +80,31 @@ pub struct FrameAnswer {
     pub cell: u16,
     pub outcome: u8,
     pub allowance: u32,
+}
+
+// Number and cell of the refusal, or 0 and 0 for a sheet that is begun.
+#[repr(C)]
+pub struct StartAnswer {
+    pub number: u8,
+    pub cell: u16,
+}
+
+// Number and cell of the refusal, or 0 and 0; 1 and the cell that was finished, or 2 for "done".
+#[repr(C)]
+pub struct StepAnswer {
+    pub number: u8,
+    pub cell: u16,
+    pub outcome: u8,
+    pub finished: u16,
+}
+
+// Number and cell of the refusal, or 0 and 0; the left and the right reach.
+#[repr(C)]
+pub struct ReachAnswer {
+    pub number: u8,
+    pub cell: u16,
+    pub left: u32,
+    pub right: u32,
 }
 
 // The answer of Read as a struct.
@@ -218,6 +246,62 @@ pub fn told_frame(answer: Fitted) -> FrameAnswer
             cell,
             outcome: 0,
             allowance: 0,
+        },
+    }
+}
+
+// The answer of Start as a struct.
+pub fn told_start(answer: Started) -> StartAnswer
+    ensures { λ r. ⌜ r ≡ start-answer answer ⌝ }
+{
+    match answer {
+        Started::Begun => StartAnswer { number: 0, cell: 0 },
+        Started::Refused(number, cell) => StartAnswer { number, cell },
+    }
+}
+
+// The answer of Step as a struct.
+pub fn told_step(answer: Stepped) -> StepAnswer
+    ensures { λ r. ⌜ r ≡ step-answer answer ⌝ }
+{
+    match answer {
+        Stepped::Cell(finished) => StepAnswer {
+            number: 0,
+            cell: 0,
+            outcome: 1,
+            finished,
+        },
+        Stepped::Done => StepAnswer {
+            number: 0,
+            cell: 0,
+            outcome: 2,
+            finished: 0,
+        },
+        Stepped::Refused(number, cell) => StepAnswer {
+            number,
+            cell,
+            outcome: 0,
+            finished: 0,
+        },
+    }
+}
+
+// The answer of Reach as a struct.
+pub fn told_reach(answer: Reached) -> ReachAnswer
+    ensures { λ r. ⌜ r ≡ reach-answer answer ⌝ }
+{
+    match answer {
+        Reached::Sides(left, right) => ReachAnswer {
+            number: 0,
+            cell: 0,
+            left,
+            right,
+        },
+        Reached::Refused(number, cell) => ReachAnswer {
+            number,
+            cell,
+            left: 0,
+            right: 0,
         },
     }
 }

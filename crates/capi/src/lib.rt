@@ -6,20 +6,26 @@ use answers::LabelAnswer;
 use answers::LabelPart;
 use answers::LayoutAnswer;
 use answers::ListAnswer;
+use answers::ReachAnswer;
 use answers::ReadAnswer;
+use answers::StartAnswer;
+use answers::StepAnswer;
 use answers::told_check;
 use answers::told_ends;
 use answers::told_frame;
 use answers::told_layout;
 use answers::told_list;
+use answers::told_reach;
 use answers::told_read;
+use answers::told_start;
+use answers::told_step;
 use plan::Record;
 ghost use mathlib.Core.Path.{_≡_};
 ghost use Rattle.plan.specs.Records.{«cells-of»};
 ghost use Rattle.planfile.specs.Reading.{«label-refusal», «label-part»};
 ghost use Rattle.checker.specs.Checked.{«checked-of»};
 ghost use Rattle.ends.specs.Ended.{«ended-of»};
-ghost use Rattle.answers.specs.Answers.{«check-answer», «ends-answer», Filling, Laying, ListFilling, Framing};
+ghost use Rattle.answers.specs.Answers.{«check-answer», «ends-answer», Filling, Laying, ListFilling, Framing, Starting, Stepping, Reaching};
 
 #[no_mangle]
 pub extern "C" fn kuzpalen_read(file: &[u8], table: &mut [Record]) -> ReadAnswer
@@ -95,4 +101,45 @@ pub extern "C" fn kuzpalen_frame(table: &[Record], squares: u32, scratch: &mut [
 {
     let answer = engine::frame(table, squares, scratch);
     told_frame(answer)
+}
+
+#[no_mangle]
+pub extern "C" fn kuzpalen_start(
+    table: &[Record],
+    allowance: u32,
+    scratch: &mut [u32],
+    second: &mut [u32],
+) -> StartAnswer
+    ensures { λ r. ⌜ Starting (cells-of (now (table .entry))) allowance (now (scratch .entry)) (now (scratch .exit)) (now (second .entry)) (now (second .exit)) r ⌝ }
+{
+    let answer = engine::start(table, allowance, scratch, second);
+    told_start(answer)
+}
+
+#[no_mangle]
+pub extern "C" fn kuzpalen_step(
+    table: &[Record],
+    allowance: u32,
+    scratch: &mut [u32],
+    second: &mut [u32],
+    positions: &mut [i32],
+) -> StepAnswer
+    ensures { λ r. ⌜ Stepping (cells-of (now (table .entry))) allowance (now (scratch .entry)) (now (scratch .exit)) (now (second .entry)) (now (second .exit)) (now (positions .entry)) (now (positions .exit)) r ⌝ }
+{
+    let answer = engine::step(table, allowance, scratch, second, positions);
+    told_step(answer)
+}
+
+#[no_mangle]
+pub extern "C" fn kuzpalen_reach(
+    table: &[Record],
+    allowance: u32,
+    scratch: &[u32],
+    second: &[u32],
+    cell: usize,
+) -> ReachAnswer
+    ensures { λ r. ⌜ Reaching (cells-of (now (table .entry))) allowance (now (scratch .entry)) (now (second .entry)) cell r ⌝ }
+{
+    let answer = engine::reach(table, allowance, scratch, second, cell);
+    told_reach(answer)
 }

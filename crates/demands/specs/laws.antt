@@ -4,3 +4,4 @@ pub mod Layout
 pub mod List
 pub mod ReadThen
 pub mod WorkedCalls
+pub mod Making

@@ -8,6 +8,7 @@ mod frame;
 pub mod generate;
 mod layout;
 mod listing;
+pub mod making;
 mod plan;
 mod plan_file;
 pub mod rng;
