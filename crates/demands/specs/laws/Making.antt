@@ -2,17 +2,16 @@
 use mathlib.Core.Path.{_≡_, refl, ap, sym, _∙_}
 use mathlib.Core.List.{List}
 use mathlib.Core.Bool.{Bool, true, false}
-use Prim.Native.Nat.{ℕ, suc, _<_}
-use native.Mathlib.Omega.{arith}
-use lib.ListN.{length, getD, take}
-use lib.Dec.{T, ltb, ltb→lt}
+use Prim.Native.Nat.{ℕ, _<_}
+use lib.ListN.{length, take}
+use lib.Dec.{T, ltb}
 use borrow.Author.Tests.{eq-eqb, ne-eqb}
 use Rattle.whole.specs.Whole.{plus}
 use Rattle.plan.specs.Lists.{mem}
 use Rattle.plan.specs.Plan.{Table, Is, cells}
 use Rattle.plan.specs.Fit.{Fit}
-use Rattle.plan.specs.Questions.{none, asked, or-else, refusal, start, start-given}
-use Rattle.plan.specs.laws.Questions.{both-none, asked-yes, first-none}
+use Rattle.plan.specs.Questions.{asked, or-else}
+use Rattle.plan.specs.laws.Questions.{both-none, first-none}
 use Rattle.plan.specs.laws.Calls.{reach-refusal}
 use Rattle.plan.specs.declared.Refusal.{Refusal}
 use Rattle.rules.specs.Placement.{left-extent, right-extent}
@@ -20,7 +19,7 @@ use Rattle.contours.specs.Sheet.{sheet}
 use Rattle.joining.specs.Joining.{memory-of}
 use Rattle.finishing.specs.Postorder.{postorder}
 use Rattle.finishing.specs.Made.{cleared, lent-as}
-use Rattle.finishing.specs.Finishing.{start-no, step-no, reach-no, started-of, started-scratches, Starts, Holds, reached-of, Reaches}
+use Rattle.finishing.specs.Finishing.{start-no, reach-no, started-of, started-scratches, Starts, Holds, reached-of, Reaches}
 use Rattle.finishing.specs.Run.{Run}
 use Rattle.finishing.specs.laws.Stepping.{step-asks}
 use Rattle.finishing.specs.laws.Promised.{finished-by, answers-are}
