@@ -264,5 +264,5 @@ module _ (t : Table) (al : ℕ) (xs ms : List ℕ) (c : ℕ) (r : Reached) (g : 
   pub reach-final : T (mem c (take k (postorder t))) → r ≡ reached.Sides (plus (left-extent t (sheet t al) c)) (plus (right-extent t (sheet t al) c))
   reach-final = making.reach-final t al xs ms c r g z k h
 
-  pub reach-waits : ¬ T (mem c (take k (postorder t))) → r ≡ reached.Refused 20 c
+  pub reach-waits : ¬ (T (mem c (take k (postorder t)))) → r ≡ reached.Refused 20 c
   reach-waits = making.reach-waits t al xs ms c r g z k h

@@ -73,11 +73,11 @@ module _ (t : Table) (al : ℕ) (xs ms : List ℕ) (c : ℕ) (r : Reached) (g : 
       go true e m = read-as true e
       go false e m = absurd m
 
-  pub reach-waits : ¬ T (mem c (take k (postorder t))) → r ≡ reached.Refused 20 c
+  pub reach-waits : ¬ (T (mem c (take k (postorder t)))) → r ≡ reached.Refused 20 c
   unfolding reached-of asked
   reach-waits m = go (mem c (take k (postorder t))) refl m
     where
-      go : (b : Bool) → mem c (take k (postorder t)) ≡ b → ¬ T b → r ≡ reached.Refused 20 c
+      go : (b : Bool) → mem c (take k (postorder t)) ≡ b → ¬ (T b) → r ≡ reached.Refused 20 c
       go true e m = absurd (m tt)
       go false e m = read-as false e
 

@@ -1,5 +1,7 @@
 use Rattle.finishing.specs.laws.Taking.{up-root, up-child}
-use mathlib.Core.Path.{sym, _∙_}
+use lib.ListN.{length, getD, replicate}
+use Prim.Native.Nat.{ℕ, _+_, _-_, _*_, _≤_, _<_}
+use mathlib.Core.Path.{_≡_, refl, sym, ap, _∙_}
 use native.Mathlib.Omega.{arith}
 use borrow.Author.Needs.{needs}
 use Rattle.finishing.proofs.above.Statement.{statement}

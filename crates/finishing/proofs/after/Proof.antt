@@ -2,7 +2,8 @@ use Rattle.finishing.specs.Order.{leaf}
 use Rattle.finishing.specs.laws.Order.{after-root, after-some, enter-none, enter-some}
 use Rattle.links.specs.Links.{link}
 use lib.ListN.{getD}
-use mathlib.Core.Path.{sym, ap, _∙_}
+use Prim.Native.Nat.{ℕ, _+_, _-_, _*_, _≤_, _<_}
+use mathlib.Core.Path.{_≡_, refl, sym, ap, _∙_}
 use native.Mathlib.Omega.{arith}
 use borrow.Author.Needs.{needs}
 use Rattle.finishing.proofs.after.Statement.{statement}

@@ -1,4 +1,8 @@
 use Rattle.finishing.specs.laws.Stepping.{concluded-yes, concluded-no}
+use lib.ListN.{length, getD, replicate}
+use Prim.Native.Nat.{ℕ, _+_, _-_, _*_, _≤_, _<_}
+use mathlib.Core.Path.{_≡_, refl, sym, ap, _∙_}
+use native.Mathlib.Omega.{arith}
 use borrow.Author.Needs.{needs}
 use Rattle.finishing.proofs.conclude.Statement.{statement}
 use Rattle.finishing.proofs.conclude.Tie as tie

@@ -4,6 +4,7 @@ use Rattle.links.specs.Links.{link}
 use mathlib.Core.Path.{_≡_, refl, sym, ap, _∙_}
 use Prim.Native.Nat.{ℕ, _-_, _<_}
 use native.Mathlib.Omega.{arith}
+use borrow.Author.Needs.{needs}
 use Rattle.finishing.proofs.leaf.Statement.{statement}
 use Rattle.finishing.proofs.leaf.Tie as tie
 

@@ -3,7 +3,7 @@ use Rattle.finishing.specs.Order.{after, nth, met}
 use Rattle.finishing.specs.laws.Order.{nth-more, met-more}
 use lib.Dec.{eqb}
 use mathlib.Core.Bool.{_||_}
-use Prim.Native.Nat.{_-_, _≤_}
+use Prim.Native.Nat.{ℕ, _+_, _-_, _*_, _≤_, _<_}
 use mathlib.Core.Path.{_≡_, refl, sym, ap, _∙_}
 use native.Mathlib.Omega.{arith}
 use borrow.Author.Needs.{needs}

@@ -5,18 +5,19 @@ use mathlib.Core.List.{List, [], _∷_, _++_}
 use mathlib.Core.Bool.{Bool, true, false, cond}
 use Prim.Native.Nat.{ℕ, zero, suc, _+_, _-_, _*_, _≤_, _<_, max, min}
 use native.Mathlib.Omega.{arith}
-use lib.ListN.{length, getD, set, take, drop, length-replicate, length-set, length-append, length-take, length-drop, List·getD-append, take-append-drop}
+use lib.ListN.{length, getD, set, take, drop, replicate, length-replicate, length-set, length-append, length-take, length-drop, List·getD-append, take-append-drop}
 use lib.Seq.{getD-set-same, getD-take, set-set, set-getD, take-length}
 use lib.Dec.{T}
-use Rattle.contours.specs.Sheet.{sheet}
-use Rattle.joining.specs.Joining.{Memory, memory-of, mark, noted, height, joined-rows, completed, settled, settled-at, settled-apart}
+use Rattle.contours.specs.Contour.{greatest}
+use Rattle.contours.specs.Sheet.{whole-contour, sheet}
+use Rattle.joining.specs.Joining.{Memory, memory-of, mark, four, noted, height, joined-rows, completed, settled, settled-at, settled-apart, finished}
 use Rattle.joining.specs.laws.Joining.{length-four}
 use Rattle.joining.specs.laws.Marks.{mark-other, noted-else}
 use Rattle.least.specs.laws.Measures.{sheet-left, sheet-right}
 use Rattle.links.specs.laws.Linked.{zeros-get}
 use Rattle.plan.specs.Limits.{scratch-size, second-size}
 use Rattle.plan.specs.Lists.{index}
-use Rattle.plan.specs.Plan.{Table, Sound, W, D, parent, children, place, level, row}
+use Rattle.plan.specs.Plan.{Table, Is, Sound, W, D, parent, children, place, level, row}
 use Rattle.plan.specs.laws.Lists.{mem-here, mem-there}
 use Rattle.plan.specs.laws.Paths.{row-suc}
 use Rattle.rows.specs.Rows.{row-size, upto-rows, beyond-rows}
@@ -31,7 +32,7 @@ use Rattle.finishing.specs.Made.{finishes, work, cleared, worked, count-
 use Rattle.finishing.specs.laws.Members.{Stays, ordered-later, order-ordered, order-is, order-length, mem-left}
 use Rattle.finishing.specs.laws.Passed.{work-append}
 use Rattle.finishing.specs.laws.Whole.{ended}
-use lib.IntN.{pos}
+use lib.IntN.{ℤ, pos}
 
 -- ---- one cell: what it leaves
 module _ (t : Table) (al : ℕ) (m : Memory) (at f c d w p apt x i : ℕ) (l : i < 4) (nc : x ≢ c) (nf : x ≢ f) where

@@ -10,10 +10,10 @@ use lib.Dec.{T, leb}
 use borrow.Author.Tests.{leb-true, leb-false}
 use lib.ListN.{length, getD, set, take, drop, length-set}
 use lib.Seq.{drop-set-lt}
-use Rattle.plan.specs.Limits.{scratch-size, second-size, last-row, farthest}
+use Rattle.plan.specs.Limits.{scratch-size, second-size, most-cells, last-row, farthest}
 use Rattle.rows.specs.Rows.{row-size, Low, box-to, max-to}
 use Rattle.rows.specs.laws.Rows.{box-to-length}
-use Rattle.joining.specs.Joining.{Memory, memory-of, mark, four, height, joined-rows, completed, Settling}
+use Rattle.joining.specs.Joining.{Memory, memory-of, mark, four, height, joined-rows, completed, Completing, Settling}
 use Rattle.joining.specs.laws.Joining.{length-four}
 use Rattle.joining.specs.laws.Numbers.{box-low, max-le}
 use Rattle.joining.specs.laws.Marks.{mark-one, mark-other}
@@ -21,7 +21,7 @@ use Rattle.folding.specs.laws.Lists.{get-past}
 use Rattle.walk.specs.Machine.{Chart, wide, deep, top, stretch, closed, root-closed, Closing, Ending, Rooting}
 use Rattle.walk.specs.laws.Stretch.{stretch-length}
 use Rattle.finishing.specs.Made.{count-at}
-use Rattle.finishing.specs.Guard.{OwnRows, Guarded, Guards, Tells, Greatest, Static, Tried, Finished}
+use Rattle.finishing.specs.Guard.{OwnRows, TheirRows, Guarded, Guards, Tells, Greatest, Static, advanced, Tried, Finished}
 
 -- ---- answers
 pub bool-apart : true ≡ false → ⊥

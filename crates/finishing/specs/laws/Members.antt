@@ -1,19 +1,19 @@
 -- Every cell is finished once: children before their parent, a sibling's whole subtree before the next. Assumes nothing.
-use mathlib.Core.Path.{_≡_, refl, _∙_, ap, subst}
+use mathlib.Core.Path.{_≡_, refl, _∙_, ap, sym, subst}
 use mathlib.Core.Logic.{_≢_, _⊎_, inl, inr}
 use mathlib.Core.List.{List, [], _∷_, _++_}
 use mathlib.Core.Bool.{Bool, true, false, not, cond}
-use Prim.Native.Nat.{ℕ, zero, suc, _+_, _≤_, _<_}
+use Prim.Native.Nat.{ℕ, zero, suc, _+_, _*_, _≤_, _<_}
 use native.Mathlib.Omega.{arith}
 use native.Mathlib.Decide.{ℕ-discrete}
-use lib.ListN.{length, take, drop, length-append}
-use lib.Seq.{take-nil}
+use lib.ListN.{length, getD, take, drop, length-append}
+use lib.Seq.{drop-nil, take-nil}
 use lib.Dec.{T, eqb}
 use borrow.Author.Tests.{eq-eqb, ne-eqb}
 use Rattle.contours.specs.laws.Forest.{Forest, none, tree, Grown, forest, grown}
-use Rattle.plan.specs.Lists.{At, keep, mem}
-use Rattle.plan.specs.Plan.{Table, Is, Sound, parent, children}
-use Rattle.plan.specs.laws.Lists.{mem-here, mem-there, mem-cases, mem-none, keep-show}
+use Rattle.plan.specs.Lists.{At, keep, mem, total}
+use Rattle.plan.specs.Plan.{Table, Is, Sound, parent, children, subtree}
+use Rattle.plan.specs.laws.Lists.{mem-here, mem-there, mem-cases, mem-none, keep-show, at-getD, at-mem}
 use Rattle.plan.specs.laws.Paths.{Below, below-split, below-root, below-is, child-less}
 use Rattle.plan.specs.laws.Plan.{child-read}
 use Rattle.plan.specs.laws.Sums.{total-parts, total-subtree}

@@ -1,22 +1,22 @@
 -- From one finished cell to the next, along the links: it is the order of finishing. Assumes nothing.
 use mathlib.Core.Path.{_≡_, refl, _∙_, ap, sym, subst}
-use mathlib.Core.Logic.{_≢_}
+use mathlib.Core.Logic.{_≢_, _⊎_, inl, inr}
 use mathlib.Core.List.{List, [], _∷_, _++_}
 use mathlib.Core.Bool.{Bool, true, false, cond, _||_}
-use Prim.Native.Nat.{ℕ, zero, suc, _+_, _-_, _≤_, _<_}
+use Prim.Native.Nat.{ℕ, zero, suc, _+_, _-_, _*_, _≤_, _<_}
 use native.Mathlib.Omega.{arith}
 use native.Mathlib.Decide.{ℕ-discrete}
 use native.Mathlib.Numerals.{add-one}
 use lib.ListN.{length, getD, take}
 use lib.Seq.{take-suc}
-use lib.Dec.{eqb}
+use lib.Dec.{T, eqb}
 use borrow.Author.Tests.{eq-eqb, ne-eqb}
-use Rattle.contours.specs.laws.Forest.{Forest, Grown, forest, grown}
+use Rattle.contours.specs.laws.Forest.{Forest, none, tree, Grown, forest, grown}
 use Rattle.links.specs.Links.{Links, link}
 use Rattle.plan.specs.Fit.{Fit}
 use Rattle.plan.specs.Limits.{most-cells}
 use Rattle.plan.specs.Lists.{At, mem, some}
-use Rattle.plan.specs.Plan.{Table, Is, parent, children}
+use Rattle.plan.specs.Plan.{Table, Is, Sound, parent, children}
 use Rattle.plan.specs.laws.Lists.{at-getD, at-mem}
 use Rattle.plan.specs.laws.Paths.{child-less}
 use Rattle.plan.specs.laws.Plan.{child-read, child-show}

@@ -1,19 +1,21 @@
 -- The walk's machine passes the cells in this order, and each is ready when it is finished. Assumes nothing.
 use mathlib.Core.Path.{_≡_, refl, _∙_, ap, sym, subst}
 use mathlib.Core.List.{List, [], _∷_, _++_}
-use Prim.Native.Nat.{ℕ, zero, suc, _+_, _*_}
+use Prim.Native.Nat.{ℕ, zero, suc, _+_, _*_, _≤_, _<_}
 use native.Mathlib.Omega.{arith}
 use lib.ListN.{length, getD}
-use Rattle.contours.specs.laws.Forest.{Forest, Grown}
-use Rattle.joining.specs.Joining.{Memory}
-use Rattle.plan.specs.Lists.{At}
-use Rattle.plan.specs.Plan.{Table, Is, parent, children, level}
+use Rattle.contours.specs.laws.Forest.{Forest, none, tree, Grown, forest, grown}
+use Rattle.joining.specs.Joining.{Memory, memory-of}
+use Rattle.links.specs.Links.{link}
+use Rattle.plan.specs.Lists.{At, index}
+use Rattle.plan.specs.Plan.{Table, Is, W, D, parent, children, place, level, row, Child}
 use Rattle.plan.specs.laws.Paths.{child-less}
 use Rattle.plan.specs.laws.Plan.{child-read, child-index, child-place}
-use Rattle.walk.specs.Machine.{Chart, State, closed, step, Closing, Ending}
+use Rattle.rows.specs.Rows.{row-size}
+use Rattle.walk.specs.Machine.{Chart, State, wide, deep, top, apt, closed, root-closed, step, Turning, Closing, Ending}
 use Rattle.walk.specs.Walked.{Suits}
 use Rattle.walk.specs.laws.Claim.{at}
-use Rattle.walk.specs.laws.Machine.{step-open, step-close, Safe}
+use Rattle.walk.specs.laws.Machine.{step-open, step-close, step-end, Safe}
 use Rattle.walk.specs.laws.Tree.{Tail, tail-all, tail-head, tail-next, tail-first, sum, level-child}
 use Rattle.finishing.specs.Made.{finishes, work}
 use Rattle.finishing.specs.laws.Postorder.{post}

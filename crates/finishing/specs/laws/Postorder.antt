@@ -1,10 +1,13 @@
 -- The order of finishing, along the tree. Nothing that a reader must believe stands here. Assumes nothing.
-use mathlib.Core.Path.{_≡_, refl}
-use mathlib.Core.List.{List, [], _∷_, _++_, append-assoc}
-use Prim.Native.Nat.{ℕ, zero, suc}
-use lib.ListN.{length}
-use Rattle.contours.specs.laws.Forest.{Forest, none, tree, forest}
-use Rattle.plan.specs.Plan.{Table, children}
+use mathlib.Core.Path.{_≡_, refl, _∙_, ap, sym, subst}
+use mathlib.Core.List.{List, [], _∷_, _++_, append-nil, append-assoc}
+use Prim.Native.Nat.{ℕ, zero, suc, _+_, _≤_, _<_}
+use native.Mathlib.Omega.{arith}
+use lib.ListN.{length, getD}
+use Rattle.contours.specs.laws.Forest.{Forest, none, tree, Grown, forest, grown}
+use Rattle.plan.specs.Lists.{At}
+use Rattle.plan.specs.Plan.{Table, Is, Sound, children}
+use Rattle.plan.specs.laws.Paths.{child-less}
 use Rattle.contours.specs.laws.Forest as forests
 use Rattle.walk.specs.Preorder.{in-turn}
 use Rattle.finishing.specs.Postorder.{postorder-to, postorder}

@@ -2,17 +2,19 @@
 use mathlib.Core.Path.{_≡_, refl, _∙_, ap, sym, subst}
 use mathlib.Core.Logic.{_≢_, _⊎_, inl, inr}
 use mathlib.Core.List.{List, [], _∷_, _++_}
-use Prim.Native.Nat.{ℕ, zero, suc, _≤_, _<_}
+use mathlib.Core.Bool.{Bool, true, false}
+use Prim.Native.Nat.{ℕ, zero, suc, _+_, _*_, _≤_, _<_}
 use native.Mathlib.Omega.{arith}
 use native.Mathlib.Decide.{decLt, ℕ-discrete}
-use lib.ListN.{length, getD, drop}
+use lib.ListN.{length, getD, take, drop}
 use lib.Seq.{drop-append-seam}
+use lib.Dec.{T, ltb}
 use lib.IntN.{ℤ}
 use borrow.Author.Tests.{lt-ltb, le-ltb, eq-eqb, ne-eqb}
 use Rattle.plan.specs.Limits.{scratch-size, second-size}
-use Rattle.plan.specs.Lists.{At}
+use Rattle.plan.specs.Lists.{At, mem}
 use Rattle.plan.specs.laws.Lists.{at-getD, at-mem, mem-at}
-use Rattle.plan.specs.Plan.{Table, Is, children}
+use Rattle.plan.specs.Plan.{Table, Is, Sound, parent, children}
 use Rattle.plan.specs.laws.Plan.{child-read}
 use Rattle.plan.specs.laws.Paths.{child-less, within-below}
 use Rattle.plan.specs.Fit.{Fit}
@@ -23,12 +25,14 @@ use Rattle.positions.specs.Written.{written}
 use Rattle.joining.specs.Joining.{Memory, memory-of}
 use Rattle.finishing.specs.Postorder.{postorder}
 use Rattle.finishing.specs.Made.{cleared, made, lent-as}
-use Rattle.finishing.specs.Finishing.{start-no, started-of, started-scratches, Starts, Holds, stepped-at, made-after, positions-after, StepAt}
+use Rattle.finishing.specs.Finishing.{start-no, step-no, started-of, started-scratches, Starts, Holds, stepped-at, made-after, positions-after, StepAt, Steps}
 use Rattle.finishing.specs.Run.{Run, Earlier}
 use Rattle.finishing.specs.laws.Members.{Stays, Ordered, order-has, order-is, order-ordered, order-length}
 use Rattle.finishing.specs.laws.Siblings as siblings
 use Rattle.finishing.specs.laws.Stepping.{made-none, made-long, step-asks}
+use Rattle.finishing.specs.declared.Started.{Started}
 use Rattle.finishing.specs.declared.Started.the-variants as started
+use Rattle.finishing.specs.declared.Stepped.{Stepped}
 use Rattle.finishing.specs.declared.Stepped.the-variants.{Cell, Done}
 
 order-of : (i j : ℕ) → (i < j) ⊎ ((i ≡ j) ⊎ (j < i))
@@ -166,3 +170,6 @@ module _ (t : Table) (al : ℕ) (c : Run t al) where
   pub done-then : c .answers (length t) ≡ Done
   unfolding stepped-at
   done-then = let s = at-step (length t) (omega arith) .answers in rw (le-ltb (length t) (length t) (omega arith)) at s
+
+  pub done-alters-nothing : (c .scratch (suc (length t)) ≡ c .scratch (length t)) × (c .second (suc (length t)) ≡ c .second (length t)) × (c .positions (suc (length t)) ≡ c .positions (length t))
+  done-alters-nothing = let u = c .calls (length t) .idle done-then in (u .scratch, u .second, u .positions)

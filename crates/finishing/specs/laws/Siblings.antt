@@ -2,22 +2,22 @@
 use mathlib.Core.Path.{_≡_, refl, _∙_, ap, sym, subst}
 use mathlib.Core.Logic.{_≢_, _⊎_, inl, inr}
 use mathlib.Core.List.{List, [], _∷_, _++_}
-use Prim.Native.Nat.{ℕ, zero, suc, _+_, _<_}
+use Prim.Native.Nat.{ℕ, zero, suc, _+_, _≤_, _<_}
 use native.Mathlib.Omega.{arith}
 use native.Mathlib.Decide.{ℕ-discrete, decLt}
 use lib.ListN.{length, getD}
 use lib.Dec.{T}
-use Rattle.contours.specs.laws.Forest.{Forest, Grown, forest, grown}
+use Rattle.contours.specs.laws.Forest.{Forest, none, tree, Grown, forest, grown}
 use Rattle.plan.specs.Lists.{At, mem}
-use Rattle.plan.specs.Plan.{Table, Sound, parent, children}
+use Rattle.plan.specs.Plan.{Table, Is, Sound, parent, children}
 use Rattle.plan.specs.laws.Lists.{mem-here, mem-there, mem-cases, mem-none, at-getD, at-mem}
-use Rattle.plan.specs.laws.Paths.{Below, below-within, from-parents}
+use Rattle.plan.specs.laws.Paths.{Below, below-split, below-within, from-parents, child-less}
 use Rattle.plan.specs.laws.Plan.{child-read, child-place}
 use Rattle.plan.specs.laws.Sums.{disjoint}
-use Rattle.walk.specs.laws.Tree.{Tail, tail-all, tail-head, tail-next, below-below, below-most}
+use Rattle.walk.specs.laws.Tree.{Tail, tail-all, tail-head, tail-next, below-below, below-most, out-later}
 use Rattle.finishing.specs.Postorder.{postorder}
 use Rattle.finishing.specs.laws.Postorder.{post, post-all}
-use Rattle.finishing.specs.laws.Members.{post-read, mem-either, below-up}
+use Rattle.finishing.specs.laws.Members.{Found, post-read, mem-either, below-up}
 
 -- a is at or below one sibling, b at or below a later one
 pub record Ahead (t : Table) (a b : ℕ) : Type 0 where

@@ -1,28 +1,29 @@
 -- From the parts of a call to its answer: for the code. Nothing that a reader must believe stands here. Assumes nothing.
 use mathlib.Core.Path.{_≡_, refl, _∙_, ap, sym, subst}
 use mathlib.Core.Logic.{_≢_}
-use mathlib.Core.List.{List, _++_}
+use mathlib.Core.List.{List, [], _∷_, _++_}
 use mathlib.Core.Bool.{Bool, true, false, cond}
-use Prim.Native.Nat.{ℕ, suc, _+_, _*_, _≤_, _<_}
+use Prim.Native.Nat.{ℕ, zero, suc, _+_, _-_, _*_, _≤_, _<_}
 use native.Mathlib.Omega.{arith}
 use native.Mathlib.Numerals.{add-one}
 use lib.ListN.{length, getD, set, take, drop, replicate, length-set, take-append-drop, List·getD-append}
 use lib.Seq.{set-getD, take-append-seam, length-take-le}
 use lib.Dec.{T, eqb, ltb, leb, leb→le}
-use lib.IntN.{ℤ}
+use lib.IntN.{ℤ, pos}
 use borrow.Author.Tests.{lt-ltb, le-ltb, eq-eqb, ne-eqb, eqb-true}
 use Rattle.whole.specs.Whole.{plus}
-use Rattle.plan.specs.Limits.{scratch-size, second-size}
+use Rattle.plan.specs.Limits.{scratch-size, second-size, most-cells, most-allowance}
 use Rattle.plan.specs.Lists.{mem}
 use Rattle.plan.specs.laws.Lists.{from-show}
-use Rattle.plan.specs.Plan.{Table, Is, cells}
+use Rattle.plan.specs.Plan.{Table, Is, Sound, cells}
 use Rattle.plan.specs.Fit.{Fit}
 use Rattle.plan.specs.laws.Fit.{counted-fit}
-use Rattle.plan.specs.Questions.{none, asked, or-else}
+use Rattle.plan.specs.Questions.{none, asked, or-else, refusal, layout, layout-given}
 use Rattle.plan.specs.Steps.{counted-refusal}
 use Rattle.plan.specs.laws.Questions.{first-none, first-some, both-none, asked-yes}
 use Rattle.plan.specs.laws.Calls.{start-refusal, step-refusal, reach-refusal}
 use Rattle.plan.specs.declared.Refusal.{Refusal}
+use Rattle.rules.specs.Placement.{left-extent, right-extent}
 use Rattle.contours.specs.Sheet.{sheet}
 use Rattle.least.specs.Asked.{layout-asks}
 use Rattle.links.specs.laws.Linked.{zeros-get}
@@ -32,12 +33,13 @@ use Rattle.layout.specs.TableChart.{chart-of}
 use Rattle.layout.specs.laws.Walks.{chart-suits}
 use Rattle.layout.specs.laws.Laid.{nothing}
 use Rattle.finishing.specs.Postorder.{postorder}
-use Rattle.finishing.specs.Made.{work, worked, cleared, count-at, made}
-use Rattle.finishing.specs.Finishing.{start-no, step-no, reach-no, started-of, started-scratches, Starts, Holds, stepped-at, made-after, positions-after, Steps, reached-of, Reaches}
+use Rattle.finishing.specs.Made.{work, worked, cleared, count-at, made, lent-as}
+use Rattle.finishing.specs.Finishing.{start-no, step-no, reach-no, started-of, started-scratches, Starts, Holds, stepped-at, made-after, positions-after, StepAt, Unaltered, Steps, reached-of, Reaches}
 use Rattle.finishing.specs.Guard.{Took, Concluded, Advances, read}
 use Rattle.finishing.specs.laws.Final as final
 use Rattle.finishing.specs.laws.Final.{worked-long, count-read, reaches}
 use Rattle.finishing.specs.laws.Guard.{bool-apart}
+use Rattle.finishing.specs.declared.Started.{Started}
 use Rattle.finishing.specs.declared.Started.the-variants as started
 use Rattle.finishing.specs.declared.Stepped.{Stepped}
 use Rattle.finishing.specs.declared.Stepped.the-variants.{Cell, Done}
@@ -209,6 +211,10 @@ read-no t xs ms c eb unmet ek = rw (← ek, ← eb, unmet) refl
 cells-mem : (t : Table) (c : ℕ) → Is t c → T (mem c (cells t))
 unfolding cells
 cells-mem t c i = from-show 0 (length t) c (omega arith) (omega arith)
+
+asked-no : (k c : ℕ) → asked (suc k) false c .number ≢ 0
+unfolding asked
+asked-no k c e = omega (arith, e)
 
 module _ (t : Table) (al : ℕ) (xs ms : List ℕ) (c : ℕ) {r : Refusal} (e : r ≡ start-no t al (length xs) (length ms)) where
   -- whichever cells are finished

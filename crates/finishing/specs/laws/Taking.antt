@@ -3,18 +3,19 @@ use mathlib.Core.Path.{_≡_, refl, _∙_, ap, sym, subst}
 use mathlib.Core.Logic.{_≢_, _⊎_, inl, inr}
 use mathlib.Core.List.{List, [], _∷_}
 use mathlib.Core.Bool.{Bool, true, false}
-use Prim.Native.Nat.{ℕ, zero, suc, _≤_, _<_, min}
+use Prim.Native.Nat.{ℕ, zero, suc, _+_, _-_, _*_, _≤_, _<_, min}
 use native.Mathlib.Omega.{arith}
 use native.Mathlib.Decide.{decLt}
-use lib.ListN.{length, getD, set, take}
-use Rattle.joining.specs.Joining.{Memory, memory-of}
-use Rattle.links.specs.Links.{Links}
+use lib.Dec.{T}
+use lib.ListN.{length, getD, set, take, replicate, length-replicate}
+use Rattle.joining.specs.Joining.{Memory, memory-of, mark}
+use Rattle.links.specs.Links.{Links, link}
 use Rattle.marks.specs.laws.Marks.{Long}
 use Rattle.plan.specs.Columns.{table-of}
 use Rattle.plan.specs.Fit.{Fit}
-use Rattle.plan.specs.Limits.{scratch-size, second-size}
+use Rattle.plan.specs.Limits.{scratch-size, second-size, most-cells, farthest}
 use Rattle.plan.specs.Lists.{At}
-use Rattle.plan.specs.Plan.{Table, Is, Sound, parent, children, level, row}
+use Rattle.plan.specs.Plan.{Table, Is, Sound, W, D, parent, children, level, row}
 use Rattle.plan.specs.Trees.{Column}
 use Rattle.plan.specs.declared.Columns.{Columns}
 use Rattle.plan.specs.laws.Plan.{child-show}

@@ -1,6 +1,6 @@
 -- All steps together are the walk. Assumes nothing.
 use mathlib.Core.Path.{_≡_, refl, _∙_, ap, sym, subst}
-use mathlib.Core.List.{List, [], _∷_}
+use mathlib.Core.List.{List, [], _∷_, _++_}
 use Prim.Native.Nat.{ℕ, zero, suc, _+_, _*_, _≤_, _<_}
 use native.Mathlib.Omega.{arith}
 use lib.ListN.{length, getD, take, replicate, length-replicate}
@@ -11,7 +11,7 @@ use Rattle.links.specs.Links.{link}
 use Rattle.links.specs.laws.Linked.{zeros-get}
 use Rattle.plan.specs.Limits.{scratch-size, second-size}
 use Rattle.plan.specs.Plan.{Table, Is, W, D, level}
-use Rattle.walk.specs.Machine.{Chart, wide, deep, root-closed}
+use Rattle.walk.specs.Machine.{Chart, State, wide, deep, root-closed, step, Ending}
 use Rattle.walk.specs.Walked.{Suits}
 use Rattle.walk.specs.laws.Machine.{step-end, Safe}
 use Rattle.walk.specs.laws.Tree.{tail-all, sum}
