@@ -182,7 +182,8 @@ fn guarded_parent(marks: &[u32], f: usize, y: usize) -> bool
     greater(
         mark_of(marks, f, 1),
         greater(mark_of(marks, f, 2), mark_of(marks, f, 3)),
-    ) <= FARTHEST
+    )
+        <= FARTHEST
 }
 
 // Of the cell c and its parent f: the marks, and every number of the rows that c joins.
@@ -424,7 +425,13 @@ pub fn start(t: Columns, allowance: u32, scratch: &mut [u32], second: &mut [u32]
 }
 
 // The questions that Step puts: 1 (both scratches), 4, 1 (positions), 6 to 8, 11 to 14.
-fn step_refusal(t: Columns, allowance: u32, scratch: usize, second: usize, positions: usize) -> Refusal
+fn step_refusal(
+    t: Columns,
+    allowance: u32,
+    scratch: usize,
+    second: usize,
+    positions: usize,
+) -> Refusal
     ensures { λ r. ⌜ r ≡ step-no (table-of t) allowance scratch second positions ⌝ }
 {
     let room = asked(1, SECOND_SIZE <= second, 0);
