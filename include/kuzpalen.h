@@ -8,7 +8,7 @@
  * call answers on every input; none keeps a pointer, allocates or fails otherwise.
  *
  * Every answer but a label's part begins with a refusal: `number` is 0, or the number of the first
- * question answered "no" (1 to 19, 16, 21), and `cell` is then the lowest cell at fault, 0 where no cell is
+ * question answered "no" (1 to 21), and `cell` is then the lowest cell at fault, 0 where no cell is
  * concerned. All other fields of a refusal are 0, and every lent buffer is then as it was before the call.
  */
 #ifndef KUZPALEN_H
@@ -23,6 +23,7 @@ extern "C" {
 
 #define KUZPALEN_CELLS 256u           /* the most cells of a plan; the records that Read's and Join's tables need */
 #define KUZPALEN_SCRATCH 16384u       /* the numbers that the scratch of Layout and of Frame needs */
+#define KUZPALEN_SECOND 1024u         /* the numbers that the second scratch of Start, Step and Reach needs */
 #define KUZPALEN_LISTING_SIZE 17408u  /* the bytes that List's output needs, whatever the file */
 #define KUZPALEN_COPY_SIZE 16384u     /* the bytes that Copy's output needs, whatever the plan */
 #define KUZPALEN_MENDED_SIZE 16384u   /* the bytes that Mend's output needs, whatever the file, */
@@ -159,6 +160,28 @@ typedef struct {
     size_t records;        /* numbers written to the list */
 } kuzpalen_drill_answer;
 
+typedef struct {
+    uint8_t number;
+    uint16_t cell;
+} kuzpalen_start_answer;
+
+#define KUZPALEN_STEP_FINISHED 1u    /* Step's outcome: a cell was finished, */
+#define KUZPALEN_STEP_DONE 2u        /* or all are. 0 with a refusal */
+
+typedef struct {
+    uint8_t number;
+    uint16_t cell;
+    uint8_t outcome;       /* KUZPALEN_STEP_FINISHED or KUZPALEN_STEP_DONE */
+    uint16_t finished;     /* the cell that was finished with the first, else 0 */
+} kuzpalen_step_answer;
+
+typedef struct {
+    uint8_t number;
+    uint16_t cell;
+    uint32_t left;         /* the top cell's x less the least x of its subtree */
+    uint32_t right;        /* the greatest right edge of its subtree less the top cell's x */
+} kuzpalen_reach_answer;
+
 /* A plan file is of one of two forms, which its last two bytes tell, or question 3 refuses. Both have the
  * label bytes first, then the records, then a trailer of 8 bytes. Hexadecimal 53 54: records of 8 bytes,
  * parent (2), kind, width, depth, label length, label start (2), and so widths to 255. Hexadecimal 53 55:
@@ -289,6 +312,34 @@ kuzpalen_join_answer kuzpalen_join(const kuzpalen_record *first, size_t first_le
 kuzpalen_drill_answer kuzpalen_drill(const kuzpalen_record *table, size_t table_len,
                                      const uint8_t *answers, size_t answers_len,
                                      uint16_t *list, size_t list_len);
+
+/* A sheet that is made a cell a step, and may be read meanwhile: Start, then Step as often as there are
+ * cells, with Reach before, between and after the steps as one likes. `scratch_len` is at least
+ * KUZPALEN_SCRATCH and `second_len` at least KUZPALEN_SECOND, or question 1 refuses; later numbers stay.
+ * What is promised supposes the same table and allowance from Start to the last Step or Reach, and both
+ * scratches untouched between the calls. Without that the calls still put every question but 20, a
+ * refusal still alters nothing, and no call reads or writes outside what it was lent; the answer is free. */
+
+/* Start: the first KUZPALEN_SCRATCH and KUZPALEN_SECOND numbers of the scratches are cleared. */
+kuzpalen_start_answer kuzpalen_start(const kuzpalen_record *table, size_t table_len, uint32_t allowance,
+                                     uint32_t *scratch, size_t scratch_len,
+                                     uint32_t *second, size_t second_len);
+
+/* Step: finishes one cell and tells its number: children before their parent, each sibling's whole
+ * subtree before the next's. The last also writes x then y of each cell into the positions, as Layout
+ * does; `positions_len` is at least 2 * table_len in every step, or question 1 refuses. A further step
+ * says KUZPALEN_STEP_DONE and alters nothing. */
+kuzpalen_step_answer kuzpalen_step(const kuzpalen_record *table, size_t table_len, uint32_t allowance,
+                                   uint32_t *scratch, size_t scratch_len,
+                                   uint32_t *second, size_t second_len,
+                                   int32_t *positions, size_t positions_len);
+
+/* Reach: how far the subtree of a finished cell reaches to the left and to the right of the cell's x, in
+ * the complete sheet. Question 16 refuses a cell that is not in the table, and 20, with the cell, one
+ * that is not finished yet. Nothing is written. */
+kuzpalen_reach_answer kuzpalen_reach(const kuzpalen_record *table, size_t table_len, uint32_t allowance,
+                                     const uint32_t *scratch, size_t scratch_len,
+                                     const uint32_t *second, size_t second_len, size_t cell);
 
 #ifdef __cplusplus
 }

@@ -23,6 +23,9 @@ if command -v cc >/dev/null; then
     cc -Wall -Wextra -ffp-contract=off -o target/strokes strokes.c ../target/staticlib/libcapi.a
     ./target/strokes
 fi
+# a sheet that is made step by step ends as the listing has it: the corners of each cell
+./target/checked/watch ../plans/pond.plan | sed -n '/^done/,$p' | tail -n +2 > target/watched
+sed 1d ../plans/pond.txt | cut -d ' ' -f 1-3 | cmp - target/watched
 if [ -x "$sheet" ]; then
     ./target/checked/listing "$sheet" 1000 "$seed"
 fi

@@ -136,6 +136,28 @@ static int drill_good(void) {
         && kuzpalen_drill(table, 5, many, 1, list, KUZPALEN_DRILL_RECORDS - 1).number == 1;
 }
 
+/* Sheet B a cell a step, with a reading before and after the first. */
+static int steps_good(const kuzpalen_record *table, uint32_t *scratch) {
+    static uint32_t second[KUZPALEN_SECOND];
+    int32_t p[6] = {7, 7, 7, 7, 7, 7};
+    int good = kuzpalen_start(table, 3, 0, scratch, KUZPALEN_SCRATCH, second, KUZPALEN_SECOND - 1).number == 1
+        && kuzpalen_start(table, 3, 0, scratch, KUZPALEN_SCRATCH, second, KUZPALEN_SECOND).number == 0;
+    kuzpalen_reach_answer early = kuzpalen_reach(table, 3, 0, scratch, KUZPALEN_SCRATCH, second, KUZPALEN_SECOND, 1);
+    good = good && early.number == 20 && early.cell == 1;
+    static const uint16_t order[3] = {1, 2, 0};
+    for (int i = 0; i < 3; i++) {
+        good = good && p[0] == 7;
+        kuzpalen_step_answer s = kuzpalen_step(table, 3, 0, scratch, KUZPALEN_SCRATCH, second, KUZPALEN_SECOND, p, 6);
+        good = good && s.number == 0 && s.outcome == KUZPALEN_STEP_FINISHED && s.finished == order[i];
+        kuzpalen_reach_answer r = kuzpalen_reach(table, 3, 0, scratch, KUZPALEN_SCRATCH, second, KUZPALEN_SECOND, order[i]);
+        static const uint32_t left[3] = {0, 0, 4}, right[3] = {3, 5, 5};
+        good = good && r.number == 0 && r.left == left[i] && r.right == right[i];
+    }
+    kuzpalen_step_answer done = kuzpalen_step(table, 3, 0, scratch, KUZPALEN_SCRATCH, second, KUZPALEN_SECOND, p, 6);
+    return good && done.number == 0 && done.outcome == KUZPALEN_STEP_DONE && p[0] == 0 && p[2] == -4 && p[4] == 0
+        && kuzpalen_reach(table, 3, 0, scratch, KUZPALEN_SCRATCH, second, KUZPALEN_SECOND, 3).number == 16;
+}
+
 int main(void) {
     static uint32_t scratch[KUZPALEN_SCRATCH];
     kuzpalen_record table[3] = {
@@ -169,6 +191,7 @@ int main(void) {
     good = good && join.number == 11 && join.cell == 2 && join.count == 0
         && kuzpalen_join(table, 3, table, 3, 3, joined, KUZPALEN_CELLS).number == 16
         && kuzpalen_join(table, 3, table, 3, 0, joined, KUZPALEN_CELLS - 1).number == 1;
+    good = good && steps_good(table, scratch);
     table[1].rank = 1; /* cell 2 comes before cell 1, which the run hangs from */
     laid = kuzpalen_layout(table, 3, 0, scratch, KUZPALEN_SCRATCH, p, 6);
     good = good && laid.number == 0 && laid.width == 10 && p[2] == 0 && p[4] == -6;

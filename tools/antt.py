@@ -290,7 +290,7 @@ def rt_functions(text):
             continue
         start = i
         if not lines[i].endswith(' {') :
-            while lines[i] != m[1] + '{' and not lines[i].endswith(' {}'):
+            while lines[i] not in (m[1] + '{', m[1] + ') {') and not lines[i].endswith(' {}'):
                 i += 1
         yield owner * bool(m[1]) + m[3], bool(m[2]), '\n'.join(lines[start:i + (1 if start == i else 0)])
         i += 1

@@ -34,6 +34,13 @@ use Rattle.strips.specs.Stripped.{Strips}
 use Rattle.following.specs.Drilled.{Drills}
 use Rattle.following.specs.declared.Drilled.{Drilled}
 use Rattle.following.specs.declared.Drilled.the-variants.{Finished, Spent, Wrong, Full, Refused as Undrilled}
+use Rattle.finishing.specs.Finishing.{Starts, Steps, Reaches}
+use Rattle.finishing.specs.declared.Started.{Started}
+use Rattle.finishing.specs.declared.Started.the-variants.{Begun, Refused as Unbegun}
+use Rattle.finishing.specs.declared.Stepped.{Stepped}
+use Rattle.finishing.specs.declared.Stepped.the-variants.{Cell, Done, Refused as Unstepped}
+use Rattle.finishing.specs.declared.Reached.{Reached}
+use Rattle.finishing.specs.declared.Reached.the-variants.{Sides, Refused as Unreached}
 use Rattle.engine.specs.Read.{Reads}
 use Rattle.engine.specs.declared.ReadAnswer.{ReadAnswer as Read}
 use Rattle.engine.specs.declared.ReadAnswer.the-variants.{Plan, Refused as Unread}
@@ -52,6 +59,9 @@ use Rattle.grafting.specs.Joins.{Joins}
 use Rattle.grafting.specs.declared.JoinAnswer.{JoinAnswer as Join}
 use Rattle.grafting.specs.declared.JoinAnswer.the-variants.{Plan as Hung, Refused as Unjoined}
 use Rattle.answers.specs.declared.DrillAnswer.{DrillAnswer}
+use Rattle.answers.specs.declared.StartAnswer.{StartAnswer}
+use Rattle.answers.specs.declared.StepAnswer.{StepAnswer}
+use Rattle.answers.specs.declared.ReachAnswer.{ReachAnswer}
 
 unfoldable pub read-answer : Read → ReadAnswer
 read-answer (Plan n al) = record { number = 0; cell = 0; allowance = al; count = n }
@@ -170,3 +180,34 @@ pub record Drilling (t : Table) (bs xs xs′ : List ℕ) (r : DrillAnswer) : Typ
   pub drilled : Drilled
   pub drills : Drills t bs xs xs′ drilled
   pub answers : r ≡ drill-answer drilled
+
+-- document 02, E9
+unfoldable pub start-answer : Started → StartAnswer
+start-answer Begun = record { number = 0; cell = 0 }
+start-answer (Unbegun k c) = record { number = k; cell = c }
+
+-- outcome 1 with the cell that was finished, 2 for "done"
+unfoldable pub step-answer : Stepped → StepAnswer
+step-answer (Cell c) = record { number = 0; cell = 0; outcome = 1; finished = c }
+step-answer Done = record { number = 0; cell = 0; outcome = 2; finished = 0 }
+step-answer (Unstepped k c) = record { number = k; cell = c; outcome = 0; finished = 0 }
+
+unfoldable pub reach-answer : Reached → ReachAnswer
+reach-answer (Sides l r) = record { number = 0; cell = 0; left = l; right = r }
+reach-answer (Unreached k c) = record { number = k; cell = c; left = 0; right = 0 }
+
+-- calls of Start, Step and Reach, as `Starts`, `Steps` and `Reaches` have them, with the structs for their answers
+pub record Starting (t : Table) (al : ℕ) (xs xs′ ms ms′ : List ℕ) (r : StartAnswer) : Type 0 where
+  pub started : Started
+  pub starts : Starts t al xs xs′ ms ms′ started
+  pub answers : r ≡ start-answer started
+
+pub record Stepping (t : Table) (al : ℕ) (xs xs′ ms ms′ : List ℕ) (ps ps′ : List ℤ) (r : StepAnswer) : Type 0 where
+  pub stepped : Stepped
+  pub steps : Steps t al xs xs′ ms ms′ ps ps′ stepped
+  pub answers : r ≡ step-answer stepped
+
+pub record Reaching (t : Table) (al : ℕ) (xs ms : List ℕ) (c : ℕ) (r : ReachAnswer) : Type 0 where
+  pub reached : Reached
+  pub reaches : Reaches t al xs ms c reached
+  pub answers : r ≡ reach-answer reached

@@ -2,6 +2,9 @@
 use checker::Checked;
 use copying::Copied;
 use ends::Ended;
+use finishing::Reached;
+use finishing::Started;
+use finishing::Stepped;
 use fitting::Fitted;
 use following::Drilled;
 use layout::Laid;
@@ -11,7 +14,7 @@ use plan::Refusal;
 use printing::Listed;
 use strokes::Stroked;
 ghost use mathlib.Core.Path.{_≡_};
-ghost use Rattle.answers.specs.Answers.{«read-answer», «laid-answer», «check-answer», «ends-answer», «list-answer», «frame-answer», «copy-answer», «mend-answer», «pen-answer», «stroke-answer», «strip-answer», «join-answer», «drill-answer»};
+ghost use Rattle.answers.specs.Answers.{«read-answer», «laid-answer», «check-answer», «ends-answer», «list-answer», «frame-answer», «copy-answer», «mend-answer», «pen-answer», «stroke-answer», «strip-answer», «join-answer», «drill-answer», «start-answer», «step-answer», «reach-answer»};
 
 // Number and cell of the refusal, or 0 and 0; the number of cells and the allowance.
 #[repr(C)]
@@ -119,6 +122,31 @@ pub struct DrillAnswer {
     pub outcome: u8,
     pub used: usize,
     pub records: usize,
+}
+
+// Number and cell of the refusal, or 0 and 0 for a sheet that is begun.
+#[repr(C)]
+pub struct StartAnswer {
+    pub number: u8,
+    pub cell: u16,
+}
+
+// Number and cell of the refusal, or 0 and 0; 1 and the cell that was finished, or 2 for "done".
+#[repr(C)]
+pub struct StepAnswer {
+    pub number: u8,
+    pub cell: u16,
+    pub outcome: u8,
+    pub finished: u16,
+}
+
+// Number and cell of the refusal, or 0 and 0; the left and the right reach.
+#[repr(C)]
+pub struct ReachAnswer {
+    pub number: u8,
+    pub cell: u16,
+    pub left: u32,
+    pub right: u32,
 }
 
 // The answer of Read as a struct.
@@ -427,6 +455,62 @@ pub fn told_drill(answer: Drilled) -> DrillAnswer
             outcome: 0,
             used: 0,
             records: 0,
+        },
+    }
+}
+
+// The answer of Start as a struct.
+pub fn told_start(answer: Started) -> StartAnswer
+    ensures { λ r. ⌜ r ≡ start-answer answer ⌝ }
+{
+    match answer {
+        Started::Begun => StartAnswer { number: 0, cell: 0 },
+        Started::Refused(number, cell) => StartAnswer { number, cell },
+    }
+}
+
+// The answer of Step as a struct.
+pub fn told_step(answer: Stepped) -> StepAnswer
+    ensures { λ r. ⌜ r ≡ step-answer answer ⌝ }
+{
+    match answer {
+        Stepped::Cell(finished) => StepAnswer {
+            number: 0,
+            cell: 0,
+            outcome: 1,
+            finished,
+        },
+        Stepped::Done => StepAnswer {
+            number: 0,
+            cell: 0,
+            outcome: 2,
+            finished: 0,
+        },
+        Stepped::Refused(number, cell) => StepAnswer {
+            number,
+            cell,
+            outcome: 0,
+            finished: 0,
+        },
+    }
+}
+
+// The answer of Reach as a struct.
+pub fn told_reach(answer: Reached) -> ReachAnswer
+    ensures { λ r. ⌜ r ≡ reach-answer answer ⌝ }
+{
+    match answer {
+        Reached::Sides(left, right) => ReachAnswer {
+            number: 0,
+            cell: 0,
+            left,
+            right,
+        },
+        Reached::Refused(number, cell) => ReachAnswer {
+            number,
+            cell,
+            left: 0,
+            right: 0,
         },
     }
 }

@@ -10,7 +10,10 @@ use answers::LabelPart;
 use answers::LayoutAnswer;
 use answers::ListAnswer;
 use answers::MendAnswer;
+use answers::ReachAnswer;
 use answers::ReadAnswer;
+use answers::StartAnswer;
+use answers::StepAnswer;
 use answers::StripAnswer;
 use answers::StrokeAnswer;
 use answers::told_check;
@@ -22,7 +25,10 @@ use answers::told_join;
 use answers::told_layout;
 use answers::told_list;
 use answers::told_mend;
+use answers::told_reach;
 use answers::told_read;
+use answers::told_start;
+use answers::told_step;
 use answers::told_strip;
 use answers::told_stroke;
 use plan::Page;
@@ -33,7 +39,7 @@ ghost use Rattle.planfile.specs.Reading.{«label-refusal», «label-part»};
 ghost use Rattle.checker.specs.Checked.{«checked-of»};
 ghost use Rattle.ends.specs.Ended.{«ended-of»};
 ghost use Rattle.strokes.specs.Stroked.{«stroked-of»};
-ghost use Rattle.answers.specs.Answers.{«check-answer», «ends-answer», «stroke-answer», Filling, Laying, ListFilling, Framing, CopyFilling, MendFilling, Stripping, Joining, Drilling};
+ghost use Rattle.answers.specs.Answers.{«check-answer», «ends-answer», «stroke-answer», Filling, Laying, ListFilling, Framing, CopyFilling, MendFilling, Stripping, Joining, Drilling, Starting, Stepping, Reaching};
 
 #[no_mangle]
 pub extern "C" fn kuzpalen_read(file: &[u8], table: &mut [Record]) -> ReadAnswer
@@ -178,4 +184,45 @@ pub extern "C" fn kuzpalen_drill(table: &[Record], answers: &[u8], list: &mut [u
 {
     let answer = engine::drill(table, answers, list);
     told_drill(answer)
+}
+
+#[no_mangle]
+pub extern "C" fn kuzpalen_start(
+    table: &[Record],
+    allowance: u32,
+    scratch: &mut [u32],
+    second: &mut [u32],
+) -> StartAnswer
+    ensures { λ r. ⌜ Starting (cells-of (now (table .entry))) allowance (now (scratch .entry)) (now (scratch .exit)) (now (second .entry)) (now (second .exit)) r ⌝ }
+{
+    let answer = engine::start(table, allowance, scratch, second);
+    told_start(answer)
+}
+
+#[no_mangle]
+pub extern "C" fn kuzpalen_step(
+    table: &[Record],
+    allowance: u32,
+    scratch: &mut [u32],
+    second: &mut [u32],
+    positions: &mut [i32],
+) -> StepAnswer
+    ensures { λ r. ⌜ Stepping (cells-of (now (table .entry))) allowance (now (scratch .entry)) (now (scratch .exit)) (now (second .entry)) (now (second .exit)) (now (positions .entry)) (now (positions .exit)) r ⌝ }
+{
+    let answer = engine::step(table, allowance, scratch, second, positions);
+    told_step(answer)
+}
+
+#[no_mangle]
+pub extern "C" fn kuzpalen_reach(
+    table: &[Record],
+    allowance: u32,
+    scratch: &[u32],
+    second: &[u32],
+    cell: usize,
+) -> ReachAnswer
+    ensures { λ r. ⌜ Reaching (cells-of (now (table .entry))) allowance (now (scratch .entry)) (now (second .entry)) cell r ⌝ }
+{
+    let answer = engine::reach(table, allowance, scratch, second, cell);
+    told_reach(answer)
 }

@@ -1,7 +1,7 @@
 -- THE THREE DEMANDS AT THE CALLS: statements only; each proof is one name. A reader needs the definitions of crate plan (sequence, puts, holds), of crate
 -- rules (placement, S1 to S5, verdict), `sheet`, what each call answers (Reads, Lays, checked-of, ended-of, label-of and label-refusal, Lists, Frames, Copies, Mends, Strips, Joins) Frames, Drills with the moves of crate moves) and Outcomes. Every call's
 -- contract is one of those, so what is said of them is said of what the call answers and leaves in the lent buffers. Assumes nothing.
-use mathlib.Core.Path.{_≡_}
+use mathlib.Core.Path.{_≡_, refl}
 use mathlib.Core.List.{List, [], _∷_, _++_, map}
 use mathlib.Core.Logic.{_↔_}
 use Prim.Native.Nat.{ℕ, _+_, _*_, _-_, _/_, _%_, _^_, _≤_, _<_}
@@ -97,6 +97,24 @@ use Rattle.grafting.specs.Joins.{Joins}
 use Rattle.grafting.specs.laws.Joins as grafting
 use Rattle.grafting.specs.declared.JoinAnswer.{JoinAnswer}
 use Rattle.grafting.specs.declared.JoinAnswer.the-variants as joint
+use Rattle.whole.specs.Whole.{plus}
+use Rattle.plan.specs.Lists.{At, mem}
+use Rattle.plan.specs.Plan.{children, cells}
+use Rattle.plan.specs.Fit.{Fit}
+use Rattle.positions.specs.Written.{written}
+use Rattle.joining.specs.Joining.{memory-of}
+use Rattle.finishing.specs.Postorder.{postorder}
+use Rattle.finishing.specs.Made.{cleared, lent-as}
+use Rattle.finishing.specs.Finishing.{start-no, step-no, reach-no, Starts, Holds, Unaltered, Steps, Reaches}
+use Rattle.finishing.specs.Run.{Run, Earlier}
+use Rattle.finishing.specs.declared.Started.{Started}
+use Rattle.finishing.specs.declared.Started.the-variants as started
+use Rattle.finishing.specs.declared.Stepped.{Stepped}
+use Rattle.finishing.specs.declared.Stepped.the-variants as stepped
+use Rattle.finishing.specs.declared.Reached.{Reached}
+use Rattle.finishing.specs.declared.Reached.the-variants as reached
+use Rattle.finishing.specs.laws.Promised as finishing
+use Rattle.demands.specs.laws.Making as making
 
 -- ==== DEMAND 1: A CALL REFUSES BY THE FIRST "NO"
 -- The refusal is number k at cell c exactly where a question of that number, at that cell, is the first "no" of the sequence.
@@ -379,3 +397,68 @@ pub drill-beyond : (t : Table) (bs cs xs xs′ ys : List ℕ) (r q : Drilled) �
     → refusal drill (drill-given t (length bs) (length xs)) ≡ none → refusal drill (drill-given t (length cs) (length xs)) ≡ none
     → ¬ Tells spent r → take (drill-of t bs .used) cs ≡ take (drill-of t bs .used) bs → (q ≡ r) × (ys ≡ xs′)
 drill-beyond = following.beyond-used
+
+-- ==== A SHEET THAT IS BEING MADE (document 02, E9)
+-- A start that is refused leaves both scratches as they were; one that is not clears their first 16,384 and 1,024 numbers, and the making has begun.
+pub start-refuses : (t : Table) (al : ℕ) (xs xs′ ms ms′ : List ℕ) (r : Started) → Starts t al xs xs′ ms ms′ r → ¬ (start-no t al (length xs) (length ms) .number ≡ 0)
+    → (r ≡ started.Refused (start-no t al (length xs) (length ms) .number) (start-no t al (length xs) (length ms) .cell)) × (memory-of xs′ ms′ ≡ memory-of xs ms)
+start-refuses = making.start-unchanged
+
+pub start-clears : (t : Table) (al : ℕ) (xs xs′ ms ms′ : List ℕ) (r : Started) → Starts t al xs xs′ ms ms′ r → start-no t al (length xs) (length ms) .number ≡ 0
+    → (r ≡ started.Begun) × (memory-of xs′ ms′ ≡ lent-as cleared xs ms)
+start-clears = making.start-clears
+
+pub start-begins : (t : Table) (al : ℕ) (xs xs′ ms ms′ : List ℕ) → Starts t al xs xs′ ms ms′ started.Begun → Holds t al 0 xs′ ms′
+start-begins = finishing.start-begins
+
+-- A step that is refused alters nothing, whatever the scratches hold; nor does one that says "done".
+pub step-refuses : (t : Table) (al : ℕ) (xs xs′ ms ms′ : List ℕ) (ps ps′ : List ℤ) (r : Stepped) → Steps t al xs xs′ ms ms′ ps ps′ r → ¬ (step-no t al (length xs) (length ms) (length ps) .number ≡ 0)
+    → (r ≡ stepped.Refused (step-no t al (length xs) (length ms) (length ps) .number) (step-no t al (length xs) (length ms) (length ps) .cell)) × Unaltered xs xs′ ms ms′ ps ps′
+step-refuses t al xs xs′ ms ms′ ps ps′ r g = g .refuses
+
+pub done-idle : (t : Table) (al : ℕ) (xs xs′ ms ms′ : List ℕ) (ps ps′ : List ℤ) → Steps t al xs xs′ ms ms′ ps ps′ stepped.Done → Unaltered xs xs′ ms ms′ ps ps′
+done-idle t al xs xs′ ms ms′ ps ps′ g = g .idle refl
+
+-- Of calls of Step from a start on:
+module _ (t : Table) (al : ℕ) (c : Run t al) where
+  -- the scratches hold what the steps so far made,
+  pub steps-hold : (i : ℕ) → i ≤ length t → Holds t al i (c .scratch i) (c .second i)
+  steps-hold = finishing.after-steps t al c
+
+  -- step number i answers cell number i of the order of finishing,
+  pub steps-answer : (i : ℕ) → i < length t → c .answers i ≡ stepped.Cell (getD (postorder t) i 0)
+  steps-answer = finishing.answers-are t al c
+
+  -- so that n steps finish n cells,
+  pub steps-finish : (x : ℕ) → Is t x → (i : ℕ) × (i < length t) × (c .answers i ≡ stepped.Cell x)
+  steps-finish = making.stepped-once t al c
+
+  -- the positions wait for the last step, which writes those of the complete sheet, as Layout does,
+  pub positions-wait : (i : ℕ) → i < length t → c .positions i ≡ c .positions 0
+  positions-wait = finishing.positions-wait t al c
+
+  pub positions-last : c .positions (length t) ≡ written (c .positions 0) (sheet t al) (length t)
+  positions-last = finishing.positions-last t al c
+
+  -- and a further step says "done".
+  pub steps-done : c .answers (length t) ≡ stepped.Done
+  steps-done = finishing.done-then t al c
+
+-- The order of finishing, of a table that keeps the questions: each cell once, children before their parent, and each sibling's whole subtree before the next's.
+module _ (t : Table) (fit : Fit t) where
+  pub finished-once : (i j : ℕ) → i < length t → j < length t → getD (postorder t) i 0 ≡ getD (postorder t) j 0 → i ≡ j
+  finished-once = finishing.finished-once t fit
+
+  pub children-first : (i j p : ℕ) → i < length t → j < length t → At (children t (getD (postorder t) i 0)) p (getD (postorder t) j 0) → j < i
+  children-first = finishing.children-first t fit
+
+  pub siblings-first : (i j : ℕ) → i < length t → j < length t → Earlier t (getD (postorder t) i 0) (getD (postorder t) j 0) → i < j
+  siblings-first = finishing.siblings-first t fit
+
+-- A reading of the cell c, where no question but 20 refuses, after k steps: the reach of the complete sheet if the cell is among the first k of the order, and else 20 with the cell.
+module _ (t : Table) (al : ℕ) (xs ms : List ℕ) (c : ℕ) (r : Reached) (g : Reaches t al xs ms c r) (z : reach-no t al (length xs) (length ms) (cells t) c .number ≡ 0) (k : ℕ) (h : Holds t al k xs ms) where
+  pub reach-final : T (mem c (take k (postorder t))) → r ≡ reached.Sides (plus (left-extent t (sheet t al) c)) (plus (right-extent t (sheet t al) c))
+  reach-final = making.reach-final t al xs ms c r g z k h
+
+  pub reach-waits : ¬ (T (mem c (take k (postorder t)))) → r ≡ reached.Refused 20 c
+  reach-waits = making.reach-waits t al xs ms c r g z k h

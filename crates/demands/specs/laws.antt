@@ -5,3 +5,4 @@ pub mod List
 pub mod ReadThen
 pub mod WorkedCalls
 pub mod Copy
+pub mod Making

@@ -97,3 +97,7 @@ most-steps = 4096
 
 abbrev pub most-answers : ℕ
 most-answers = 4096
+
+-- numbers of 32 bits in the second scratch of a sheet that is being made (question 1; document 02, E9)
+abbrev pub second-size : ℕ
+second-size = 1024

@@ -7,7 +7,7 @@ use lib.ListN.{length, getD}
 use lib.Dec.{eqb, leb, ltb}
 use lib.IntN.{ℤ, pos}
 use Rattle.whole.specs.Range.{in-range}
-use Rattle.plan.specs.Limits.{between, most-cells, most-width, most-depth, most-level, last-row, most-allowance, farthest, scratch-size, listing-size, lines-size, least-file, most-file, trailer-size, first-letter, last-letter, most-label, no-parent, most-steps, most-answers}
+use Rattle.plan.specs.Limits.{between, most-cells, most-width, most-depth, most-level, last-row, most-allowance, farthest, scratch-size, second-size, listing-size, lines-size, least-file, most-file, trailer-size, first-letter, last-letter, most-label, no-parent, most-steps, most-answers}
 use Rattle.plan.specs.Forms.{marked, form-of, record-size, widest}
 use Rattle.plan.specs.Lists.{from, mem}
 use Rattle.plan.specs.Plan.{Table, parent, kind, W, D, children, level, row}
@@ -17,26 +17,28 @@ use Rattle.plan.specs.declared.Page.{Page}
 use Rattle.plan.specs.Pages.{fair}
 
 -- ---- what a call is given
--- a lent buffer of a length that question 1 asks for, with the length that it has: a table to fill, Layout's scratch, the output of a listing; of document 02 the output of a clean copy listing;
--- or of a mended file (E4, E11), and that of the lines that tell the mending
--- a drill's list
+-- a lent buffer of a length that question 1 asks for, with the length that it has: a table to fill, Layout's scratch, the output of a listing; of document 02 the output of a clean copy
+-- or of a mended file (E4, E11), that of the lines that tell the mending, a drill's list (E12), and the second scratch of a sheet that is being made (E9)
 pub data Buffer : Type 0 where
   to-fill scratch output : ℕ → Buffer
   copy-output : ℕ → Buffer
   lines-output : ℕ → Buffer
   step-list : ℕ → Buffer
+  second-scratch : ℕ → Buffer
 
 -- the length of the positions, where the call has them
 pub data Lent : Type 0 where
   absent : Lent
   long : ℕ → Lent
 
--- what a call is asked about besides: a cell that is named; a frame of so many squares; a page and the number of a stroke on it squares; so many answer bytes
+-- what a call is asked about besides: a cell that is named; a frame of so many squares; a page and the number of a stroke on it; so many answer bytes;
+-- the cells that are finished so far and, of them or not, the cell whose reach is asked for (E9)
 pub data Subject : Type 0 where
   nothing : Subject
   named squares : ℕ → Subject
   stroked : Page → ℕ → Subject
   answer-bytes : ℕ → Subject
+  reach-of : (finished : List ℕ) → ℕ → Subject
 
 -- the part of the label bytes that is a cell's label
 pub record Label : Type 0 where
@@ -82,6 +84,7 @@ pub data Question : Type 0 where
   children-allowed level-low rows-few frame-wide allowance-small coordinates-near cell-named : Question
   page-fair stroke-numbered : Question
   answers-few : Question
+  cell-finished : Question
 
 -- the documents' number, which a refusal returns
 unfoldable pub number : Question → ℕ
@@ -106,6 +109,7 @@ number cell-named = 16
 number page-fair = 17
 number stroke-numbered = 18
 number answers-few = 21
+number cell-finished = 20
 
 -- a question put once, or questions put to each cell in turn
 pub data Step : Type 0 where
@@ -129,6 +133,7 @@ sequence =
     ∷ once allowance-small
     ∷ each (coordinates-near ∷ [])
     ∷ once cell-named
+    ∷ each (cell-finished ∷ [])
     ∷ once page-fair
     ∷ once stroke-numbered
     ∷ []
@@ -142,6 +147,7 @@ pub data Call : Type 0 where
   strip : Call
   join : Call
   drill : Call
+  start step reach : Call
 
 -- the numbers of the questions that a call puts
 unfoldable pub puts : Call → List ℕ
@@ -161,6 +167,9 @@ puts strip = 1 ∷ 4 ∷ 6 ∷ 7 ∷ 8 ∷ 11 ∷ 12 ∷ 13 ∷ 15 ∷ []
 -- of three tables, in a sequence of their own (crate graft)
 puts join = 1 ∷ 4 ∷ 6 ∷ 7 ∷ 8 ∷ 11 ∷ 12 ∷ 13 ∷ 16 ∷ []
 puts drill = 1 ∷ 4 ∷ 6 ∷ 7 ∷ 8 ∷ 11 ∷ 12 ∷ 13 ∷ 21 ∷ []
+puts start = 1 ∷ 4 ∷ 6 ∷ 7 ∷ 8 ∷ 11 ∷ 12 ∷ 13 ∷ 14 ∷ []
+puts step = 1 ∷ 4 ∷ 6 ∷ 7 ∷ 8 ∷ 11 ∷ 12 ∷ 13 ∷ 14 ∷ []
+puts reach = 1 ∷ 4 ∷ 6 ∷ 7 ∷ 8 ∷ 11 ∷ 12 ∷ 13 ∷ 14 ∷ 16 ∷ 20 ∷ []
 
 -- whether the root may be named
 unfoldable pub root-too : Call → Bool
@@ -177,6 +186,9 @@ root-too stroke = true
 root-too strip = true
 root-too join = true
 root-too drill = true
+root-too start = true
+root-too step = true
+root-too reach = true
 
 -- ---- what each question asks
 unfoldable pub roomy : Buffer → Bool
@@ -186,6 +198,7 @@ roomy (output m) = leb listing-size m
 roomy (copy-output m) = leb most-file m
 roomy (lines-output m) = leb lines-size m
 roomy (step-list m) = leb most-steps m
+roomy (second-scratch m) = leb second-size m
 
 unfoldable pub all-roomy : List Buffer → Bool
 all-roomy [] = true
@@ -241,6 +254,7 @@ in-table root n (named c) = ltb c n && cond root true (ltb 0 c)
 in-table root n (squares f) = true
 in-table root n (stroked g s) = true
 in-table root n (answer-bytes a) = true
+in-table root n (reach-of finished c) = ltb c n && cond root true (ltb 0 c)
 
 -- question 19 (document 02, E2): is the frame not 0
 unfoldable pub framed : Subject → Bool
@@ -249,6 +263,7 @@ framed (named c) = true
 framed (squares f) = leb 1 f
 framed (stroked g s) = true
 framed (answer-bytes a) = true
+framed (reach-of finished c) = true
 
 -- question 17 (document 02, E1): is the pitch from 0.25 to 16 and each margin from 0 to 100
 unfoldable pub on-page : Subject → Bool
@@ -257,6 +272,7 @@ on-page (named c) = true
 on-page (squares f) = true
 on-page (stroked g s) = fair g
 on-page (answer-bytes a) = true
+on-page (reach-of finished c) = true
 
 -- "a sheet of n cells has 9n − 3 strokes" (document 02, E1)
 unfoldable pub strokes-of : (n : ℕ) → ℕ
@@ -269,6 +285,7 @@ numbered n (named c) = true
 numbered n (squares f) = true
 numbered n (stroked g s) = ltb s (strokes-of n)
 numbered n (answer-bytes a) = true
+numbered n (reach-of finished c) = true
 
 -- question 21 (document 02, E12): are there at most 4,096 answer bytes
 unfoldable pub answerable : Subject → Bool
@@ -277,6 +294,16 @@ answerable (named c) = true
 answerable (squares f) = true
 answerable (stroked g s) = true
 answerable (answer-bytes a) = leb a most-answers
+answerable (reach-of finished c) = true
+
+-- question 20 (document 02, E9), put to each cell: is it finished, if it is the one whose reach is asked for
+unfoldable pub finished-at : Subject → ℕ → Bool
+finished-at nothing c = true
+finished-at (named x) c = true
+finished-at (squares f) c = true
+finished-at (stroked g s) c = true
+finished-at (answer-bytes a) c = true
+finished-at (reach-of finished x) c = cond (eqb c x) (mem c finished) true
 
 module _ (call : Call) (g : Given) where
   -- the answer, at cell c where the question is put to each cell
@@ -305,6 +332,7 @@ module _ (call : Call) (g : Given) where
   holds page-fair c = on-page (g .subject)
   holds stroke-numbered c = numbered (length (g .table)) (g .subject)
   holds answers-few c = answerable (g .subject)
+  holds cell-finished c = finished-at (g .subject) c
 
 -- ---- the first "no"
 -- nothing refused: 0 and 0
@@ -394,3 +422,17 @@ strip-given t ps =
 unfoldable pub drill-given : Table → (answers list : ℕ) → Given
 drill-given t a l =
     record { source = lent; table = t; allowance = 0; buffers = step-list l ∷ []; positions = absent; coordinates = []; subject = answer-bytes a }
+
+-- what the three calls on a sheet that is being made are given (document 02, E9): a table, an allowance and two scratches; a step positions too; a reading the cell,
+-- and the cells that are finished when it is asked for
+unfoldable pub start-given : Table → (allowance scratch second : ℕ) → Given
+start-given t al s m =
+    record { source = lent; table = t; allowance = al; buffers = scratch s ∷ second-scratch m ∷ []; positions = absent; coordinates = []; subject = nothing }
+
+unfoldable pub step-given : Table → (allowance scratch second positions : ℕ) → Given
+step-given t al s m p =
+    record { source = lent; table = t; allowance = al; buffers = scratch s ∷ second-scratch m ∷ []; positions = long p; coordinates = []; subject = nothing }
+
+unfoldable pub reach-given : Table → (allowance scratch second : ℕ) → (finished : List ℕ) → (asked-for : ℕ) → Given
+reach-given t al s m finished c =
+    record { source = lent; table = t; allowance = al; buffers = scratch s ∷ second-scratch m ∷ []; positions = absent; coordinates = []; subject = reach-of finished c }

@@ -64,6 +64,9 @@ pub const MOST_STEPS: usize = 4096;
 
 pub const MOST_ANSWERS: usize = 4096;
 
+// Numbers of 32 bits in the second scratch of a sheet that is being made (1).
+pub const SECOND_SIZE: usize = 1024;
+
 // From low to high, both included.
 pub fn between(low: u16, high: u16, n: u16) -> bool
     ensures { λ r. ⌜ r ≡ between low high n ⌝ }

@@ -4,7 +4,7 @@ use mathlib.Core.List.{List, [], _∷_, _++_}
 use Prim.Native.Nat.{ℕ, zero, suc, _+_, _*_, _≤_, _<_}
 use lib.ListN.{length, getD, take, drop}
 use Rattle.plan.specs.Limits.{most-cells, last-row}
-use Rattle.rows.specs.Rows.{row-size, box-to}
+use Rattle.rows.specs.Rows.{row-size, Low, box-to}
 use Rattle.joining.specs.Joining.{Memory, memory-of, height, joined-rows, completed, Completing, Settling, finished}
 use Rattle.links.specs.Links.{link}
 
@@ -95,6 +95,7 @@ pub record Closing (b : Chart) (level f c : ℕ) (xs ms : List ℕ) : Type 0 whe
   pub theirs : 4 * f + 4 ≤ length ms
   pub small : height ms c (deep b c) ≤ last-row + 1
   pub fits : row-size * top b c + row-size * stretch-rows b f c ms ≤ length xs
+  pub low : Low (stretch xs (top b c) (stretch-rows b f c ms))
   pub finishing : Finishing (memory-of (stretch xs (top b c) (stretch-rows b f c ms)) ms) (2 * level) f c (deep b c) (wide b c)
 
 pub record Ending (b : Chart) (m : Memory) : Type 0 where

@@ -21,21 +21,21 @@ ghost use Rattle.walk.specs.Machine.{Finishing, Rooting, root-closed, ch
 ghost use Rattle.walk.specs.Turns.{stack-of, state-of};
 ghost use Rattle.walk.specs.Falls.{Falls, fallen, down, first-of, with-leaf, Linked};
 
-fn number(s: &[u8], i: usize) -> usize
+pub fn number(s: &[u8], i: usize) -> usize
     requires { ⌜ i < length (now s) ⌝ }
     ensures { λ r. ⌜ r ≡ getD (now (s .entry)) i 0 ⌝ }
 {
     wide8(s[i])
 }
 
-fn row_of(s: &[u16], i: usize) -> usize
+pub fn row_of(s: &[u16], i: usize) -> usize
     requires { ⌜ i < length (now s) ⌝ }
     ensures { λ r. ⌜ r ≡ getD (now (s .entry)) i 0 ⌝ }
 {
     wide16(s[i])
 }
 
-fn width_of(s: &[u16], i: usize) -> u32
+pub fn width_of(s: &[u16], i: usize) -> u32
     requires { ⌜ i < length (now s) ⌝ }
     ensures { λ r. ⌜ r ≡ getD (now (s .entry)) i 0 ⌝ }
 {
@@ -63,7 +63,7 @@ fn finish_child(
 }
 
 // The root is completed, and its rows are cleared.
-fn finish_root(rows: &mut [u32], marks: &mut [u32], d: usize, w: u32)
+pub fn finish_root(rows: &mut [u32], marks: &mut [u32], d: usize, w: u32)
     requires { ⌜ Rooting (memory-of (now rows) (now marks)) d ⌝ }
     ensures { λ _. ⌜ memory-of (now (rows .exit)) (now (marks .exit)) ≡ root-closed (memory-of (now (rows .entry)) (now (marks .entry))) d w ⌝ }
 {
@@ -72,7 +72,7 @@ fn finish_root(rows: &mut [u32], marks: &mut [u32], d: usize, w: u32)
 }
 
 // The finished cell c joins its parent f at the given level. Only the stretch of rows below the box of f is lent on, and written.
-fn close(
+pub fn close(
     links: &[u16],
     widths: &[u16],
     depths: &[u8],

@@ -78,6 +78,20 @@ pub struct Drill {
     pub records: usize,
 }
 
+/// What a step did: the cell that it finished, or nothing, since all are.
+#[derive(Clone, Copy, Debug, PartialEq, Eq)]
+pub enum Step {
+    Finished(u16),
+    Done,
+}
+
+/// The left and the right reach of a subtree.
+#[derive(Clone, Copy, Debug, PartialEq, Eq)]
+pub struct Reach {
+    pub left: u32,
+    pub right: u32,
+}
+
 mod raw {
     use super::{Page, Record};
 
@@ -191,6 +205,28 @@ mod raw {
         pub records: usize,
     }
 
+    #[repr(C)]
+    pub struct StartAnswer {
+        pub number: u8,
+        pub cell: u16,
+    }
+
+    #[repr(C)]
+    pub struct StepAnswer {
+        pub number: u8,
+        pub cell: u16,
+        pub outcome: u8,
+        pub finished: u16,
+    }
+
+    #[repr(C)]
+    pub struct ReachAnswer {
+        pub number: u8,
+        pub cell: u16,
+        pub left: u32,
+        pub right: u32,
+    }
+
     extern "C" {
         pub fn kuzpalen_read(file: *const u8, file_len: usize, table: *mut Record, table_len: usize) -> ReadAnswer;
         pub fn kuzpalen_label(file: *const u8, file_len: usize, cell: usize) -> LabelPart;
@@ -278,6 +314,36 @@ mod raw {
             list: *mut u16,
             list_len: usize,
         ) -> DrillAnswer;
+        pub fn kuzpalen_start(
+            table: *const Record,
+            table_len: usize,
+            allowance: u32,
+            scratch: *mut u32,
+            scratch_len: usize,
+            second: *mut u32,
+            second_len: usize,
+        ) -> StartAnswer;
+        pub fn kuzpalen_step(
+            table: *const Record,
+            table_len: usize,
+            allowance: u32,
+            scratch: *mut u32,
+            scratch_len: usize,
+            second: *mut u32,
+            second_len: usize,
+            positions: *mut i32,
+            positions_len: usize,
+        ) -> StepAnswer;
+        pub fn kuzpalen_reach(
+            table: *const Record,
+            table_len: usize,
+            allowance: u32,
+            scratch: *const u32,
+            scratch_len: usize,
+            second: *const u32,
+            second_len: usize,
+            cell: usize,
+        ) -> ReachAnswer;
     }
 }
 
@@ -450,4 +516,67 @@ pub fn drill(table: &[Record], answers: &[u8], list: &mut [u16]) -> Result<Drill
         _ => Outcome::Full,
     };
     unless(r.number, r.cell, Drill { outcome, used: r.used, records: r.records })
+}
+
+/// Start: a sheet that is made step by step is begun; 16,384 numbers of scratch and 1,024 of a second one are cleared.
+pub fn start(table: &[Record], allowance: u32, scratch: &mut [u32], second: &mut [u32]) -> Result<(), Refusal> {
+    // SAFETY: the pointers are good for their lengths, and the two that are written share nothing.
+    let r = unsafe {
+        raw::kuzpalen_start(
+            table.as_ptr(),
+            table.len(),
+            allowance,
+            scratch.as_mut_ptr(),
+            scratch.len(),
+            second.as_mut_ptr(),
+            second.len(),
+        )
+    };
+    unless(r.number, r.cell, ())
+}
+
+/// Step's outcome where a cell was finished (include/kuzpalen.h).
+const STEP_FINISHED: u8 = 1;
+
+/// Step: one more cell is finished, and with the last x then y of each cell are written into the positions.
+pub fn step(
+    table: &[Record],
+    allowance: u32,
+    scratch: &mut [u32],
+    second: &mut [u32],
+    positions: &mut [i32],
+) -> Result<Step, Refusal> {
+    // SAFETY: the pointers are good for their lengths, and the three that are written share nothing.
+    let r = unsafe {
+        raw::kuzpalen_step(
+            table.as_ptr(),
+            table.len(),
+            allowance,
+            scratch.as_mut_ptr(),
+            scratch.len(),
+            second.as_mut_ptr(),
+            second.len(),
+            positions.as_mut_ptr(),
+            positions.len(),
+        )
+    };
+    unless(r.number, r.cell, if r.outcome == STEP_FINISHED { Step::Finished(r.finished) } else { Step::Done })
+}
+
+/// Reach: of the subtree of a cell that is finished.
+pub fn reach(table: &[Record], allowance: u32, scratch: &[u32], second: &[u32], cell: usize) -> Result<Reach, Refusal> {
+    // SAFETY: the pointers are good for their lengths.
+    let r = unsafe {
+        raw::kuzpalen_reach(
+            table.as_ptr(),
+            table.len(),
+            allowance,
+            scratch.as_ptr(),
+            scratch.len(),
+            second.as_ptr(),
+            second.len(),
+            cell,
+        )
+    };
+    unless(r.number, r.cell, Reach { left: r.left, right: r.right })
 }

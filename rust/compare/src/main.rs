@@ -9,6 +9,7 @@
 use bindings::Record;
 use compare::guard::Guarded;
 use reference::generate as make;
+use reference::making::{self, SECOND};
 use reference::rng::Rng;
 use reference::{Cell, Form, Refusal, COPY, ANSWERS, FORMS, LINES, LISTING, MAX_CELLS, MAX_COORDINATE, MAX_WIDTH, MENDED, RECORDS, SCRATCH};
 use std::collections::BTreeMap;
@@ -53,6 +54,7 @@ struct Rooms {
     joined: Guarded,
     answers: Guarded,
     list: Guarded,
+    making: Guarded,
 }
 
 struct Run {
@@ -660,7 +662,162 @@ impl Run {
         self.copy(rng, &cells, &letters, allowance);
     }
 
-    /// A table, valid or damaged, through Layout, Check, Ends, Strip, Frame, Drill and the rest that take one.
+    /// One step, with the scratches as they are: its answer, and the three buffers afterwards.
+    fn step(&mut self, table: &[Record], allowance: u32, lent: &mut Lent) -> Result<bindings::Step, Refusal> {
+        let table = self.rooms.table.lend(table, lent.at_end);
+        let scratch = self.rooms.scratch.lend(&lent.scratch, lent.at_end);
+        let second = self.rooms.making.lend(&lent.second, lent.at_end);
+        let positions = self.rooms.positions.lend(&lent.positions, lent.at_end);
+        let got = bindings::step(table, allowance, scratch, second, positions).map_err(|r| Refusal { number: r.number as u32, cell: r.cell as u32 });
+        (lent.scratch, lent.second, lent.positions) = (scratch.to_vec(), second.to_vec(), positions.to_vec());
+        got
+    }
+
+    /// A reading, which alters nothing.
+    fn reach(&mut self, table: &[Record], allowance: u32, lent: &Lent, cell: usize) -> Result<(u32, u32), Refusal> {
+        let table = self.rooms.table.lend(table, lent.at_end);
+        let scratch = self.rooms.scratch.lend(&lent.scratch, lent.at_end);
+        let second = self.rooms.making.lend(&lent.second, lent.at_end);
+        let got = bindings::reach(table, allowance, scratch, second, cell)
+            .map(|r| (r.left, r.right))
+            .map_err(|r| Refusal { number: r.number as u32, cell: r.cell as u32 });
+        let (scratch, second) = (scratch.to_vec(), second.to_vec());
+        self.same("the scratches after Reach", &(&scratch, &second), &(&lent.scratch, &lent.second), &cell);
+        got
+    }
+
+    /// A whole run from a start: every step, readings between all of them, a further step.
+    fn making(&mut self, rng: &mut Rng, cells: &[Cell], allowance: u32) {
+        let table = records(cells);
+        let mut lent = Lent::new(rng, cells.len());
+        let before = lent.clone();
+        let (our_scratch, our_second) = (self.rooms.scratch.lend(&lent.scratch, lent.at_end), self.rooms.making.lend(&lent.second, lent.at_end));
+        let began = bindings::start(self.rooms.table.lend(&table, lent.at_end), allowance, our_scratch, our_second)
+            .map_err(|r| Refusal { number: r.number as u32, cell: r.cell as u32 });
+        (lent.scratch, lent.second) = (our_scratch.to_vec(), our_second.to_vec());
+        let asked = making::ask(cells, allowance, lent.scratch.len(), lent.second.len(), usize::MAX);
+        let expected = asked.as_ref().map(|_| ()).map_err(|r| *r);
+        self.same("Start's answer", &began, &expected, &(allowance, cells));
+        let mut cleared = before.clone();
+        if expected.is_ok() {
+            cleared.scratch[..SCRATCH].fill(0);
+            cleared.second[..SECOND].fill(0);
+        }
+        self.same("the scratches after Start", &(&lent.scratch, &lent.second), &(&cleared.scratch, &cleared.second), &cells);
+        self.count("Start", if expected.is_ok() { "begun".into() } else { named(&expected) });
+        let plan = match asked {
+            Ok(plan) => plan,
+            Err(r) => return self.refused_alike(&table, allowance, &mut lent, r, cells),
+        };
+        let (order, reaches) = (making::order(&plan), making::reaches(&plan, allowance));
+        let short = lent.positions.len() < 2 * cells.len();
+        for made in 0..=order.len() {
+            for cell in [rng.index(cells.len()), rng.index(cells.len() + 2), order[made.min(order.len() - 1)], rng.next() as usize] {
+                let got = self.reach(&table, allowance, &lent, cell);
+                let wanted = match making::ask_reach(cells, allowance, lent.scratch.len(), lent.second.len(), cell) {
+                    Err(r) => Err(r),
+                    Ok(_) if order[..made].contains(&cell) => Ok(reaches[cell]),
+                    Ok(_) => Err(Refusal { number: 20, cell: cell as u32 }),
+                };
+                self.same("Reach's answer", &got, &wanted, &(made, cell, allowance, cells));
+                self.count("Reach", if wanted.is_ok() { "sides".into() } else { named(&wanted.map(|_| ())) });
+            }
+            let kept = lent.clone();
+            if short || (made + 1 == order.len() && rng.once_in(3)) {
+                lent.positions.truncate(2 * cells.len() - 1);
+                let few = lent.clone();
+                let got = self.step(&table, allowance, &mut lent);
+                self.same("Step's answer with few positions", &got, &Err(Refusal { number: 1, cell: 0 }), &(made, cells));
+                self.same("the buffers after that", &lent, &few, &(made, cells));
+                self.count("Step", "refused  1".into());
+                if short {
+                    return;
+                }
+                self.note("Step", "short at the last");
+                lent.positions = kept.positions.clone();
+            }
+            let got = self.step(&table, allowance, &mut lent);
+            let wanted = if made < order.len() { bindings::Step::Finished(order[made] as u16) } else { bindings::Step::Done };
+            self.same("Step's answer", &got, &Ok(wanted), &(made, allowance, cells));
+            let mut positions = kept.positions.clone();
+            if made + 1 == order.len() {
+                let _ = reference::layout(cells, allowance, &mut positions, &mut vec![0; SCRATCH]);
+            }
+            self.same("the positions after Step", &lent.positions, &positions, &(made, allowance, cells));
+            self.same("the scratches beyond", &(&lent.scratch[SCRATCH..], &lent.second[SECOND..]), &(&before.scratch[SCRATCH..], &before.second[SECOND..]), &made);
+            if made == order.len() {
+                self.same("the buffers after \"done\"", &lent, &kept, &(made, cells));
+            }
+            self.count("Step", if made < order.len() { "finished".into() } else { "done".into() });
+        }
+    }
+
+    /// What refuses a start refuses a step and a reading, and alters nothing.
+    fn refused_alike(&mut self, table: &[Record], allowance: u32, lent: &mut Lent, start: Refusal, cells: &[Cell]) {
+        let kept = lent.clone();
+        let expected = making::ask(cells, allowance, lent.scratch.len(), lent.second.len(), lent.positions.len()).map(|_| ());
+        let got = self.step(table, allowance, lent).map(|_| ());
+        self.same("Step's refusal", &got, &expected, &(allowance, cells));
+        self.same("the buffers after a refused Step", lent, &kept, &cells);
+        self.count("Step", named(&expected));
+        let got = self.reach(table, allowance, lent, 0).map(|_| ());
+        self.same("Reach's refusal", &got, &Err(start), &(allowance, cells));
+        self.count("Reach", named(&Err(start)));
+    }
+
+    /// Scratches that no start made: the answers are free, but the questions are not, a refusal alters nothing, nor does "done".
+    fn tampered(&mut self, rng: &mut Rng, cells: &[Cell], allowance: u32) {
+        let table = records(cells);
+        let mut lent = Lent::new(rng, cells.len());
+        let most = rng.pick(&[2, 200, 65_536, 262_144, 1 << 32]);
+        for number in lent.scratch.iter_mut().chain(lent.second.iter_mut()) {
+            *number = (rng.next() % most) as u32;
+        }
+        if lent.scratch.len() > 63 {
+            lent.scratch[63] = rng.index(cells.len() + 2) as u32;
+        }
+        if rng.once_in(2) && lent.scratch.len() > 63 {
+            // A sheet that is being made, with one number altered.
+            let (mut s, mut m) = (vec![0; lent.scratch.len()], vec![0; lent.second.len()]);
+            if bindings::start(&table, allowance, &mut s, &mut m).is_ok() {
+                for _ in 0..rng.index(cells.len() + 1) {
+                    let _ = bindings::step(&table, allowance, &mut s, &mut m, &mut vec![0; 512]);
+                }
+                let (a, b) = (rng.index(s.len()), rng.index(m.len()));
+                s[a] = lent.scratch[a];
+                m[b] = lent.second[b];
+                (lent.scratch, lent.second) = (s, m);
+            }
+        }
+        for _ in 0..3 {
+            let kept = lent.clone();
+            let cell = rng.index(cells.len() + 2);
+            let expected = making::ask_reach(cells, allowance, lent.scratch.len(), lent.second.len(), cell).map(|_| ());
+            match (self.reach(&table, allowance, &lent, cell), expected) {
+                (Ok(_), Ok(())) => self.note("Noise", "noise sides"),
+                (Err(r), Ok(())) => {
+                    self.same("Reach's refusal on noise", &r, &Refusal { number: 20, cell: cell as u32 }, &cells);
+                    self.note("Noise", "noise refused 20");
+                }
+                (got, wanted) => self.same("Reach's refusal on noise", &got.map(|_| ()), &wanted, &cells),
+            }
+            let expected = making::ask(cells, allowance, lent.scratch.len(), lent.second.len(), lent.positions.len()).map(|_| ());
+            match (self.step(&table, allowance, &mut lent), expected) {
+                (Ok(bindings::Step::Finished(_)), Ok(())) => self.note("Noise", "noise finished"),
+                (Ok(bindings::Step::Done), Ok(())) => {
+                    self.same("the buffers after \"done\" on noise", &lent, &kept, &cells);
+                    self.note("Noise", "noise done");
+                }
+                (got, wanted) => {
+                    self.same("Step's refusal on noise", &got.map(|_| ()), &wanted, &cells);
+                    self.same("the buffers after a refusal on noise", &lent, &kept, &cells);
+                    self.note("Noise", "noise refused");
+                }
+            }
+        }
+    }
+
+    /// A table, valid or damaged, through Layout, Check, Ends, Strip, Frame, Drill, the steps of a sheet that is being made and the rest that take one.
     fn a_table(&mut self, rng: &mut Rng) {
         let widest = rng.once_in(1_000);
         let mut cells = match () {
@@ -721,6 +878,30 @@ impl Run {
             let (plan, answers) = near_full(rng);
             self.drill(rng, &plan, &answers);
         }
+        // A step costs the reference nothing, but the copies of both scratches cost time.
+        if rng.once_in(40) {
+            self.making(rng, &cells, allowance);
+            self.tampered(rng, &cells, allowance);
+        }
+    }
+}
+
+/// The three buffers of a sheet that is being made, and at which end of their pages they stand.
+#[derive(Clone, Debug, PartialEq)]
+struct Lent {
+    scratch: Vec<u32>,
+    second: Vec<u32>,
+    positions: Vec<i32>,
+    at_end: bool,
+}
+
+impl Lent {
+    fn new(rng: &mut Rng, cells: usize) -> Lent {
+        let scratch = if rng.once_in(60) { SCRATCH - 1 - rng.index(2) } else { SCRATCH + rng.index(2) * rng.index(40) };
+        let second = if rng.once_in(60) { SECOND - 1 - rng.index(2) } else { SECOND + rng.index(2) * rng.index(40) };
+        let room = if rng.once_in(40) { (2 * cells).saturating_sub(1 + rng.index(3)) } else { 2 * cells + rng.index(9) };
+        let (s, m, x) = (rng.next() as u32, rng.next() as u32, rng.next() as i32);
+        Lent { scratch: vec![s; scratch], second: vec![m; second], positions: vec![x; room], at_end: rng.once_in(2) }
     }
 }
 
@@ -1048,7 +1229,7 @@ fn some_table(rng: &mut Rng) -> Vec<Cell> {
 /// The answers that each call can give: all must have been seen in a long run.
 fn unseen(seen: &Seen) -> Vec<String> {
     let mut all: Vec<(&str, String)> = Vec::new();
-    let refusals: [(&str, &[u32]); 13] = [
+    let refusals: [(&str, &[u32]); 16] = [
         ("Read", &[1, 2, 3]),
         ("Label", &[2, 3]),
         ("Layout", &[1, 4, 6, 7, 8, 11, 12, 13, 14]),
@@ -1062,6 +1243,9 @@ fn unseen(seen: &Seen) -> Vec<String> {
         ("Strip", &[1, 4, 6, 7, 8, 11, 12, 13, 15]),
         ("Join", &[1, 16]),
         ("Drill", &[1, 4, 6, 7, 8, 11, 12, 13, 21]),
+        ("Start", &[1, 4, 6, 7, 8, 11, 12, 13, 14]),
+        ("Step", &[1, 4, 6, 7, 8, 11, 12, 13, 14]),
+        ("Reach", &[1, 4, 6, 7, 8, 11, 12, 13, 14, 16, 20]),
     ];
     for (call, numbers) in refusals {
         all.extend(numbers.iter().map(|n| (call, format!("refused {n:2}"))));
@@ -1093,6 +1277,8 @@ fn unseen(seen: &Seen) -> Vec<String> {
     }
     all.extend([4_095, 4_096].map(|n| ("Drill", format!("finished with {n}"))));
     all.extend(["moved", "turned", "tied"].map(|ranks| ("Drill", format!("ranks {ranks} drilled"))));
+    all.extend([("Start", "begun"), ("Step", "finished"), ("Step", "done"), ("Step", "short at the last"), ("Reach", "sides")].map(|(c, a)| (c, a.into())));
+    all.extend(["noise finished", "noise done", "noise sides", "noise refused 20", "noise refused"].map(|a| ("Noise", a.into())));
     all.extend([("Layout", "choice laid"), ("Check", "choice kept"), ("Check", "choice S2"), ("Layout", "near widest")].map(|(c, a)| (c, a.into())));
     all.extend(["labels shared", "bytes unused", "more letters than a file has", "an empty label last", "of a copy", "of the same content"].map(|a| ("Copy", a.into())));
     for place in ["a box", "a connector"] {
@@ -1138,6 +1324,7 @@ fn main() {
         joined: Guarded::new(400 * size_of::<Record>()),
         answers: Guarded::new(ANSWERS + 200),
         list: Guarded::new(2 * (RECORDS + 200)),
+        making: Guarded::new(4 * (SECOND + 200)),
     };
     let mut run = Run { seed, number: 0, seen: Seen::new(), calls: 0, rooms };
     for number in first..first + inputs {

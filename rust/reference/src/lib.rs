@@ -12,6 +12,7 @@ mod join;
 mod layout;
 mod listing;
 mod mend;
+pub mod making;
 mod plan;
 mod plan_file;
 pub mod rng;

@@ -21,7 +21,7 @@ low-rows xs h i =
     let e : row-size * (i / row-size) + i % row-size ≡ i = omega (arith, div-add-mod' i row-size) in
     rw e at (h (i / row-size) (i % row-size) (omega arith))
 
-set-low : (xs : List ℕ) (i v : ℕ) → Low xs → v ≤ farthest → Low (set xs i v)
+pub set-low : (xs : List ℕ) (i v : ℕ) → Low xs → v ≤ farthest → Low (set xs i v)
 set-low xs i v h l q = go (ℕ-discrete q i)
   where
     inside : Dec (i < length xs) → getD (set xs i v) i 0 ≤ farthest
@@ -38,7 +38,7 @@ box-low xs k w zero l h = h
 box-low xs k w (suc n) l h = set-low (set (box-to xs k w n) (row-size * n + k) 0) (row-size * n + k + 1) w (set-low (box-to xs k w n) (row-size * n + k) 0 (box-low xs k w n l h) (omega arith)) l
 
 -- ---- the greatest of a column
-max-le : (xs : List ℕ) (k b : ℕ) → ((j : ℕ) → extent xs j k ≤ b) → (n : ℕ) → max-to xs k n ≤ b
+pub max-le : (xs : List ℕ) (k b : ℕ) → ((j : ℕ) → extent xs j k ≤ b) → (n : ℕ) → max-to xs k n ≤ b
 unfolding max-to
 max-le xs k b h zero = omega arith
 max-le xs k b h (suc n) = omega (arith, h n, max-le xs k b h n)

@@ -11,7 +11,7 @@ use Rattle.plan.specs.declared.Refusal.{Refusal}
 use Rattle.plan.specs.Lists.{mem}
 use Rattle.plan.specs.Plan.{parent, kind}
 use Rattle.plan.specs.Kinds.{known}
-use Rattle.plan.specs.Questions.{Call, Given, Question, parent-lower, kind-known, box-sized, children-allowed, level-low, rows-few, coordinates-near, Step, once, each, number, sequence, puts, lent, widest-in, lower, holds, none, asked, or-else, at-each, ask, ask-all, take-step, take-steps, refusal}
+use Rattle.plan.specs.Questions.{Call, Given, Question, parent-lower, kind-known, box-sized, children-allowed, level-low, rows-few, coordinates-near, cell-finished, Step, once, each, number, sequence, puts, lent, widest-in, lower, finished-at, holds, none, asked, or-else, at-each, ask, ask-all, take-step, take-steps, refusal}
 use Rattle.plan.specs.laws.Questions.{first-none, first-some, each-same}
 use Rattle.plan.specs.Steps.{cell-refusal, cells-refusal, children-refusal, levels-refusal, rows-refusal, tree-refusal, table-refusal, near-refusal}
 
@@ -150,3 +150,10 @@ module _ (call : Call) (g : Given) where
   pub turn-near : (ss : List Step) → in-turn (each (coordinates-near ∷ []) ∷ ss) ≡ or-else (near-refusal (g .coordinates) (length (g .table))) (in-turn ss)
   unfolding in-turn all-of near-refusal ask holds number
   turn-near ss = ap (λ (r : Refusal). or-else r (in-turn ss)) (each-same (all-of (coordinates-near ∷ [])) _ (length (g .table)) (λ c i. asked-last 14 _ c))
+
+  -- 20, the last
+  pub turn-finished : in-turn (each (cell-finished ∷ []) ∷ []) ≡ at-each (λ c. asked 20 (finished-at (g .subject) c) c) 0 (length (g .table))
+  unfolding in-turn all-of ask holds number
+  turn-finished =
+      ap (λ (r : Refusal). or-else r none) (each-same (all-of (cell-finished ∷ [])) _ (length (g .table)) (λ c i. asked-last 19 _ c))
+      ∙ each-last _ 0 (length (g .table)) (λ c. asked-last 19 _ c)

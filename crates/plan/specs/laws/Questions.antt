@@ -100,3 +100,22 @@ each-none-from f k (suc d) e c p q = go (both-none (f k) (at-each f (suc k) d) e
 
 pub each-none : (f : ℕ → Refusal) (n : ℕ) → at-each f 0 n .number ≡ 0 → (c : ℕ) → c < n → f c .number ≡ 0
 each-none f n e c h = each-none-from f 0 n e c (omega arith) (omega arith)
+
+-- ---- a question that only the cell x can answer no
+module _ (f : ℕ → Refusal) (x : ℕ) (others : (c : ℕ) → ¬ (c ≡ x) → f c ≡ none) (last : or-else (f x) none ≡ f x) where
+  each-past : (k d : ℕ) → x < k → at-each f k d ≡ none
+  unfolding at-each
+  each-past k zero l = refl
+  each-past k (suc d) l = rw (others k (λ e. omega (arith, e)), each-past (suc k) d (omega arith)) (first-none none none refl)
+
+  each-from : (k d : ℕ) → k ≤ x → x < k + d → at-each f k d ≡ f x
+  unfolding at-each
+  each-from k zero p q = absurd (omega arith)
+  each-from k (suc d) p q = go (ℕ-discrete k x) (each-past (suc k) d) (each-from (suc k) d)
+    where
+      go : Dec (k ≡ x) → (x < suc k → at-each f (suc k) d ≡ none) → (suc k ≤ x → x < suc k + d → at-each f (suc k) d ≡ f x) → or-else (f k) (at-each f (suc k) d) ≡ f x
+      go (yes e) g h = ap (or-else (f k)) (g (omega arith)) ∙ ap (λ (c : ℕ). or-else (f c) none) e ∙ last
+      go (no ne) g h = ap (λ (r : Refusal). or-else r (at-each f (suc k) d)) (others k ne) ∙ first-none none _ refl ∙ h (omega arith) (omega arith)
+
+  pub each-one : (n : ℕ) → x < n → at-each f 0 n ≡ f x
+  each-one n l = each-from 0 n (omega arith) (omega arith)

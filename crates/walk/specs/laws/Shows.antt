@@ -255,6 +255,7 @@ module _ (b : Chart) (xs ms ys ns : List ℕ) (f v u m : ℕ) (a : Tally) (s i c
         theirs = omega (arith, hc .many);
         small = omega (arith, hc .tall, hc .room);
         fits = fits;
+        low = z-low;
         finishing = record {
           completing = completing zs ns (2 * v + 2) c (deep b c) (wide b c) k e n under;
           settling = settling (b .allowance) zs ns (2 * v) f c (deep b c) (wide b c) m k a e s n given;

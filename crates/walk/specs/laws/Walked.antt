@@ -155,11 +155,11 @@ module _ (t : Table) (b : Chart) (su : Suits t b) (xs ms : List ℕ) (lx : scrat
       )
 
   -- what holds at the end
-  record End (m : Memory) : Type 0 where
-    scratch : m .rows ≡ xs
-    low : Low (m .marks)
-    root : mark (m .marks) 0 3 ≡ 0
-    marked : (x : ℕ) → Is t x → Right t al (m .marks) x
+  pub record End (m : Memory) : Type 0 where
+    pub scratch : m .rows ≡ xs
+    pub low : Low (m .marks)
+    pub root : mark (m .marks) 0 3 ≡ 0
+    pub marked : (x : ℕ) → Is t x → Right t al (m .marks) x
 
   start : Shows xs ms 0 0 (deep b 0 + 1) appointed fresh 0
   start =
@@ -240,7 +240,7 @@ module _ (t : Table) (b : Chart) (su : Suits t b) (xs ms : List ℕ) (lx : scrat
     last = (ending, subst (Safe b End 0) (sym (step-end b 0 (memory-of ys ns))) (refl, end))
 
   -- the whole walk is safe, and ends well
-  safe : Safe b End (2 * sum (λ x. 1) F + 1) (at 0 [] (link (b .links) 0 0) xs ms)
+  pub safe : Safe b End (2 * sum (λ x. 1) F + 1) (at 0 [] (link (b .links) 0 0) xs ms)
   unfolding level row
   safe =
       rw (su .links .first 0 root-is)

@@ -19,6 +19,7 @@ const LISTING: usize = 17_408;
 const COPY: usize = 16_384;
 const MENDED: usize = 16_384;
 const LINES: usize = 6_144;
+const SECOND: usize = 1_024;
 
 fn fault(what: &str, seed: u64, number: u64) -> ! {
     println!("FAULT: seed {seed} input {number}: {what}");
@@ -310,11 +311,47 @@ fn drill_calls(rng: &mut Rng) -> Result<(), &'static str> {
     }
 }
 
+/// Step and Reach over scratches of noise, or of a sheet that is being made with some numbers altered.
+fn step_calls(rng: &mut Rng) -> Result<(), &'static str> {
+    let table = lent(&some_table(rng));
+    let allowance = if rng.once_in(10) { rng.next() as u32 } else { make::allowance(rng) };
+    let length = if rng.once_in(10) { rng.index(SCRATCH) } else { SCRATCH + rng.index(3) };
+    let (mut scratch, mut second) = (lent(&vec![0u32; length]), lent(&vec![0u32; SECOND + rng.index(3)]));
+    let mut positions = lent(&vec![0i32; 2 * table.len() + rng.index(3)]);
+    if bindings::start(&table, allowance, &mut scratch, &mut second).is_ok() {
+        for _ in 0..rng.index(table.len() + 1) {
+            let _ = bindings::step(&table, allowance, &mut scratch, &mut second, &mut positions);
+        }
+    }
+    let most = rng.pick(&[2u64, 200, 65_536, 262_144, 1 << 32]);
+    let altered = rng.pick(&[1, 30, SCRATCH]);
+    for _ in 0..altered {
+        let (a, b) = (rng.index(scratch.len().max(1)), rng.index(second.len()));
+        if let Some(number) = scratch.get_mut(a) {
+            *number = (rng.next() % most) as u32;
+        }
+        second[b] = (rng.next() % most) as u32;
+    }
+    if let Some(count) = scratch.get_mut(63) {
+        *count = rng.index(table.len() + 2) as u32;
+    }
+    for _ in 0..4 {
+        let _ = bindings::reach(&table, allowance, &scratch, &second, rng.index(table.len() + 2));
+        let before = (scratch.clone(), second.clone(), positions.clone());
+        let stepped = bindings::step(&table, allowance, &mut scratch, &mut second, &mut positions);
+        let idle = !matches!(stepped, Ok(bindings::Step::Finished(_)));
+        if idle && (&scratch, &second, &positions) != (&before.0, &before.1, &before.2) {
+            return Err("Step says done or refuses, and altered a buffer");
+        }
+    }
+    Ok(())
+}
+
 fn library(end: Instant, seed: u64) -> u64 {
     let mut number = 0;
     while Instant::now() < end {
         let mut rng = Rng::new(seed, number);
-        let done = match number % 10 {
+        let done = match number % 12 {
             0 | 1 => table_calls(&mut rng),
             2 => file_calls(&mut rng),
             3 => list_call(&mut rng),
@@ -322,7 +359,8 @@ fn library(end: Instant, seed: u64) -> u64 {
             5 => mend_calls(&mut rng),
             6 => strip_calls(&mut rng),
             7 => join_call(&mut rng),
-            8 => frame_calls(&mut rng),
+            8 => step_calls(&mut rng),
+            9 => frame_calls(&mut rng),
             _ => drill_calls(&mut rng),
         };
         done.unwrap_or_else(|what| fault(what, seed, number));

@@ -1,0 +1,7 @@
+pub mod Postorder
+pub mod Made
+pub mod Finishing
+pub mod Order
+pub mod Guard
+pub mod Run
+pub mod laws
