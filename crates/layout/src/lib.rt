@@ -99,7 +99,7 @@ pub fn draw_over_zeros(
 }
 
 // The same over a scratch of 16,384 numbers, whatever they are.
-fn draw(t: Columns, allowance: u32, scratch: &mut [u32], positions: &mut [i32]) -> Measures
+pub fn draw(t: Columns, allowance: u32, scratch: &mut [u32], positions: &mut [i32]) -> Measures
     requires { ⌜ Drawable (table-of t) (length (now scratch)) (length (now positions)) ⌝ }
     ensures { λ r. ⌜ Drawn (table-of t) allowance (now (scratch .exit)) (now (positions .entry)) (now (positions .exit)) r ⌝ }
 {

@@ -112,6 +112,7 @@ sequence =
 -- ---- the calls
 pub data Call : Type 0 where
   read label layout check ends list frame : Call
+  report : Call
 
 -- the numbers of the questions that a call puts
 unfoldable pub puts : Call → List ℕ
@@ -123,6 +124,7 @@ puts ends = 1 ∷ 4 ∷ 6 ∷ 7 ∷ 8 ∷ 11 ∷ 12 ∷ 13 ∷ 15 ∷ 16 ∷ []
 -- what is wrong with the file it prints, as document 01 says
 puts list = 1 ∷ []
 puts frame = 1 ∷ 4 ∷ 6 ∷ 7 ∷ 8 ∷ 11 ∷ 12 ∷ 13 ∷ 19 ∷ []
+puts report = from 1 14
 
 -- whether the root may be named
 unfoldable pub root-too : Call → Bool
@@ -133,6 +135,7 @@ root-too layout = true
 root-too check = true
 root-too list = true
 root-too frame = true
+root-too report = true
 
 -- ---- what each question asks
 unfoldable pub roomy : Buffer → Bool
