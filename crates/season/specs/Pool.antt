@@ -8,7 +8,7 @@ use Rattle.plan.specs.declared.Refusal.{Refusal}
 use Rattle.season.specs.declared.Report.{Report}
 use Rattle.season.specs.declared.Reported.{Reported}
 use Rattle.season.specs.declared.Reported.the-variants.{Figures, Refused}
-use Rattle.season.specs.Report.{most-plans, cells-each, width-each, area-each, quotient, remainder, nothing}
+use Rattle.season.specs.Report.{most-plans, cells-each, width-each, area-each, Figure, quotient, remainder, report, nothing}
 
 -- ---- the figures of both
 -- the lesser of two least widths, of which that of no plan does not count: p and q are the plans
@@ -86,3 +86,9 @@ gathered total (r ∷ rs) = gathered (adds total r) rs
 
 abbrev pub folder : List Reported → Reported
 folder = gathered (Figures nothing)
+
+-- what is answered for some files, and the plans among them
+pub data Files : List Reported → List Figure → Type 0 where
+  no-file : Files [] []
+  plan : {x : Figure} {rs : List Reported} {xs : List Figure} → Files rs xs → Files (Figures (report (x ∷ [])) ∷ rs) (x ∷ xs)
+  refused : {k c : ℕ} {rs : List Reported} {xs : List Figure} → Files rs xs → Files (Refused k c ∷ rs) xs

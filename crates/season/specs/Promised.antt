@@ -6,11 +6,14 @@ use Prim.Native.Nat.{_+_, _≤_, _<_}
 use lib.Dec.{T}
 use lib.ListN.{length}
 use Rattle.season.specs.declared.Report.{Report}
+use Rattle.season.specs.declared.Reported.{Reported}
 use Rattle.season.specs.declared.Reported.the-variants.{Figures, Refused}
 use Rattle.season.specs.Report.{most-plans, Figure, report, nothing, Plans}
-use Rattle.season.specs.Pool.{sound, pool}
+use Rattle.season.specs.Pool.{sound, pool, folder, Files}
+use Rattle.season.specs.Worked.{Rows}
 use Rattle.season.specs.laws.Report as reports
 use Rattle.season.specs.laws.Promised as laws
+use Rattle.season.specs.laws.Worked as worked-laws
 
 -- "The report of no plan has zeros throughout."
 pub report-none : report [] ≡ nothing
@@ -39,3 +42,15 @@ pool-many = laws.pool-many
 -- "22, tested before that 4": of either report, however many plans there are together.
 pub pool-wrong : (a b : Report) → sound a && sound b ≡ false → pool a b ≡ Refused 22 0
 pool-wrong = laws.pool-wrong
+
+-- A folder's answers, added one after another, are the report of the plans in it; a refused file adds nothing;
+pub folder-report : (rs : List Reported) (xs : List Figure) → Files rs xs → Plans xs → length xs ≤ most-plans → folder rs ≡ Figures (report xs)
+folder-report = laws.folder-report
+
+-- of more than 1,024 plans the answer is 4.
+pub folder-many : (rs : List Reported) (xs : List Figure) → Files rs xs → Plans xs → most-plans < length xs → folder rs ≡ Refused 4 0
+folder-many = laws.folder-many
+
+-- Sheets ◆A, ◆B and ◆C, and each question at its limit and one past it.
+pub worked : Rows
+worked = worked-laws.worked

@@ -28,7 +28,7 @@ pub record Rows : Type 0 where
   pub widths-past : pool (made-up 1024 262144 268434433 68719214592 9) nothing ≡ Refused 22 0
   pub areas-past : pool (made-up 1024 262144 268434432 68719214593 9) nothing ≡ Refused 22 0
   pub plans-past : pool (made-up 1025 0 0 0 0) nothing ≡ Refused 22 0
-  pub no-plan : pool (made-up 1 0 0 0 0) (made-up 0 0 0 0 1) ≡ Refused 22 0
+  pub no-plan : pool (made-up 1 0 0 0 0) (record { plans = 0; cells = 0; widths = 0; areas = 0; least = 0; greatest = 0; mean = 0; rest = 1 }) ≡ Refused 22 0
   pub halves : pool (made-up 512 0 0 0 0) (made-up 512 0 0 0 0) ≡ Figures (made-up 1024 0 0 0 0)
   pub one-more : pool (made-up 512 0 0 0 0) (made-up 513 0 0 0 0) ≡ Refused 4 0
   pub both : pool (made-up 1024 0 0 0 0) (made-up 1025 0 0 0 0) ≡ Refused 22 0

@@ -48,7 +48,7 @@ sound-empty r h z =
     let h3 = and-right (leb (r .cells) (cells-each * r .plans)) _ h2 in
     let h4 = and-right (leb (r .widths) (width-each * r .plans)) _ h3 in
     let h5 = and-right (leb (r .areas) (area-each * r .plans)) _ h4 in
-    let h6 : T (eqb (r .least) 0 && (eqb (r .greatest) 0 && (eqb (r .mean) 0 && eqb (r .rest) 0))) = rw (eq-eqb (r .plans) 0 z) at h5 in
+    let h6 : T (empty r) = rw (eq-eqb (r .plans) 0 z) at h5 in
     eqb→eq (r .least) 0 (and-left (eqb (r .least) 0) _ h6)
 
 pub asked-small : (a : Report) (r : Refusal) → r ≡ asked 22 (sound a) 0 → r .number ≡ 0 → Small a
@@ -80,7 +80,7 @@ pub adds-none : (total answer : Reported) {k c : ℕ} → total ≡ Refused k c 
 unfolding adds
 adds-none total answer e = rw e
 
-pub adds-nothing : (total answer : Reported) {a : Report} {k c : ℕ} → total ≡ Figures a → answer ≡ Refused k c → total ≡ adds total answer
+pub adds-nothing : (total answer : Reported) {a : Report} {k c : ℕ} → total ≡ Figures a → answer ≡ Refused k c → Figures a ≡ adds total answer
 unfolding adds
 adds-nothing total answer e f = rw (e, f)
 

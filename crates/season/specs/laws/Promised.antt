@@ -13,7 +13,7 @@ use Rattle.season.specs.declared.Report.{Report}
 use Rattle.season.specs.declared.Reported.{Reported}
 use Rattle.season.specs.declared.Reported.the-variants.{Figures, Refused}
 use Rattle.season.specs.Report.{most-plans, Figure, summed, narrowest, widest, quotient, remainder, report, nothing, Plans}
-use Rattle.season.specs.Pool.{pooled, empty, sound, pool-refusal, pool, adds, gathered, folder}
+use Rattle.season.specs.Pool.{pooled, empty, sound, pool, adds, gathered, folder, Files}
 use Rattle.season.specs.laws.Report.{length-after, plans-after, report-none, sums}
 use Rattle.season.specs.laws.Pool.{sound-empty, refusal-is, pooled-joins, pooled-turned}
 
@@ -88,3 +88,47 @@ pub pool-none : (xs : List Figure) → Plans xs → length xs ≤ most-plans →
 pool-none xs h l =
     let e : pool nothing (report xs) ≡ Figures (report xs) = rw report-none at (pool-joins [] xs Plans.no-plan h (omega arith)) in
     (e, pool-turned (report xs) nothing ∙ e)
+
+-- ---- a folder, file by file
+stays : (k c : ℕ) (rs : List Reported) → gathered (Refused k c) rs ≡ Refused k c
+unfolding gathered adds
+stays k c [] = refl
+stays k c (r ∷ rs) = stays k c rs
+
+one : {x : Figure} {xs : List Figure} → Plans (x ∷ xs) → Plans (x ∷ [])
+one (Plans.more c w r h) = Plans.more c w r Plans.no-plan
+
+others : {x : Figure} {xs : List Figure} → Plans (x ∷ xs) → Plans xs
+others (Plans.more c w r h) = h
+
+gathers : {rs : List Reported} {xs : List Figure} → Files rs xs → (ys : List Figure) → Plans ys → Plans xs → length ys + length xs ≤ most-plans → gathered (Figures (report ys)) rs ≡ Figures (report (ys ++ xs))
+unfolding gathered adds
+gathers Files.no-file ys h k l = sym (ap (λ (zs : List Figure). Figures (report zs)) (append-nil ys))
+gathers (Files.plan {x = x} {rs = rs} {xs = xs} fs) ys h k l =
+    let n = length-after ys (x ∷ []) in
+    ap (λ (t : Reported). gathered t rs) (pool-joins ys (x ∷ []) h (one k) (omega arith))
+    ∙ gathers fs (ys ++ (x ∷ [])) (plans-after h (one k)) (others k) (omega (arith, n))
+    ∙ ap (λ (zs : List Figure). Figures (report zs)) (append-assoc ys (x ∷ []) xs)
+gathers (Files.refused fs) ys h k l = gathers fs ys h k l
+
+passes : {rs : List Reported} {xs : List Figure} → Files rs xs → (ys : List Figure) → Plans ys → Plans xs → length ys ≤ most-plans → most-plans < length ys + length xs → gathered (Figures (report ys)) rs ≡ Refused 4 0
+unfolding gathered adds
+passes Files.no-file ys h k m l = absurd (omega arith)
+passes (Files.plan {x = x} {rs = rs} {xs = xs} fs) ys h k m l = go (decLe (length ys + 1) most-plans) (λ p q. passes fs (ys ++ (x ∷ [])) (plans-after h (one k)) (others k) p q)
+  where
+    n : length (ys ++ (x ∷ [])) ≡ length ys + 1
+    n = omega (arith, length-after ys (x ∷ []))
+
+    go : Dec (length ys + 1 ≤ most-plans) → (length (ys ++ (x ∷ [])) ≤ most-plans → most-plans < length (ys ++ (x ∷ [])) + length xs → gathered (Figures (report (ys ++ (x ∷ [])))) rs ≡ Refused 4 0)
+        → gathered (pool (report ys) (report (x ∷ []))) rs ≡ Refused 4 0
+    go (yes d) f = ap (λ (t : Reported). gathered t rs) (pool-joins ys (x ∷ []) h (one k) (omega arith)) ∙ f (omega (arith, n)) (omega (arith, n))
+    go (no d) f =
+        ap (λ (t : Reported). gathered t rs) (pool-many (report ys) (report (x ∷ [])) (report-sound ys h m) (report-sound (x ∷ []) (one k) (omega arith)) (unfold report in omega arith))
+        ∙ stays 4 0 rs
+passes (Files.refused fs) ys h k m l = passes fs ys h k m l
+
+pub folder-report : (rs : List Reported) (xs : List Figure) → Files rs xs → Plans xs → length xs ≤ most-plans → folder rs ≡ Figures (report xs)
+folder-report rs xs fs h l = rw report-none at (gathers fs [] Plans.no-plan h (omega arith))
+
+pub folder-many : (rs : List Reported) (xs : List Figure) → Files rs xs → Plans xs → most-plans < length xs → folder rs ≡ Refused 4 0
+folder-many rs xs fs h l = rw report-none at (passes fs [] Plans.no-plan h (omega arith) (omega arith))
