@@ -1,16 +1,12 @@
-use borrow.Author.Needs.{needs}
+use borrow.Author.Tests.{le-leb, lt-leb}
 use Rattle.reporting.proofs.long_enough.Statement.{statement}
 use Rattle.reporting.proofs.long_enough.Tie as tie
-use Rattle.reporting.proofs.long_enough.Reads as reads
-use Rattle.reporting.proofs.long_enough.Lts as lts
 
--- src/lib.rt:29:9
 returns : tie.Need-returns
-returns c = search needs
+returns c = rw (lt-leb _ _ (c .if1 .taken))
 
--- src/lib.rt:25:1
 returns-2 : tie.Need-returns-2
-returns-2 c = search needs
+returns-2 c = rw (le-leb _ _ (c .if1 .left))
 
 pub long-enough-spec : {M : Type 1} → statement M
 long-enough-spec = tie.close (tie.spec returns returns-2)

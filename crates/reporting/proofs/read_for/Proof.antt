@@ -1,74 +1,59 @@
+use mathlib.Core.Path.{ap, _∙_}
+use Prim.Native.Nat.{_*_}
+use native.Mathlib.Omega.{arith}
+use lib.Dec.{leb}
+use Rattle.plan.specs.Questions.{asked}
+use Rattle.planfile.specs.declared.Trailer.{Trailer}
+use Rattle.planfile.specs.laws.Examined.{zero-of, formed-read}
+use Rattle.reporting.specs.laws.Reporting.{long-stops, formed-stops, placed-stops, goes-to-read}
 use borrow.Author.Needs.{needs}
 use Rattle.reporting.proofs.read_for.Statement.{statement}
 use Rattle.reporting.proofs.read_for.Tie as tie
-use Rattle.reporting.proofs.read_for.Reads as reads
-use Rattle.reporting.proofs.read_for.Lts as lts
-use Rattle.asking.proofs.asked.Reads as asked-reads
-use Rattle.planfile.proofs.formed_refusal.Reads as formed-refusal-reads
-use Rattle.planfile.proofs.refused.Reads as refused-reads
-use Rattle.planfile.proofs.read.Reads as read-reads
-use Rattle.planfile.proofs.trailer_of.Reads as trailer-reads
-use Rattle.reporting.proofs.long_enough.Reads as long-enough-reads
 
--- src/lib.rt:38:25
 long-enough-requires : tie.Need-long-enough-requires
 long-enough-requires c κs = search needs
 
--- src/lib.rt:38:9
 asked-requires : tie.Need-asked-requires
 asked-requires c κs = search needs
 
--- src/lib.rt:40:9
 refused-requires : tie.Need-refused-requires
 refused-requires c κs = search needs
 
--- src/lib.rt:40:9
 returns : tie.Need-returns
-returns c = search needs
+returns c = c .refused .ensures ∙ long-stops (c .before .before .before .before .before .before .args .file .now) (c .before .before .before .before .before .before .args .room) (c .before .before .before .before .before .before .args .scratch) (c .before .before .before .before .before .before .args .positions) _ (c .before .if1 .taken) (c .before .before .before .asked .ensures ∙ ap (λ x. asked 1 x 0) (c .before .before .before .before .long-enough .ensures))
 
--- src/lib.rt:42:9
 formed-refusal-requires : tie.Need-formed-refusal-requires
 formed-refusal-requires c κs = search needs
 
--- src/lib.rt:44:9
 refused-requires-2 : tie.Need-refused-requires-2
 refused-requires-2 c κs = search needs
 
--- src/lib.rt:44:9
 returns-2 : tie.Need-returns-2
-returns-2 c = search needs
+returns-2 c = c .refused2 .ensures ∙ formed-stops (c .before .before .before .before .before .before .before .before .before .args .file .now) (c .before .before .before .before .before .before .before .before .before .args .room) (c .before .before .before .before .before .before .before .before .before .args .scratch) (c .before .before .before .before .before .before .before .before .before .args .positions) _ (c .before .if2 .taken) _ (c .before .before .before .before .before .before .asked .ensures ∙ ap (λ x. asked 1 x 0) (c .before .before .before .before .before .before .before .long-enough .ensures)) (c .before .before .before .before .if1 .left) (c .before .before .before .formed-refusal .ensures)
 
--- src/lib.rt:46:9
 trailer-requires : tie.Need-trailer-requires
-trailer-requires c κs = search needs
+trailer-requires c κs = omega (arith, formed-read (c .before .before .before .before .before .before .before .before .args .file .now) (zero-of _ _ (c .before .before .formed-refusal .ensures) (c .if2 .left)) .long)
 
--- src/lib.rt:47:32
 cast-asked : tie.Need-cast-asked
 cast-asked c = search needs
 
--- src/lib.rt:47:27
 mul-asked : tie.Need-mul-asked
 mul-asked c = search needs
 
--- src/lib.rt:47:9
 asked-requires-2 : tie.Need-asked-requires-2
 asked-requires-2 c κs = search needs
 
--- src/lib.rt:49:9
 refused-requires-3 : tie.Need-refused-requires-3
 refused-requires-3 c κs = search needs
 
--- src/lib.rt:49:9
 returns-3 : tie.Need-returns-3
-returns-3 c = search needs
+returns-3 c = c .refused3 .ensures ∙ placed-stops (c .before .before .before .before .before .before .before .before .before .before .before .before .before .before .args .file .now) (c .before .before .before .before .before .before .before .before .before .before .before .before .before .before .args .room) (c .before .before .before .before .before .before .before .before .before .before .before .before .before .before .args .scratch) (c .before .before .before .before .before .before .before .before .before .before .before .before .before .before .args .positions) _ (c .before .if3 .taken) _ (c .before .before .before .before .before .before .before .before .before .before .before .asked .ensures ∙ ap (λ x. asked 1 x 0) (c .before .before .before .before .before .before .before .before .before .before .before .before .long-enough .ensures)) (c .before .before .before .before .before .before .before .before .before .if1 .left) _ (c .before .before .before .before .before .before .before .before .formed-refusal .ensures) (c .before .before .before .before .before .before .if2 .left) (c .before .before .before .asked2 .ensures ∙ ap (λ (t : Trailer). asked 1 (leb (2 * t .count) (c .before .before .before .before .before .before .before .before .before .before .before .before .before .before .args .positions)) 0) (c .before .before .before .before .before .trailer .ensures))
 
--- src/lib.rt:51:5
 read-requires : tie.Need-read-requires
 read-requires c κs = search needs
 
--- src/lib.rt:35:1
 returns-4 : tie.Need-returns-4
-returns-4 c = search needs
+returns-4 c = c .read .ensures ∙ goes-to-read (c .before .before .before .before .before .before .before .before .before .before .before .before .before .before .args .file .now) (c .before .before .before .before .before .before .before .before .before .before .before .before .before .before .args .room) (c .before .before .before .before .before .before .before .before .before .before .before .before .before .before .args .scratch) (c .before .before .before .before .before .before .before .before .before .before .before .before .before .before .args .positions) _ (c .before .before .before .before .before .before .before .before .before .before .before .asked .ensures ∙ ap (λ x. asked 1 x 0) (c .before .before .before .before .before .before .before .before .before .before .before .before .long-enough .ensures)) (c .before .before .before .before .before .before .before .before .before .if1 .left) _ (c .before .before .before .before .before .before .before .before .formed-refusal .ensures) (c .before .before .before .before .before .before .if2 .left) _ (c .before .before .before .asked2 .ensures ∙ ap (λ (t : Trailer). asked 1 (leb (2 * t .count) (c .before .before .before .before .before .before .before .before .before .before .before .before .before .before .args .positions)) 0) (c .before .before .before .before .before .trailer .ensures)) (c .before .if3 .left)
 
 pub read-for-spec : {M : Type 1} → statement M
 read-for-spec =

@@ -139,7 +139,7 @@ module _ (f : List ℕ) (room s p : ℕ) where
     pub room-enough : most-cells ≤ room
     room-enough = leb→le most-cells room (and-left (leb most-cells room) _ (asked-yes 0 _ 0 (parts .0)))
 
-    scratch-enough : scratch-size ≤ s
+    pub scratch-enough : scratch-size ≤ s
     scratch-enough = leb→le scratch-size s (and-right (leb most-cells room) _ (asked-yes 0 _ 0 (parts .0)))
 
     positions-enough : 2 * n ≤ p
@@ -175,6 +175,9 @@ module _ (f : List ℕ) (room s p : ℕ) where
       unfolding columns-of
       allowance-is = ap (λ (x : Reading). x .allowance) plan-is
 
+      pub plan-few : q .columns .count ≤ most-cells
+      plan-few = omega (arith, count-is, count-few)
+
       pub drawable : (k : ℕ) → k ≡ scratch-size → Drawable (table-of (q .columns)) k p
       drawable k h = rw table-is (record { fit = fit; room = omega (arith, cells-length f, positions-enough); scratch = h })
 
@@ -191,29 +194,34 @@ module _ (f : List ℕ) (room s p : ℕ) where
 
 -- ---- the call
 module _ (f : List ℕ) (room : ℕ) (s : List ℕ) (ps : List ℤ) (q : Reading) where
-  abbrev no : Refusal
-  no = report-refusal f room (length s) (length ps)
+  abbrev stopped : Refusal
+  stopped = report-refusal f room (length s) (length ps)
 
-  module _ (e : q ≡ taken f no) where
+  module _ (e : q ≡ taken f stopped) where
     pub refused : ¬ (q .refusal .number ≡ 0) → Drafts f room s s ps ps (record { reading = q; answer = Refused (q .refusal .number) (q .refusal .cell) })
     unfolding taken columns-of reported-of scratch-left positions-left
-    refused h = go (ℕ-discrete (no .number) 0)
+    refused h = go (ℕ-discrete (stopped .number) 0)
       where
-        go : Dec (no .number ≡ 0) → Drafts f room s s ps ps (record { reading = q; answer = Refused (q .refusal .number) (q .refusal .cell) })
-        go (yes z) = absurd (h (ap (λ (x : Reading). x .refusal .number) (e ∙ rw (eq-eqb (no .number) 0 z))))
+        go : Dec (stopped .number ≡ 0) → Drafts f room s s ps ps (record { reading = q; answer = Refused (q .refusal .number) (q .refusal .cell) })
+        go (yes z) =
+            let k : q ≡ columns-of none (trailer-of f .allowance) (trailer-of f .count) (entry f) = e ∙ rw (eq-eqb (stopped .number) 0 z) in
+            absurd (h (ap (λ (x : Reading). x .refusal .number) k))
         go (no z) =
-            let d : q .refusal ≡ no = ap (λ (x : Reading). x .refusal) (e ∙ rw (ne-eqb (no .number) 0 z)) in
-            record { reading = e; answers = rw (d, ne-eqb (no .number) 0 z); scratch = refl; positions = refl }
+            let k : q ≡ columns-of stopped 0 0 (entry f) = e ∙ rw (ne-eqb (stopped .number) 0 z) in
+            let d : q .refusal ≡ stopped = ap (λ (x : Reading). x .refusal) k in
+            record { reading = e; answers = rw (d, ne-eqb (stopped .number) 0 z); scratch = refl; positions = refl }
 
-    pub unrefused : q .refusal .number ≡ 0 → no .number ≡ 0
+    pub unrefused : q .refusal .number ≡ 0 → stopped .number ≡ 0
     unfolding taken columns-of
-    unrefused h = go (ℕ-discrete (no .number) 0)
+    unrefused h = go (ℕ-discrete (stopped .number) 0)
       where
-        go : Dec (no .number ≡ 0) → no .number ≡ 0
+        go : Dec (stopped .number ≡ 0) → stopped .number ≡ 0
         go (yes z) = z
-        go (no z) = ap (λ (x : Reading). x .refusal .number) (sym (e ∙ rw (ne-eqb (no .number) 0 z))) ∙ h
+        go (no z) =
+            let k : q ≡ columns-of stopped 0 0 (entry f) = e ∙ rw (ne-eqb (stopped .number) 0 z) in
+            ap (λ (x : Reading). x .refusal .number) (sym k) ∙ h
 
-    pub reported : (z : no .number ≡ 0) (s′ : List ℕ) (ps′ : List ℤ) (m : Measures) (d : Drawn (table-of (q .columns)) (q .allowance) s′ ps ps′ m) (r : Report)
+    pub reported : (z : stopped .number ≡ 0) (s′ : List ℕ) (ps′ : List ℤ) (m : Measures) (d : Drawn (table-of (q .columns)) (q .allowance) s′ ps ps′ m) (r : Report)
         → r ≡ report (record { cells = q .columns .count; width = m .width; rows = m .rows } ∷ [])
         → Drafts f room s (s′ ++ drop scratch-size s) ps ps′ (record { reading = q; answer = Figures r })
     unfolding reported-of scratch-left positions-left
@@ -221,7 +229,7 @@ module _ (f : List ℕ) (room : ℕ) (s : List ℕ) (ps : List ℤ) (q : Reading
         let k = given f room (length s) (length ps) z q e s′ ps ps′ m d in
         record {
           reading = e;
-          answers = rw (eq-eqb (no .number) 0 z) (ap Figures (figures-are f room (length s) (length ps) z q e s′ ps ps′ m d r h));
+          answers = rw (eq-eqb (stopped .number) 0 z) (ap Figures (figures-are f room (length s) (length ps) z q e s′ ps ps′ m d r h));
           scratch = rw (k .scratch);
           positions = k .positions ∙ ap (λ i. written ps (own-sheet f) i) (cells-length f);
         }
