@@ -1,2 +1,4 @@
 pub mod Lent
+pub mod Filled
 pub mod Read
+pub mod Report
