@@ -27,6 +27,11 @@ use Rattle.answers.specs.declared.CheckAnswer.{CheckAnswer}
 use Rattle.answers.specs.declared.EndsAnswer.{EndsAnswer}
 use Rattle.answers.specs.declared.ListAnswer.{ListAnswer}
 use Rattle.answers.specs.declared.FrameAnswer.{FrameAnswer}
+use Rattle.season.specs.Report.{nothing}
+use Rattle.season.specs.declared.Reported.{Reported}
+use Rattle.season.specs.declared.Reported.the-variants.{Figures, Refused as Unreported}
+use Rattle.reporting.specs.Reporting.{Reports}
+use Rattle.answers.specs.declared.ReportAnswer.{ReportAnswer}
 
 unfoldable pub read-answer : Read → ReadAnswer
 read-answer (Plan n al) = record { number = 0; cell = 0; allowance = al; count = n }
@@ -78,3 +83,14 @@ pub record Framing (t : Table) (squares : ℕ) (s s′ : List ℕ) (r : FrameAns
   pub fitted : Fitted
   pub frames : Frames t squares s s′ fitted
   pub answers : r ≡ frame-answer fitted
+
+-- the report of no plan with a refusal
+unfoldable pub report-answer : Reported → ReportAnswer
+report-answer (Figures r) = record { number = 0; cell = 0; report = r }
+report-answer (Unreported k c) = record { number = k; cell = c; report = nothing }
+
+-- a call of Report, as `Reports` has it, with the struct for its answer
+pub record Reporting (f : List ℕ) (t t′ : List Record) (s s′ : List ℕ) (ps ps′ : List ℤ) (r : ReportAnswer) : Type 0 where
+  pub reported : Reported
+  pub reports : Reports f t t′ s s′ ps ps′ reported
+  pub answers : r ≡ report-answer reported

@@ -4,8 +4,10 @@ use ends::Ended;
 use fitting::Fitted;
 use layout::Laid;
 use printing::Listed;
+use season::Report;
+use season::Reported;
 ghost use mathlib.Core.Path.{_≡_};
-ghost use Rattle.answers.specs.Answers.{«read-answer», «laid-answer», «check-answer», «ends-answer», «list-answer», «frame-answer»};
+ghost use Rattle.answers.specs.Answers.{«read-answer», «laid-answer», «check-answer», «ends-answer», «list-answer», «frame-answer», «report-answer»};
 
 // Number and cell of the refusal, or 0 and 0; the number of cells and the allowance.
 #[repr(C)]
@@ -77,6 +79,14 @@ pub struct FrameAnswer {
     pub cell: u16,
     pub outcome: u8,
     pub allowance: u32,
+}
+
+// Number and cell of the refusal, or 0 and 0; the report, zeros with a refusal.
+#[repr(C)]
+pub struct ReportAnswer {
+    pub number: u8,
+    pub cell: u16,
+    pub report: Report,
 }
 
 // The answer of Read as a struct.
@@ -218,6 +228,24 @@ pub fn told_frame(answer: Fitted) -> FrameAnswer
             cell,
             outcome: 0,
             allowance: 0,
+        },
+    }
+}
+
+// The answer of Report or of Pool as a struct.
+pub fn told_report(answer: Reported) -> ReportAnswer
+    ensures { λ r. ⌜ r ≡ report-answer answer ⌝ }
+{
+    match answer {
+        Reported::Figures(report) => ReportAnswer {
+            number: 0,
+            cell: 0,
+            report,
+        },
+        Reported::Refused(number, cell) => ReportAnswer {
+            number,
+            cell,
+            report: season::nothing(),
         },
     }
 }

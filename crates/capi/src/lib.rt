@@ -7,19 +7,23 @@ use answers::LabelPart;
 use answers::LayoutAnswer;
 use answers::ListAnswer;
 use answers::ReadAnswer;
+use answers::ReportAnswer;
 use answers::told_check;
 use answers::told_ends;
 use answers::told_frame;
 use answers::told_layout;
 use answers::told_list;
 use answers::told_read;
+use answers::told_report;
 use plan::Record;
+use season::Report;
 ghost use mathlib.Core.Path.{_≡_};
 ghost use Rattle.plan.specs.Records.{«cells-of»};
 ghost use Rattle.planfile.specs.Reading.{«label-refusal», «label-part»};
 ghost use Rattle.checker.specs.Checked.{«checked-of»};
 ghost use Rattle.ends.specs.Ended.{«ended-of»};
-ghost use Rattle.answers.specs.Answers.{«check-answer», «ends-answer», Filling, Laying, ListFilling, Framing};
+ghost use Rattle.answers.specs.Answers.{«check-answer», «ends-answer», Filling, Laying, ListFilling, Framing, Reporting, «report-answer»};
+ghost use Rattle.season.specs.Pool.{pool};
 
 #[no_mangle]
 pub extern "C" fn kuzpalen_read(file: &[u8], table: &mut [Record]) -> ReadAnswer
@@ -95,4 +99,25 @@ pub extern "C" fn kuzpalen_frame(table: &[Record], squares: u32, scratch: &mut [
 {
     let answer = engine::frame(table, squares, scratch);
     told_frame(answer)
+}
+
+#[no_mangle]
+pub extern "C" fn kuzpalen_report(
+    file: &[u8],
+    table: &mut [Record],
+    scratch: &mut [u32],
+    positions: &mut [i32],
+) -> ReportAnswer
+    ensures { λ r. ⌜ Reporting (now (file .entry)) (now (table .entry)) (now (table .exit)) (now (scratch .entry)) (now (scratch .exit)) (now (positions .entry)) (now (positions .exit)) r ⌝ }
+{
+    let answer = engine::report(file, table, scratch, positions);
+    told_report(answer)
+}
+
+#[no_mangle]
+pub extern "C" fn kuzpalen_pool(a: Report, b: Report) -> ReportAnswer
+    ensures { λ r. ⌜ r ≡ report-answer (pool a b) ⌝ }
+{
+    let answer = engine::pool(a, b);
+    told_report(answer)
 }

@@ -73,6 +73,20 @@ file-slot = SliceRefOf (0 ∷ []) tt (plain (λ _. u8)) (λ _. tt)
 abbrev fill-slot : {n : ℕ} → Slot (suc (suc n))
 fill-slot = SliceRefMutOf (1 ∷ []) tt (plain (λ _. T.the-row)) (λ _. tt)
 
+-- ---- what holds once `fill` has returned u, and once the core has returned v; what the two calls promise, the run promises
+module _ (D N : RattleType) (reading : D .Denot → Reading) (answer : D .Denot → N .Denot) (answer-val : N .Denot → Val) {M : Type 1} (𝓤 : URA M) (H : Heap 𝓤) (A : Atoms 𝓤) (C : Calls 𝓤 H) where
+  abbrev pub Filled : (Val → SProp 𝓤) → D .Denot → Val → Item 𝓤
+  Filled K r u = later (given (Of tyUnit u) (raw (K (answer-val (answer r)))))
+
+  abbrev pub Filling : (Val → SProp 𝓤) → (t v : Val) → D .Denot → Item 𝓤
+  Filling K t v r = given (Is D r (v ∷ [])) (raw (C fill-def.name (reading-val (reading r) ∷ vint w64 (reading r .columns .count) ∷ t ∷ []) (λ u. mean 𝓤 H A (Filled K r u))))
+
+  abbrev pub Read-in : (Val → SProp 𝓤) → (t v : Val) → Item 𝓤
+  Read-in K t v = later (some (Filling K t v))
+
+  abbrev pub Follows : Name → Fun 𝓤 → (f t : Val) → ℕ → List Val → Type 2
+  Follows k run f t m us = (K : Val → SProp 𝓤) → ent 𝓤 (C k (f ∷ vint w64 m ∷ us) (λ v. mean 𝓤 H A (Read-in K t v))) (run (f ∷ t ∷ us) K)
+
 -- ---- the core answers in D, of which a part is read and a part is the entry's answer, in N; ps are the entry's parameters behind file and table
 module _ (n : ℕ) (ps : List (Slot (suc (suc n)))) (D N : RattleType) (reading : D .Denot → Reading) (answer : D .Denot → N .Denot) (answer-val : N .Denot → Val) where
   abbrev Of-core : Type 1
@@ -117,19 +131,14 @@ module _ (n : ℕ) (ps : List (Slot (suc (suc n)))) (D N : RattleType) (reading 
         → (t′ : List Record) → t′ ≡ filled (reading r) (reading r .columns .count) t → G κs f t t′ a e (answer r)
 
     module _ (W : Given 𝓤 H A) (C : Calls 𝓤 H) (fm : FmC 𝓤 H (W .laws) C) (k : Name) where
-      -- what holds once `fill` has returned u, and once the core has returned v
-      abbrev pub Filled : (Val → SProp 𝓤) → D .Denot → Val → Item 𝓤
-      Filled K r u = later (given (Of tyUnit u) (raw (K (answer-val (answer r)))))
+      abbrev after-fill : (Val → SProp 𝓤) → D .Denot → Val → Item 𝓤
+      after-fill = Filled D N reading answer answer-val 𝓤 H A C
 
-      abbrev pub Filling : (Val → SProp 𝓤) → (t v : Val) → D .Denot → Item 𝓤
-      Filling K t v r = given (Is D r (v ∷ [])) (raw (C fill-def.name (reading-val (reading r) ∷ vint w64 (reading r .columns .count) ∷ t ∷ []) (λ u. mean 𝓤 H A (Filled K r u))))
+      abbrev before-fill : (Val → SProp 𝓤) → (t v : Val) → D .Denot → Item 𝓤
+      before-fill = Filling D N reading answer answer-val 𝓤 H A C
 
-      abbrev pub Read-in : (Val → SProp 𝓤) → (t v : Val) → Item 𝓤
-      Read-in K t v = later (some (Filling K t v))
-
-      -- what the two calls promise, the run promises
-      abbrev pub Follows : Fun 𝓤 → (f t : Val) → ℕ → List Val → Type 2
-      Follows run f t m us = (K : Val → SProp 𝓤) → ent 𝓤 (C k (f ∷ vint w64 m ∷ us) (λ v. mean 𝓤 H A (Read-in K t v))) (run (f ∷ t ∷ us) K)
+      abbrev after-core : (Val → SProp 𝓤) → (t v : Val) → Item 𝓤
+      after-core = Read-in D N reading answer answer-val 𝓤 H A C
 
       module _ (fits : Fits) (fills : Fills) (makes : Makes 𝓤 H A N (Is N)) (read-is : (r : D .Denot) (v : Val) → Is D r (v ∷ []) → Is R.the-row (reading r) (reading-val (reading r) ∷ []))
           (answer-is : (r : D .Denot) (v : Val) → Is D r (v ∷ []) → Is N (answer r) (answer-val (answer r) ∷ [])) (known-fill : Triple 𝓤 (C fill-def.name) (Fill 𝓤 H A)) (core : (κ′ : Lft) → Triple 𝓤 (C k) (Core κ′)) where
@@ -168,7 +177,7 @@ module _ (n : ℕ) (ps : List (Slot (suc (suc n)))) (D N : RattleType) (reading 
             abbrev Kept : SProp 𝓤
             Kept = sep 𝓤 (sep 𝓤 (A .lft κ q) Toks) (sem 𝓤 H A (lastsOf (κ, (κ′, κs)) ps (all yes ps) a ws))
 
-            after : Is N (answer r) (answer-val (answer r) ∷ []) → (u : Val) → ent 𝓤 (sep 𝓤 (Fill 𝓤 H A .post to-fill u) Kept) (mean 𝓤 H A (Filled Back r u))
+            after : Is N (answer r) (answer-val (answer r) ∷ []) → (u : Val) → ent 𝓤 (sep 𝓤 (Fill 𝓤 H A .post to-fill u) Kept) (mean 𝓤 H A (after-fill Back r u))
             after is u =
                 qed W (later (some (λ (z : Unit {0}). (Token ⊛ ‵ (unit .own z (u ∷ []))) ⊛ some (λ (zs : Unit {0} × (Unit {0} × (List Record × Unit {0}))). ‵ (lastsOf (κ′, tt) (fill.signature .params) (fill.ended .kept) filling zs) ⊛ raw (fact 𝓤 (zs .1 .1 .0 ≡ filled (reading r) (reading r .columns .count) (y .now)))))) ∷ ((‵ (flft κ q) ⊛ raw Toks) ⊛ ‵ (lastsOf (κ, (κ′, κs)) ps (all yes ps) a ws)) ∷ []) ∵
                 updating ! $ await ! tt $ pick ! (λ z. split ! $ split ! $ move ! (1 ∷ []) $ peeks ! unit (Is unit) (shows 𝓤 H A unit) z (u ∷ []) (λ iu. now ! $ check ! (nothing-lawful 𝓤 H A W .typed z _ iu .0) $
@@ -192,16 +201,16 @@ module _ (n : ℕ) (ps : List (Slot (suc (suc n)))) (D N : RattleType) (reading 
             abbrev to-core : Core κ′ .Ghost
             to-core = (((κ, κs), (q, qs), tt, (x, (m, a)), (fileVal x ∷ [], (vint w64 m ∷ [], us))), tt)
 
-            between : Room T.the-row m → (v : Val) → ent 𝓤 (sep 𝓤 (Core κ′ .post to-core v) Rest) (mean 𝓤 H A (Read-in Back (tableVal y) v))
+            between : Room T.the-row m → (v : Val) → ent 𝓤 (sep 𝓤 (Core κ′ .post to-core v) Rest) (mean 𝓤 H A (after-core Back (tableVal y) v))
             between room v =
                 qed W (later (some (λ (r : D .Denot). (raw (sep 𝓤 (A .lft κ q) Toks) ⊛ ‵ (D .own r (v ∷ []))) ⊛ some (λ (ws : Unit {0} × (Unit {0} × Fins (κ, (κ′, κs)) ps (all yes ps) a)). ‵ (fsep ftrue (fsep ftrue (lastsOf (κ, (κ′, κs)) ps (all yes ps) a (ws .1 .1)))) ⊛ raw (fact 𝓤 (F (κ, (κ′, κs)) (x .now) m a (outs (κ, (κ′, κs)) ps (all yes ps) a (ws .1 .1)) r))))) ∷ raw Rest ∷ []) ∵
                 updating ! $ await ! tt $ pick ! (λ r. split ! $ move ! (1 ∷ []) $ pick ! (λ ws. split ! $ move ! (1 ∷ []) $ heard ! (F (κ, (κ′, κs)) (x .now) m a (outs (κ, (κ′, κs)) ps (all yes ps) a (ws .1 .1)) r) (λ h.
                 -- [what is left; tokens and answer; what goes to `fill`]
                 fsplit ! $ drop ! $ fsplit ! $ drop ! $ move ! (1 ∷ []) $ split ! $ move ! (1 ∷ []) $ peeks ! D (Is D) (shows 𝓤 H A D) r (v ∷ []) (λ is. drop ! $ now ! $
-                show ! (λ (r : D .Denot). mean 𝓤 H A (Filling Back (tableVal y) v r)) r $ check ! is $ suffices ! _ (fm fill-def.name _ (Fill 𝓤 H A .post (to-fill r (ws .1 .1) h)) _ (Kept r (ws .1 .1) h) (after r (ws .1 .1) h (answer-is r v is))) $
+                show ! (λ (r : D .Denot). mean 𝓤 H A (before-fill Back (tableVal y) v r)) r $ check ! is $ suffices ! _ (fm fill-def.name _ (Fill 𝓤 H A .post (to-fill r (ws .1 .1) h)) _ (Kept r (ws .1 .1) h) (after r (ws .1 .1) h (answer-is r v is))) $
                 suffices ! _ (monoL 𝓤 (Kept r (ws .1 .1) h) (known-fill (to-fill r (ws .1 .1) h))) $ suffices ! _ (monoL 𝓤 (Kept r (ws .1 .1) h) (goes r (ws .1 .1) h room (read-is r v is))) $ join ! $ move ! (1 ∷ 0 ∷ []) $ done !))))
 
-            calling : Room T.the-row m → ent 𝓤 (onEntry 𝓤 H A signature (κ, (κ′, κs)) (q, (q′, qs)) (x, (y, a)) (fileVal x ∷ [], (tableVal y ∷ [], us))) (C k (fileVal x ∷ vint w64 m ∷ flat (typesAt ps (κ, (κ′, κs))) us) (λ v. mean 𝓤 H A (Read-in Back (tableVal y) v)))
+            calling : Room T.the-row m → ent 𝓤 (onEntry 𝓤 H A signature (κ, (κ′, κs)) (q, (q′, qs)) (x, (y, a)) (fileVal x ∷ [], (tableVal y ∷ [], us))) (C k (fileVal x ∷ vint w64 m ∷ flat (typesAt ps (κ, (κ′, κs))) us) (λ v. mean 𝓤 H A (after-core Back (tableVal y) v)))
             calling room =
                 qed W ((‵ (flft κ q) ⊛ (‵ (flft κ′ q′) ⊛ raw Toks)) ∷ ‵ (fsep (ShrSlice (named 0) κ u8 .own x (fileVal x ∷ [])) (fsep (MutSlice (named 1) κ′ T.the-row .own y (tableVal y ∷ [])) (owns (typesAt ps (κ, (κ′, κs))) a us))) ∷ []) ∵
                 suffices ! _ (fm k _ (Core κ′ .post to-core) _ Rest (between room)) $ suffices ! _ (monoL 𝓤 Rest (core κ′ to-core)) $ split ! $ move ! (1 ∷ []) $ split ! $ move ! (3 ∷ []) $ fsplit ! $ move ! (1 ∷ []) $ fsplit ! $
@@ -212,7 +221,7 @@ module _ (n : ℕ) (ps : List (Slot (suc (suc n)))) (D N : RattleType) (reading 
         -- a run that does what the two calls do meets the entry's contract
         meets : (run : Fun 𝓤) (sp : (κs : Lfts (suc (suc n))) → Spells (typesAt ps κs)) → ((κs : Lfts (suc (suc n))) → Tellss (typesAt ps κs) (Ises (typesAt ps κs)) (sp κs))
             → ((κs : Lfts (suc (suc n))) (x : RefT (List ℕ)) (y : RefT (List Record)) (a : Denots (typesAt ps κs)) → length (x .now) < 2 ^ 64 → length (y .now) < 2 ^ 64 → Are (typesAt ps κs) (Ises (typesAt ps κs)) a (valss (typesAt ps κs) (sp κs) a)
-            → Follows run (fileVal x) (tableVal y) (length (y .now)) (flat (typesAt ps κs) (valss (typesAt ps κs) (sp κs) a)))
+            → Follows D N reading answer answer-val 𝓤 H A C k run (fileVal x) (tableVal y) (length (y .now)) (flat (typesAt ps κs) (valss (typesAt ps κs) (sp κs) a)))
             → Triple 𝓤 run (Entry 𝓤 H A G)
         meets run sp tl walk (((κ, (κ′, κs)), (q, (q′, qs)), bounds, (x, (y, a)), vss), g) =
             via 𝓤 _ (fst∗ 𝓤 _ (emp 𝓤)) (said 𝓤 H A signature (κ, (κ′, κs)) (q, (q′, qs)) (slice-vals, (slice-vals, sp (κ, (κ′, κs)))) (shr-slice-tells (named 0) κ u8, (mut-slice-tells (named 1) κ′ T.the-row, tl (κ, (κ′, κs)))) (x, (y, a))
@@ -226,7 +235,7 @@ module _ (n : ℕ) (ps : List (Slot (suc (suc n)))) (D N : RattleType) (reading 
         → ((r : D .Denot) (v : Val) → Is D r (v ∷ []) → Is N (answer r) (answer-val (answer r) ∷ [])) → ((κ′ : Lft) → Triple 𝓤 (𝓡 .run r′) (Core 𝓤 H (𝓖 .A) F G κ′))
         → (sp : (κs : Lfts (suc (suc n))) → Spells (typesAt ps κs)) → ((κs : Lfts (suc (suc n))) → Tellss (typesAt ps κs) (Ises (typesAt ps κs)) (sp κs))
         → ((C : Calls 𝓤 H) (Λ : Loops 𝓤 H) (fm : FmC 𝓤 H (givenOf 𝓤 H 𝓜 𝓖 .laws) C) (κs : Lfts (suc (suc n))) (x : RefT (List ℕ)) (y : RefT (List Record)) (a : Denots (typesAt ps κs)) → length (x .now) < 2 ^ 64 → length (y .now) < 2 ^ 64 → Are (typesAt ps κs) (Ises (typesAt ps κs)) a (valss (typesAt ps κs) (sp κs) a)
-        → Follows 𝓤 H (𝓖 .A) F G (givenOf 𝓤 H 𝓜 𝓖) C fm k (WpFn 𝓤 H C Λ fn) (fileVal x) (tableVal y) (length (y .now)) (flat (typesAt ps κs) (valss (typesAt ps κs) (sp κs) a)))
+        → Follows D N reading answer answer-val 𝓤 H (𝓖 .A) C k (WpFn 𝓤 H C Λ fn) (fileVal x) (tableVal y) (length (y .now)) (flat (typesAt ps κs) (valss (typesAt ps κs) (sp κs) a)))
         → Triple 𝓤 (𝓡 .run (γ f)) (Entry 𝓤 H (𝓖 .A) G)
     meets-filled fits fills makes read-is answer-is core sp tl walk =
         entered 𝓤 H (Entry 𝓤 H (𝓖 .A) G) (tables 𝓤 H 𝓜 𝓡 γ .C) (tables 𝓤 H 𝓜 𝓡 γ .Λ) f fn closed

@@ -20,6 +20,7 @@ pub const WIDTH_EACH: u32 = 262143;
 pub const AREA_EACH: u64 = 67108608;
 
 // The figures of some plans, zeros throughout for none. Beside each field the most that 1,024 plans can make of it.
+#[repr(C)]
 pub struct Report {
     // The number of plans: 1,024.
     pub plans: u32,

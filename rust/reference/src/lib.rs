@@ -12,6 +12,7 @@ mod plan;
 mod plan_file;
 pub mod rng;
 mod rules;
+mod season;
 
 pub use frame::frame;
 pub use layout::{distances_by_pairs, distances_by_paths, layout, place, SCRATCH};
@@ -19,3 +20,4 @@ pub use listing::{list, listing, LISTING};
 pub use plan::{Cell, Plan, Refusal, MAX_CELLS, MAX_WIDTH, ROOT};
 pub use plan_file::{label, label_refusal, read, Form, FORMS};
 pub use rules::{check, ends, measure, Ends, Measure, Verdict, MAX_COORDINATE};
+pub use season::{pool, report, Figures, Report};
