@@ -3,4 +3,5 @@ pub mod Demand
 pub mod Layout
 pub mod List
 pub mod ReadThen
+pub mod Report
 pub mod WorkedCalls

@@ -105,8 +105,8 @@ module _ (n : ℕ) (ps : List (Slot (suc (suc n)))) (D N : RattleType) (reading 
   Entry 𝓤 H A G = tripleOf 𝓤 H A signature (saying (suc (suc n)) params 𝓤 H A N (λ κs a e r. G κs (a .0 .now) (a .1 .0 .now) (e .1 .0 .now) (a .1 .1) (e .1 .1) r))
 
   -- the core does not have the table's lifetime: κ′ stands for it in the slots of ps, none of which reads it
-  abbrev types : Lft → Lfts (suc n) → List RattleType
-  types κ′ κs = ShrSlice (named 0) (κs .0) u8 ∷ usize ∷ typesAt ps (κs .0, (κ′, κs .1))
+  abbrev core-types : Lft → Lfts (suc n) → List RattleType
+  core-types κ′ κs = ShrSlice (named 0) (κs .0) u8 ∷ usize ∷ typesAt ps (κs .0, (κ′, κs .1))
 
   module _ {M : Type 1} (𝓤 : URA M) (H : Heap 𝓤) (A : Atoms 𝓤) (F : Of-core) (G : Of-entry) where
     abbrev Core-ends : (κs : Lfts (suc (suc n))) → List ℕ → ℕ → Denots (typesAt ps κs) → D .Denot → SProp 𝓤
@@ -115,9 +115,9 @@ module _ (n : ℕ) (ps : List (Slot (suc (suc n)))) (D N : RattleType) (reading 
 
     abbrev Core : Lft → Contract 𝓤
     Core κ′ = record {
-      Ghost = (x : (κs : Lfts (suc n)) × (qs : Shares (suc n)) × Unit {0} × (a : Denots (types κ′ κs)) × Valss (types κ′ κs)) × Unit {0};
-      args = λ y. flat (types κ′ (y .0 .0)) (y .0 .4);
-      pre = λ y. sep 𝓤 (sep 𝓤 (toks 𝓤 A (suc n) (y .0 .0) (y .0 .1)) (sem 𝓤 H A (owns (types κ′ (y .0 .0)) (y .0 .3) (y .0 .4)))) (emp 𝓤);
+      Ghost = (x : (κs : Lfts (suc n)) × (qs : Shares (suc n)) × Unit {0} × (a : Denots (core-types κ′ κs)) × Valss (core-types κ′ κs)) × Unit {0};
+      args = λ y. flat (core-types κ′ (y .0 .0)) (y .0 .4);
+      pre = λ y. sep 𝓤 (sep 𝓤 (toks 𝓤 A (suc n) (y .0 .0) (y .0 .1)) (sem 𝓤 H A (owns (core-types κ′ (y .0 .0)) (y .0 .3) (y .0 .4)))) (emp 𝓤);
       post = λ y v. H .⇛ (ex 𝓤 (λ (r : D .Denot). sep 𝓤 (sep 𝓤 (toks 𝓤 A (suc n) (y .0 .0) (y .0 .1)) (sem 𝓤 H A (D .own r (v ∷ [])))) (Core-ends (y .0 .0 .0, (κ′, y .0 .0 .1)) (y .0 .3 .0 .now) (y .0 .3 .1 .0) (y .0 .3 .1 .1) r)));
     }
 

@@ -63,10 +63,15 @@ module _ (f : List ℕ) (t : List Record) (s s′ : List ℕ) (ps ps′ : List �
   refused-is z = g .answers ∙ rw (ne-eqb (stop .number) 0 z)
 
   table-is : Dec (stop .number ≡ 0) → filled (d .reading) (d .reading .columns .count) t ≡ table-left (d .answer) f t
-  unfolding table-left
+  unfolding table-left columns-of
   table-is (yes z) =
-      rw (count-is z, plan-is z, figures-is z) (plan-records f (count-few f (length t) (length s) (length ps) z) t (room-enough f (length t) (length s) (length ps) z))
-  table-is (no z) = rw (no-count z, refused-is z) (sym (filled-none (d .reading) t))
+      ap (λ (x : Reading). filled x (x .columns .count) t) (plan-is z)
+      ∙ plan-records f (count-few f (length t) (length s) (length ps) z) t (room-enough f (length t) (length s) (length ps) z)
+      ∙ sym (ap (λ (x : Reported). table-left x f t) (figures-is z))
+  table-is (no z) =
+      ap (λ (x : Reading). filled x (x .columns .count) t) (blank-is z)
+      ∙ sym (filled-none (columns-of stop 0 0 (entry f)) t)
+      ∙ sym (ap (λ (x : Reported). table-left x f t) (refused-is z))
 
   pub draft-reports : (t′ : List Record) → t′ ≡ filled (d .reading) (d .reading .columns .count) t → Reports f t t′ s s′ ps ps′ (d .answer)
   draft-reports t′ h = record { answers = g .answers; table = h ∙ table-is (ℕ-discrete (stop .number) 0); scratch = g .scratch; positions = g .positions }
