@@ -5,6 +5,7 @@ use mathlib.Core.Path.{_≡_}
 use mathlib.Core.List.{List, [], _∷_, _++_, map}
 use mathlib.Core.Logic.{_↔_}
 use Prim.Native.Nat.{ℕ, _*_, _≤_, _<_}
+use lib.Dec.{T}
 use lib.ListN.{length, getD, take, drop, replicate}
 use lib.IntN.{ℤ, pos, _-ℤ_}
 use lib.Signed.{_≤ℤ_, _<ℤ_}
@@ -46,7 +47,7 @@ use Rattle.printing.specs.Printing.{Lists}
 use Rattle.printing.specs.declared.Listed.{Listed}
 use Rattle.printing.specs.declared.Listed.the-variants as listed
 use Rattle.season.specs.Report.{report, Plans}
-use Rattle.season.specs.Pool.{pool}
+use Rattle.season.specs.Pool.{sound, pool}
 use Rattle.season.specs.Promised as season
 use Rattle.season.specs.declared.Report.{Report}
 use Rattle.season.specs.declared.Reported.{Reported}
@@ -210,6 +211,10 @@ module _ (f : List ℕ) (t t′ : List Record) (s s′ : List ℕ) (ps ps′ : L
     -- and the scratch and the positions as Layout leaves them, with that width and those rows.
     pub report-lays : Lays (file-table f) (trailer-of f .allowance) s s′ ps ps′ (Sheet (figure-of f .width) (figure-of f .rows))
     report-lays = reporting.lays f t t′ s s′ ps ps′ r g z
+
+    -- 22 does not refuse that report.
+    pub report-passes : T (sound (report (figure-of f ∷ [])))
+    report-passes = reporting.passes-22 f t t′ s s′ ps ps′ r g z
 
 -- With long enough buffers a file gets Read's refusal.
 pub report-as-read : (f : List ℕ) (room s p : ℕ) → most-cells ≤ room → scratch-size ≤ s → 2 * trailer-of f .count ≤ p → report-refusal f room s p ≡ read-refusal f room

@@ -1,8 +1,7 @@
 // The lines of `folder`. What these functions write is run, not proved: they are proved safe, and to end.
 use listing::refused_line;
 use season::Report;
-ghost use Prim.Native.Nat.{_+_, _≤_};
-ghost use mathlib.Core.Path.{_≡_};
+ghost use Prim.Native.Nat.{_≤_};
 ghost use lib.ListN.{length};
 
 // Bytes of a text: a path and the line of a refusal, or the eight lines of a report.

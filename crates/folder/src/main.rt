@@ -16,15 +16,15 @@ const FILE_SIZE: usize = 16385;
 const MANY: usize = 100;
 
 // A file that was taken: whether it could be read, and what is answered for it.
-struct Taken {
+struct Opened {
     read: bool,
     answer: Reported,
 }
 
 // A file that cannot be read.
-fn unread(path: &[u8]) -> Taken {
+fn unread(path: &[u8]) -> Opened {
     os::fail(path);
-    Taken {
+    Opened {
         read: false,
         answer: Reported::Refused(2, 0),
     }
@@ -44,7 +44,7 @@ fn is_at_end(fd: i32) -> bool {
     libc::read(fd, &mut more) >= 0
 }
 
-fn taken(path: &[u8]) -> Taken {
+fn taken(path: &[u8]) -> Opened {
     let fd = os::open_read(path);
     if fd < 0 {
         return unread(path);
@@ -56,7 +56,7 @@ fn taken(path: &[u8]) -> Taken {
     if !whole {
         return unread(path);
     }
-    Taken {
+    Opened {
         read: true,
         answer: reported(&file[..n]),
     }

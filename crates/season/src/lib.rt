@@ -5,7 +5,7 @@ use whole::numbers::greater;
 use whole::numbers::lesser;
 ghost use mathlib.Core.Path.{_≡_};
 ghost use mathlib.Core.List.{[], _∷_};
-ghost use Prim.Native.Nat.{ℕ, _≤_};
+ghost use Prim.Native.Nat.{_≤_};
 ghost use Rattle.season.specs.Report.{«width-each», «rows-each», quotient, remainder, report, nothing};
 ghost use Rattle.season.specs.Pool.{narrower, pooled, empty, sound, «pool-refusal», pool, adds};
 ghost use Rattle.season.specs.laws.Pool.{Small};

@@ -1,33 +1,30 @@
 -- Report's answer, and what Read, Layout and Pool say of it. Assumes nothing.
-use mathlib.Core.Path.{_≡_, refl, sym, ap, _∙_}
-use mathlib.Core.List.{List, [], _∷_, _++_}
+use mathlib.Core.Path.{_≡_, sym, ap, _∙_}
+use mathlib.Core.List.{List, [], _∷_}
 use mathlib.Core.Bool.{_&&_}
 use Prim.Native.Nat.{ℕ, _*_, _≤_}
 use native.Mathlib.Omega.{arith}
 use borrow.Author.Tests.{ne-eqb, le-leb}
 use lib.Dec.{T, leb}
 use lib.IntN.{ℤ}
-use lib.ListN.{length, drop, replicate}
+use lib.ListN.{length}
 use Rattle.plan.specs.Limits.{most-cells, scratch-size}
-use Rattle.plan.specs.Records.{cells-of}
 use Rattle.plan.specs.Questions.{none, asked, or-else, layout, refusal, layout-given}
 use Rattle.plan.specs.laws.Kept.{asked-true, none-first, or-assoc}
 use Rattle.plan.specs.declared.Record.{Record}
 use Rattle.plan.specs.declared.Refusal.{Refusal}
-use Rattle.planfile.specs.Format.{trailer-of, records-of}
+use Rattle.planfile.specs.Format.{trailer-of}
 use Rattle.planfile.specs.FileSteps.{formed-refusal, header-refusal, body-refusal, file-refusal}
 use Rattle.planfile.specs.laws.File as Law
 use Rattle.planfile.specs.laws.ReadThen.{read-then-layout}
-use Rattle.positions.specs.Written.{written}
 use Rattle.layout.specs.Laid.{laid-of, positions-after, scratch-after, Lays}
 use Rattle.layout.specs.declared.Laid.the-variants.{Sheet}
-use Rattle.season.specs.Report.{Figure, report, Plans}
+use Rattle.season.specs.Report.{report, Plans}
 use Rattle.season.specs.Pool.{sound}
 use Rattle.season.specs.Promised.{report-sound}
-use Rattle.season.specs.declared.Report.{Report}
 use Rattle.season.specs.declared.Reported.{Reported}
 use Rattle.season.specs.declared.Reported.the-variants.{Figures, Refused}
-use Rattle.reporting.specs.Reporting.{file-table, own-sheet, figure-of, report-refusal, reported-of, table-left, scratch-left, positions-left, Reports}
+use Rattle.reporting.specs.Reporting.{file-table, figure-of, report-refusal, reported-of, table-left, scratch-left, positions-left, Reports}
 use Rattle.reporting.specs.laws.Reporting.{refusal-is, room-enough, scratch-enough, positions-enough, count-few, fit, sheet-bounds}
 use Rattle.engine.specs.declared.ReadAnswer.the-variants.{Plan}
 use Rattle.engine.specs.Read.{read-refusal, read-answered, table-after, Reads}

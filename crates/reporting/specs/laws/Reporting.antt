@@ -1,14 +1,14 @@
 -- From the questions to the report: for the code. Nothing that a reader must believe stands here. Assumes nothing.
 use mathlib.Core.Path.{_≡_, refl, sym, ap, _∙_}
 use mathlib.Core.List.{List, [], _∷_, _++_}
-use mathlib.Core.Bool.{true, _&&_}
+use mathlib.Core.Bool.{_&&_}
 use Prim.Native.Nat.{ℕ, _+_, _*_, _≤_, zero-le}
 use native.Mathlib.Omega.{arith}
 use native.Mathlib.Decide.{ℕ-discrete}
 use borrow.Author.Tests.{eq-eqb, ne-eqb}
 use lib.Dec.{leb, leb→le}
-use lib.IntN.{ℤ, pos}
-use lib.ListN.{length, take, drop, replicate}
+use lib.IntN.{ℤ}
+use lib.ListN.{length, take, drop}
 use Rattle.whole.specs.Whole.{plus}
 use Rattle.plan.specs.Limits.{between, most-cells, most-width, most-allowance, last-row, scratch-size, first-letter, last-letter}
 use Rattle.plan.specs.Lists.{from, some, mem}
@@ -17,17 +17,15 @@ use Rattle.plan.specs.Plan.{Table, W, D, row, subtree, dictated-bottom}
 use Rattle.plan.specs.laws.Plan.{subtree-read}
 use Rattle.plan.specs.laws.Sums.{total-subtree}
 use Rattle.plan.specs.Columns.{table-of}
-use Rattle.plan.specs.laws.Columns.{table-length}
 use Rattle.plan.specs.Fit.{Fit}
 use Rattle.plan.specs.Questions as calls
-use Rattle.plan.specs.Questions.{Buffer, Given, to-fill, scratch, nothing, none, asked, or-else, every, parent-lower, kind-known, box-sized, label-inside, label-fits, children-allowed, level-low, rows-few, allowance-small, once, each, sequence, puts, number, roomy, all-roomy, enough, in-file, holds, ask, read, layout, refusal, layout-given}
+use Rattle.plan.specs.Questions.{Buffer, Given, to-fill, scratch, nothing, none, asked, or-else, every, parent-lower, kind-known, box-sized, label-inside, label-fits, children-allowed, level-low, rows-few, allowance-small, once, each, sequence, puts, number, roomy, all-roomy, enough, in-file, holds, ask, read, refusal}
 use Rattle.plan.specs.laws.Questions.{first-none, both-none, asked-yes, stops, goes-on}
 use Rattle.plan.specs.laws.Kept.{asked-last, asked-true, and-true, none-first, or-assoc, put, with-each, kept, all-of, in-turn, refusal-kept, turn-ends, turn-once}
 use Rattle.plan.specs.laws.Steps.{and-left, and-right}
 use Rattle.plan.specs.declared.Refusal.{Refusal}
 use Rattle.rules.specs.Placement.{width, rows}
-use Rattle.contours.specs.Contour.{greatest}
-use Rattle.contours.specs.Sheet.{whole-contour, sheet}
+use Rattle.contours.specs.Sheet.{sheet}
 use Rattle.least.specs.Asked.{layout-asks}
 use Rattle.least.specs.laws.Bounds.{contour-room}
 use Rattle.least.specs.laws.Measures.{sheet-width, sheet-rows}
@@ -35,8 +33,7 @@ use Rattle.positions.specs.Written.{written}
 use Rattle.layout.specs.Laid.{Drawable, Drawn}
 use Rattle.layout.specs.declared.Measures.{Measures}
 use Rattle.planfile.specs.declared.Reading.{Reading}
-use Rattle.planfile.specs.declared.Trailer.{Trailer}
-use Rattle.planfile.specs.Format.{trailer-of, entry, records-of, file-given}
+use Rattle.planfile.specs.Format.{trailer-of, entry, file-given}
 use Rattle.planfile.specs.Reading.{column, columns-of, reading-of}
 use Rattle.planfile.specs.FileSteps.{formed-refusal, header-refusal, body-refusal, file-refusal, blank-reading}
 use Rattle.planfile.specs.laws.File as Law
@@ -46,7 +43,6 @@ use Rattle.planfile.specs.laws.ReadThen.{file-layout}
 use Rattle.season.specs.Report.{width-each, rows-each, report}
 use Rattle.season.specs.declared.Report.{Report}
 use Rattle.season.specs.declared.Reported.the-variants.{Figures, Refused}
-use Rattle.reporting.specs.declared.Draft.{Draft}
 use Rattle.reporting.specs.Reporting.{file-table, own-sheet, figure-of, report-given, report-refusal, reported-of, scratch-left, positions-left, taken, Drafts}
 
 -- ---- a sheet is at most 262,143 wide, and has at most 256 rows
@@ -142,7 +138,7 @@ module _ (f : List ℕ) (room s p : ℕ) where
     pub scratch-enough : scratch-size ≤ s
     scratch-enough = leb→le scratch-size s (and-right (leb most-cells room) _ (asked-yes 0 _ 0 (parts .0)))
 
-    positions-enough : 2 * n ≤ p
+    pub positions-enough : 2 * n ≤ p
     positions-enough = leb→le (2 * n) p (asked-yes 0 _ 0 (parts .2))
 
     headed : Headed f
@@ -155,7 +151,7 @@ module _ (f : List ℕ) (room s p : ℕ) where
     unfolding file-refusal header-refusal
     file-passes = ap (λ (x : Refusal). x .number) (or-assoc (formed-refusal f) letters (body-refusal f) ∙ first-none (formed-refusal f) _ (parts .1)) ∙ parts .3
 
-    fit : Fit (file-table f)
+    pub fit : Fit (file-table f)
     fit = layout-asks (file-table f) (trailer-of f .allowance) s p .0 (file-layout f file-passes s p scratch-enough positions-enough) .table .fit
 
     -- ---- for the code: the plan that was taken

@@ -1,14 +1,13 @@
 -- What the pool's questions establish, and the figures of both together. Assumes nothing.
 use mathlib.Core.Path.{_≡_, refl, sym, ap, _∙_}
 use mathlib.Core.List.{List, [], _∷_, _++_}
-use mathlib.Core.Bool.{Bool, true, false, _&&_}
 use Prim.Native.Nat.{ℕ, _+_, _*_, _≤_, min, max}
 use native.Mathlib.Omega.{arith}
 use native.Mathlib.Decide.{ℕ-discrete}
 use borrow.Author.Tests.{eq-eqb, ne-eqb}
 use lib.Dec.{T, eqb, leb, leb→le, eqb→eq}
 use lib.ListN.{length}
-use Rattle.plan.specs.Questions.{none, asked, or-else}
+use Rattle.plan.specs.Questions.{asked, or-else}
 use Rattle.plan.specs.laws.Questions.{both-none, asked-yes}
 use Rattle.plan.specs.laws.Kept.{asked-last}
 use Rattle.plan.specs.laws.Steps.{and-left, and-right}
@@ -16,7 +15,7 @@ use Rattle.plan.specs.declared.Refusal.{Refusal}
 use Rattle.season.specs.declared.Report.{Report}
 use Rattle.season.specs.declared.Reported.{Reported}
 use Rattle.season.specs.declared.Reported.the-variants.{Figures, Refused}
-use Rattle.season.specs.Report.{most-plans, cells-each, width-each, area-each, Figure, summed, narrowest, widest, report}
+use Rattle.season.specs.Report.{most-plans, cells-each, width-each, area-each, Figure, narrowest, report}
 use Rattle.season.specs.Pool.{narrower, pooled, empty, sound, sequence, number, holds, first-no, pool-refusal, pool, adds}
 use Rattle.season.specs.laws.Report.{length-after, summed-after, widest-after}
 
