@@ -1,24 +1,35 @@
 // folder FILE..: the report of the plans in these files together, `word number` a line, on standard output; before it a line for each file that is refused, its name and `refused N C`.
 // More than 1,024 plans: `refused 4 0` in the report's place. A file that cannot be read is told on standard error, and then there is no report, since it would not be that of the folder.
-mod lines;
-
-use crate::lines::Printed;
-use crate::lines::named_line;
-use crate::lines::report_text;
+use listing::refused_line;
 use plan::limits::MOST_CELLS;
 use plan::limits::SCRATCH_SIZE;
 use season::Reported;
+use summary::REPORT_SIZE;
+use summary::write_named;
+use summary::write_report;
+ghost use Prim.Native.Nat.{_≤_};
+ghost use lib.ListN.{length};
 
 // One byte more than a plan file may have is read, so that a longer one is refused.
 const FILE_SIZE: usize = 16385;
 
+// Bytes of a refused file's line: a path of 4,096 and the refusal.
+const LINE_SIZE: usize = 4352;
+
 // Files after which it is told how far the work has come.
 const MANY: usize = 100;
 
-// A file that was taken: whether it could be read, and what is answered for it.
+// A file that was opened: whether it could be read, and what is answered for it.
 struct Opened {
     read: bool,
     answer: Reported,
+}
+
+// The folder so far: whether each file could be read and each line written, and its report.
+struct Sum {
+    read: bool,
+    written: bool,
+    total: Reported,
 }
 
 // A file that cannot be read.
@@ -38,41 +49,45 @@ fn reported(file: &[u8]) -> Reported {
     draft.answer
 }
 
-// A read that takes nothing at the end of a file fails where it is no file that can be read, as a directory.
-fn is_at_end(fd: i32) -> bool {
+// What a file ends with can be read, where it is a file at all, and not a directory.
+fn is_file(fd: i32) -> bool {
     let mut more = [0u8; 1];
     libc::read(fd, &mut more) >= 0
 }
 
-fn taken(path: &[u8]) -> Opened {
+fn opened(path: &[u8]) -> Opened {
     let fd = os::open_read(path);
     if fd < 0 {
         return unread(path);
     }
     let mut file = [0u8; FILE_SIZE];
     let n = io::read_full(fd, &mut file);
-    let whole = is_at_end(fd);
-    libc::close(fd);
-    if !whole {
+    let read = is_file(fd);
+    if !read {
+        libc::close(fd);
         return unread(path);
     }
-    Opened {
-        read: true,
-        answer: reported(&file[..n]),
-    }
-}
-
-fn told(text: Printed) -> bool {
-    let bytes = text.bytes;
-    let n = text.length;
-    io::write_all(1, &bytes[..n])
+    libc::close(fd);
+    let answer = reported(&file[..n]);
+    Opened { read, answer }
 }
 
 // The line of a refused file.
-fn tell_refused(path: &[u8], answer: Reported) -> bool {
+fn tell_refused(path: &[u8], number: u8, cell: u16) -> bool
+    requires { ⌜ length (now path) ≤ 4096 ⌝ }
+{
+    let mut out = [0u8; LINE_SIZE];
+    let n = write_named(path, number as u32, cell as u32, &mut out);
+    io::write_all(1, &out[..n])
+}
+
+// The line of a file, if it is refused.
+fn tell(path: &[u8], answer: Reported) -> bool
+    requires { ⌜ length (now path) ≤ 4096 ⌝ }
+{
     match answer {
         Reported::Figures(_) => true,
-        Reported::Refused(number, cell) => told(named_line(path, number as u32, cell as u32)),
+        Reported::Refused(number, cell) => tell_refused(path, number, cell),
     }
 }
 
@@ -88,39 +103,53 @@ fn tell_progress(done: usize, all: usize) {
     io::write_all(2, b" files\n");
 }
 
+// That there are too many plans.
+fn tell_many(number: u8, cell: u16) -> bool {
+    let line = refused_line(number as u32, cell as u32);
+    let bytes = line.bytes;
+    let n = line.length;
+    io::write_all(1, &bytes[..n])
+}
+
 // The report of all, or that they are too many.
 fn tell_report(total: Reported) -> bool {
     match total {
-        Reported::Figures(report) => told(report_text(report)),
-        Reported::Refused(number, cell) => told(named_line(b"", number as u32, cell as u32)),
+        Reported::Figures(report) => {
+            let mut out = [0u8; REPORT_SIZE];
+            let n = write_report(report, &mut out);
+            io::write_all(1, &out[..n])
+        }
+        Reported::Refused(number, cell) => tell_many(number, cell),
     }
-}
-
-struct Sum {
-    whole: bool,
-    written: bool,
-    total: Reported,
 }
 
 // Argument number i is added.
 fn added(sum: Sum, i: usize) -> Sum {
     let mut path = io::buffer();
-    let length = os::arg(i, &mut path);
-    let next = taken(&path[..length]);
-    let answer = next.answer;
-    let total = sum.total;
-    let written = tell_refused(&path[..length], answer);
+    let n = os::arg(i, &mut path);
+    let file = opened(&path[..n]);
+    let before = sum.total;
+    if !file.read {
+        return Sum {
+            read: false,
+            written: sum.written,
+            total: before,
+        };
+    }
+    let answer = file.answer;
+    let written = tell(&path[..n], answer);
+    let total = season::add(before, answer);
     Sum {
-        whole: sum.whole & next.read,
+        read: sum.read,
         written: sum.written & written,
-        total: season::add(total, answer),
+        total,
     }
 }
 
 fn main() {
     let count = os::arg_count();
     let mut sum = Sum {
-        whole: true,
+        read: true,
         written: true,
         total: Reported::Figures(season::nothing()),
     };
@@ -130,12 +159,12 @@ fn main() {
         tell_progress(i, count - 1);
         i += 1;
     }
-    if !sum.whole {
+    if !sum.read {
         return;
     }
     let total = sum.total;
-    let written = sum.written & tell_report(total);
-    if !written {
+    let written = tell_report(total);
+    if !(sum.written & written) {
         io::write_all(2, b"folder: the report could not be written whole\n");
     }
 }
