@@ -1,20 +1,17 @@
 // folder FILE..: the report of the plans in these files together, `word number` a line, on standard output; before it a line for each file that is refused, its name and `refused N C`.
 // More than 1,024 plans: `refused 4 0` in the report's place. A file that cannot be read is told on standard error, and then there is no report, since it would not be that of the folder.
-use listing::refused_line;
 use plan::limits::MOST_CELLS;
 use plan::limits::SCRATCH_SIZE;
 use season::Reported;
-use summary::REPORT_SIZE;
+use summary::TEXT_SIZE;
 use summary::write_named;
+use summary::write_refused;
 use summary::write_report;
 ghost use Prim.Native.Nat.{_≤_};
 ghost use lib.ListN.{length};
 
 // One byte more than a plan file may have is read, so that a longer one is refused.
 const FILE_SIZE: usize = 16385;
-
-// Bytes of a refused file's line: a path of 4,096 and the refusal.
-const LINE_SIZE: usize = 4352;
 
 // Files after which it is told how far the work has come.
 const MANY: usize = 100;
@@ -76,8 +73,8 @@ fn opened(path: &[u8]) -> Opened {
 fn tell_refused(path: &[u8], number: u8, cell: u16) -> bool
     requires { ⌜ length (now path) ≤ 4096 ⌝ }
 {
-    let mut out = [0u8; LINE_SIZE];
-    let n = write_named(path, number as u32, cell as u32, &mut out);
+    let mut out = [0u8; TEXT_SIZE];
+    let n = write_named(path, number as u64, cell as u64, &mut out);
     io::write_all(1, &out[..n])
 }
 
@@ -105,17 +102,16 @@ fn tell_progress(done: usize, all: usize) {
 
 // That there are too many plans.
 fn tell_many(number: u8, cell: u16) -> bool {
-    let line = refused_line(number as u32, cell as u32);
-    let bytes = line.bytes;
-    let n = line.length;
-    io::write_all(1, &bytes[..n])
+    let mut out = [0u8; TEXT_SIZE];
+    let n = write_refused(number as u64, cell as u64, &mut out, 0);
+    io::write_all(1, &out[..n])
 }
 
 // The report of all, or that they are too many.
 fn tell_report(total: Reported) -> bool {
     match total {
         Reported::Figures(report) => {
-            let mut out = [0u8; REPORT_SIZE];
+            let mut out = [0u8; TEXT_SIZE];
             let n = write_report(report, &mut out);
             io::write_all(1, &out[..n])
         }

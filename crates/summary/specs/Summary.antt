@@ -33,15 +33,26 @@ rest-word = 114 ∷ 101 ∷ 115 ∷ 116 ∷ []
 unfoldable pub figure-line : Bytes → ℕ → Bytes
 figure-line word n = line (word ∷ decimal n ∷ [])
 
--- the eight lines
+-- the eight lines, in two halves
+unfoldable pub sums-lines : Report → Bytes
+sums-lines r = ((figure-line plans-word (r .plans) ++ figure-line cells-word (r .cells)) ++ figure-line widths-word (r .widths)) ++ figure-line areas-word (r .areas)
+
+unfoldable pub extremes-lines : Report → Bytes
+extremes-lines r = ((figure-line least-word (r .least) ++ figure-line greatest-word (r .greatest)) ++ figure-line mean-word (r .mean)) ++ figure-line rest-word (r .rest)
+
 unfoldable pub report-lines : Report → Bytes
-report-lines r =
-    (((((((figure-line plans-word (r .plans) ++ figure-line cells-word (r .cells)) ++ figure-line widths-word (r .widths)) ++ figure-line areas-word (r .areas))
-    ++ figure-line least-word (r .least)) ++ figure-line greatest-word (r .greatest)) ++ figure-line mean-word (r .mean)) ++ figure-line rest-word (r .rest))
+report-lines r = sums-lines r ++ extremes-lines r
 
 -- the line of a refused file: its name, then what the listing says of the refusal
 unfoldable pub named-line : Bytes → (number cell : ℕ) → Bytes
 named-line name k c = name ++ (space ∷ refused-line k c)
+
+-- bytes of a text's buffer, and of a file's name at most
+abbrev pub text-size : ℕ
+text-size = 4352
+
+abbrev pub most-name : ℕ
+most-name = 4096
 
 -- bytes of a figure's line and of a report, at most
 abbrev pub figure-size : ℕ

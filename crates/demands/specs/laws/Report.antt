@@ -36,9 +36,9 @@ as-read f room s p h k l =
     let a : asked 1 (leb most-cells room && leb scratch-size s) 0 ≡ none = rw (le-leb most-cells room h, le-leb scratch-size s k) (asked-true 0 0) in
     let b : asked 1 (leb (2 * trailer-of f .count) p) 0 ≡ none = rw (le-leb (2 * trailer-of f .count) p l) (asked-true 0 0) in
     let c : asked 1 (leb most-cells room) 0 ≡ none = rw (le-leb most-cells room h) (asked-true 0 0) in
-    refusal-is f room s p
-    ∙ rw (a, b) (none-first _ ∙ ap (or-else (formed-refusal f)) (none-first _) ∙ sym (or-assoc (formed-refusal f) _ (body-refusal f)))
-    ∙ sym (Law.read-refusal f room ∙ rw c (none-first (file-refusal f)))
+    let ours : report-refusal f room s p ≡ file-refusal f = refusal-is f room s p ∙ rw (a, b) (none-first _ ∙ ap (or-else (formed-refusal f)) (none-first _) ∙ sym (or-assoc (formed-refusal f) _ (body-refusal f))) in
+    let theirs : read-refusal f room ≡ file-refusal f = Law.read-refusal f room ∙ rw c (none-first (file-refusal f)) in
+    ours ∙ sym theirs
 
 -- a plan that Report does not refuse is within the limits per plan
 pub real : (f : List ℕ) (room s p : ℕ) → report-refusal f room s p ≡ none → Plans (figure-of f ∷ [])
