@@ -52,7 +52,7 @@ fn is_file(fd: i32) -> bool {
     libc::read(fd, &mut more) >= 0
 }
 
-fn opened(path: &[u8]) -> Opened {
+fn answered(path: &[u8]) -> Opened {
     let fd = os::open_read(path);
     if fd < 0 {
         return unread(path);
@@ -123,7 +123,7 @@ fn tell_report(total: Reported) -> bool {
 fn added(sum: Sum, i: usize) -> Sum {
     let mut path = io::buffer();
     let n = os::arg(i, &mut path);
-    let file = opened(&path[..n]);
+    let file = answered(&path[..n]);
     let before = sum.total;
     if !file.read {
         return Sum {
