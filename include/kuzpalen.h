@@ -8,7 +8,7 @@
  * call answers on every input; none keeps a pointer, allocates or fails otherwise.
  *
  * Every answer but a label's part begins with a refusal: `number` is 0, or the number of the first
- * question answered "no" (1 to 21), and `cell` is then the lowest cell at fault, 0 where no cell is
+ * question answered "no" (1 to 22), and `cell` is then the lowest cell at fault, 0 where no cell is
  * concerned. All other fields of a refusal are 0, and every lent buffer is then as it was before the call.
  */
 #ifndef KUZPALEN_H
@@ -21,8 +21,8 @@
 extern "C" {
 #endif
 
-#define KUZPALEN_CELLS 256u           /* the most cells of a plan; the records that Read's and Join's tables need */
-#define KUZPALEN_SCRATCH 16384u       /* the numbers that the scratch of Layout and of Frame needs */
+#define KUZPALEN_CELLS 256u           /* the most cells of a plan; the records that Read's, Join's and Report's tables need */
+#define KUZPALEN_SCRATCH 16384u       /* the numbers that the scratch of Layout, Frame and Report needs */
 #define KUZPALEN_SECOND 1024u         /* the numbers that the second scratch of Start, Step and Reach needs */
 #define KUZPALEN_LISTING_SIZE 17408u  /* the bytes that List's output needs, whatever the file */
 #define KUZPALEN_COPY_SIZE 16384u     /* the bytes that Copy's output needs, whatever the plan */
@@ -182,6 +182,27 @@ typedef struct {
     uint32_t right;        /* the greatest right edge of its subtree less the top cell's x */
 } kuzpalen_reach_answer;
 
+#define KUZPALEN_PLANS 1024u          /* the most plans of a report */
+
+/* The figures of some plans, zeros throughout for none. Beside each the most that KUZPALEN_PLANS plans make
+ * of it. Pass every field on as it was answered. */
+typedef struct {
+    uint32_t plans;        /* 1,024 */
+    uint32_t cells;        /* 262,144 */
+    uint32_t widths;       /* the sum of the sheets' widths: 268,434,432 */
+    uint64_t areas;        /* the sum of width times rows: 68,719,214,592 */
+    uint32_t least;        /* the least width: 262,143 */
+    uint32_t greatest;     /* the greatest width: 262,143 */
+    uint32_t mean;         /* the mean width: widths divided by plans, 262,143, */
+    uint32_t rest;         /* and what is left over: 1,023 */
+} kuzpalen_folder;
+
+typedef struct {
+    uint8_t number;
+    uint16_t cell;
+    kuzpalen_folder report;
+} kuzpalen_report_answer;
+
 /* A plan file is of one of two forms, which its last two bytes tell, or question 3 refuses. Both have the
  * label bytes first, then the records, then a trailer of 8 bytes. Hexadecimal 53 54: records of 8 bytes,
  * parent (2), kind, width, depth, label length, label start (2), and so widths to 255. Hexadecimal 53 55:
@@ -340,6 +361,22 @@ kuzpalen_step_answer kuzpalen_step(const kuzpalen_record *table, size_t table_le
 kuzpalen_reach_answer kuzpalen_reach(const kuzpalen_record *table, size_t table_len, uint32_t allowance,
                                      const uint32_t *scratch, size_t scratch_len,
                                      const uint32_t *second, size_t second_len, size_t cell);
+
+/* Report: the report of the one plan in a file, with its sheet at its own allowance. It is Read and then
+ * Layout: the table is left as Read leaves it, the scratch and the positions as Layout leaves them.
+ * `table_len` is at least KUZPALEN_CELLS and `scratch_len` at least KUZPALEN_SCRATCH, or question 1
+ * refuses; `positions_len` is at least twice the file's number of cells (512 always suffices), or question 1
+ * refuses right after 4. A file that Read refuses gets that refusal. */
+kuzpalen_report_answer kuzpalen_report(const uint8_t *file, size_t file_len,
+                                       kuzpalen_record *table, size_t table_len,
+                                       uint32_t *scratch, size_t scratch_len,
+                                       int32_t *positions, size_t positions_len);
+
+/* Pool: the report of two folders together, the same whichever comes first. The mean is worked out afresh.
+ * Question 22 refuses where one of the two has over KUZPALEN_PLANS plans, or per plan over 256 cells,
+ * 262,143 of width or 67,108,608 of width times rows, or no plan and a figure that is not 0; then question 4
+ * where both together have over KUZPALEN_PLANS plans. Cell 0 is named. */
+kuzpalen_report_answer kuzpalen_pool(kuzpalen_folder a, kuzpalen_folder b);
 
 #ifdef __cplusplus
 }

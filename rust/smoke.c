@@ -158,6 +158,23 @@ static int steps_good(const kuzpalen_record *table, uint32_t *scratch) {
         && kuzpalen_reach(table, 3, 0, scratch, KUZPALEN_SCRATCH, second, KUZPALEN_SECOND, 3).number == 16;
 }
 
+/* The printed example's report, and pools. */
+static int folder_good(void) {
+    static uint32_t numbers[KUZPALEN_SCRATCH];
+    kuzpalen_record cells[KUZPALEN_CELLS];
+    int32_t p[6];
+    kuzpalen_report_answer one = kuzpalen_report(file, sizeof file, cells, KUZPALEN_CELLS, numbers, KUZPALEN_SCRATCH, p, 6);
+    kuzpalen_folder r = one.report, half = {512, 0, 0, 0, 0, 0, 0, 0}, more = {513, 0, 0, 0, 0, 0, 0, 0}, odd = {0, 0, 0, 0, 0, 0, 0, 1};
+    kuzpalen_report_answer two = kuzpalen_pool(r, r);
+    return one.number == 0 && r.plans == 1 && r.cells == 3 && r.widths == 9 && r.areas == 36 && r.least == 9
+        && r.greatest == 9 && r.mean == 9 && r.rest == 0 && p[2] == -4 && cells[2].width == 5
+        && two.number == 0 && two.report.plans == 2 && two.report.areas == 72 && two.report.mean == 9
+        && kuzpalen_pool(half, half).report.plans == KUZPALEN_PLANS && kuzpalen_pool(half, more).number == 4
+        && kuzpalen_pool(r, odd).number == 22
+        && kuzpalen_report(file, sizeof file, cells, KUZPALEN_CELLS, numbers, KUZPALEN_SCRATCH, p, 5).number == 1
+        && kuzpalen_report(file, 15, cells, KUZPALEN_CELLS, numbers, KUZPALEN_SCRATCH, p, 6).number == 2;
+}
+
 int main(void) {
     static uint32_t scratch[KUZPALEN_SCRATCH];
     kuzpalen_record table[3] = {
@@ -200,7 +217,7 @@ int main(void) {
     p[2] = -KUZPALEN_FARTHEST - 1;
     kuzpalen_ends_answer far = kuzpalen_ends(table, 3, p, 6, 2);
     good = good && far.number == 15 && far.cell == 1;
-    good = good && strip && file_good() && wide_good() && listing_good() && copy_good() && mend_good() && drill_good();
+    good = good && strip && file_good() && wide_good() && listing_good() && copy_good() && mend_good() && drill_good() && folder_good();
     puts(good ? "sheet B from C: good" : "sheet B from C: DIFFERENCE");
     return good ? 0 : 1;
 }

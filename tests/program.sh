@@ -334,4 +334,49 @@ same "an empty plan" "refused 2 0" "$("$drill" "$work/empty" < "$work/empty")"
 "$drill" plans/printed.plan < "$work/empty" > /dev/full 2> "$work/err"
 same "standard error, a drill to a full device" "drill: the transcript could not be written whole" "$(cat "$work/err")"
 
+# ---- folder: the report of the plans that its arguments name, worked out here from the first lines of their listings
+folder=target/bin/folder
+[ -x "$folder" ] || { echo "tests/program.sh: $folder is not built: rt check folder"; exit 1; }
+# summed LISTING...: the report of the sheets whose first lines these are
+summed() {
+    head -qn 1 "$@" | awk '{ n++; c += $2; w += $4; a += $4 * $5; if (n == 1 || $4 < l) l = $4; if ($4 > g) g = $4 }
+        END { printf "plans %d\ncells %d\nwidths %d\nareas %d\nleast %d\ngreatest %d\nmean %d\nrest %d\n", n, c, w, a, l, g, n ? int(w / n) : 0, n ? w % n : 0 }'
+}
+# reported WANTED FILE...: what folder prints, and that it says nothing on standard error
+reported() {
+    wanted=$1
+    shift
+    "$folder" "$@" > "$work/out" 2> "$work/err"
+    same "status of folder, $# files" 0 $?
+    same_files "the report of $# files" "$wanted" "$work/out"
+    same_files "standard error of folder, $# files" "$work/empty" "$work/err"
+}
+summed plans/*.txt > "$work/season"
+reported "$work/season" plans/*.plan
+reported "$work/season" $(printf '%s\n' plans/*.plan | sort -r)
+summed /dev/null > "$work/nobody"
+reported "$work/nobody"
+{ echo "$work/short.plan refused 2 0"; echo "$work/child.plan refused 7 1"; summed plans/A.txt plans/B.txt; } > "$work/some"
+reported "$work/some" plans/A.plan "$work/short.plan" plans/B.plan "$work/child.plan"
+{ echo "$work/long.plan refused 2 0"; cat "$work/nobody"; } > "$work/none"
+reported "$work/none" "$work/long.plan"
+# 1,024 plans, and one more
+many=$(for i in {1..1024}; do echo plans/B.plan; done)
+summed $(for i in {1..1024}; do echo plans/B.txt; done) > "$work/season"
+"$folder" $many > "$work/out" 2> "$work/err"
+same_files "the report of 1,024 files" "$work/season" "$work/out"
+same "lines on standard error for 1,024 files" 10 "$(wc -l < "$work/err")"
+same "the last of them" "folder: 1000 of 1024 files" "$(tail -n 1 "$work/err")"
+"$folder" $many plans/A.plan "$work/short.plan" > "$work/out" 2> "$work/err"
+same "what is printed of 1,025 plans" "$work/short.plan refused 2 0
+refused 4 0" "$(cat "$work/out")"
+# trouble: a file that is not there, a directory, a full device
+for name in "$work/none.plan" "$work"; do
+    "$folder" plans/A.plan "$name" "$work/short.plan" > "$work/out" 2> "$work/err"
+    same "what is printed beside $name" "$work/short.plan refused 2 0" "$(cat "$work/out")"
+    same "lines on standard error for $name" 1 "$(wc -l < "$work/err")"
+done
+"$folder" plans/A.plan > /dev/full 2> "$work/err"
+same "what folder says of a full device" "folder: the report could not be written whole" "$(cat "$work/err")"
+
 echo "the programs and sheet.sh: $checks checks, no difference"

@@ -62,6 +62,11 @@ use Rattle.answers.specs.declared.DrillAnswer.{DrillAnswer}
 use Rattle.answers.specs.declared.StartAnswer.{StartAnswer}
 use Rattle.answers.specs.declared.StepAnswer.{StepAnswer}
 use Rattle.answers.specs.declared.ReachAnswer.{ReachAnswer}
+use Rattle.season.specs.Report.{nothing}
+use Rattle.season.specs.declared.Reported.{Reported}
+use Rattle.season.specs.declared.Reported.the-variants.{Figures, Refused as Unreported}
+use Rattle.reporting.specs.Reporting.{Reports}
+use Rattle.answers.specs.declared.ReportAnswer.{ReportAnswer}
 
 unfoldable pub read-answer : Read → ReadAnswer
 read-answer (Plan n al) = record { number = 0; cell = 0; allowance = al; count = n }
@@ -211,3 +216,14 @@ pub record Reaching (t : Table) (al : ℕ) (xs ms : List ℕ) (c : ℕ) (r : Rea
   pub reached : Reached
   pub reaches : Reaches t al xs ms c reached
   pub answers : r ≡ reach-answer reached
+
+-- the report of no plan with a refusal
+unfoldable pub report-answer : Reported → ReportAnswer
+report-answer (Figures r) = record { number = 0; cell = 0; report = r }
+report-answer (Unreported k c) = record { number = k; cell = c; report = nothing }
+
+-- a call of Report, as `Reports` has it, with the struct for its answer
+pub record Reporting (f : List ℕ) (t t′ : List Record) (s s′ : List ℕ) (ps ps′ : List ℤ) (r : ReportAnswer) : Type 0 where
+  pub reported : Reported
+  pub reports : Reports f t t′ s s′ ps ps′ reported
+  pub answers : r ≡ report-answer reported

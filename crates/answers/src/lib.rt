@@ -12,9 +12,11 @@ use mending::Mended;
 use pen::Stroke;
 use plan::Refusal;
 use printing::Listed;
+use season::Report;
+use season::Reported;
 use strokes::Stroked;
 ghost use mathlib.Core.Path.{_≡_};
-ghost use Rattle.answers.specs.Answers.{«read-answer», «laid-answer», «check-answer», «ends-answer», «list-answer», «frame-answer», «copy-answer», «mend-answer», «pen-answer», «stroke-answer», «strip-answer», «join-answer», «drill-answer», «start-answer», «step-answer», «reach-answer»};
+ghost use Rattle.answers.specs.Answers.{«read-answer», «laid-answer», «check-answer», «ends-answer», «list-answer», «frame-answer», «copy-answer», «mend-answer», «pen-answer», «stroke-answer», «strip-answer», «join-answer», «drill-answer», «start-answer», «step-answer», «reach-answer», «report-answer»};
 
 // Number and cell of the refusal, or 0 and 0; the number of cells and the allowance.
 #[repr(C)]
@@ -147,6 +149,14 @@ pub struct ReachAnswer {
     pub cell: u16,
     pub left: u32,
     pub right: u32,
+}
+
+// Number and cell of the refusal, or 0 and 0; the report, zeros with a refusal.
+#[repr(C)]
+pub struct ReportAnswer {
+    pub number: u8,
+    pub cell: u16,
+    pub report: Report,
 }
 
 // The answer of Read as a struct.
@@ -511,6 +521,24 @@ pub fn told_reach(answer: Reached) -> ReachAnswer
             cell,
             left: 0,
             right: 0,
+        },
+    }
+}
+
+// The answer of Report or of Pool as a struct.
+pub fn told_report(answer: Reported) -> ReportAnswer
+    ensures { λ r. ⌜ r ≡ report-answer answer ⌝ }
+{
+    match answer {
+        Reported::Figures(report) => ReportAnswer {
+            number: 0,
+            cell: 0,
+            report,
+        },
+        Reported::Refused(number, cell) => ReportAnswer {
+            number,
+            cell,
+            report: season::nothing(),
         },
     }
 }

@@ -12,6 +12,7 @@ use answers::ListAnswer;
 use answers::MendAnswer;
 use answers::ReachAnswer;
 use answers::ReadAnswer;
+use answers::ReportAnswer;
 use answers::StartAnswer;
 use answers::StepAnswer;
 use answers::StripAnswer;
@@ -27,19 +28,22 @@ use answers::told_list;
 use answers::told_mend;
 use answers::told_reach;
 use answers::told_read;
+use answers::told_report;
 use answers::told_start;
 use answers::told_step;
 use answers::told_strip;
 use answers::told_stroke;
 use plan::Page;
 use plan::Record;
+use season::Report;
 ghost use mathlib.Core.Path.{_≡_};
 ghost use Rattle.plan.specs.Records.{«cells-of»};
 ghost use Rattle.planfile.specs.Reading.{«label-refusal», «label-part»};
 ghost use Rattle.checker.specs.Checked.{«checked-of»};
 ghost use Rattle.ends.specs.Ended.{«ended-of»};
 ghost use Rattle.strokes.specs.Stroked.{«stroked-of»};
-ghost use Rattle.answers.specs.Answers.{«check-answer», «ends-answer», «stroke-answer», Filling, Laying, ListFilling, Framing, CopyFilling, MendFilling, Stripping, Joining, Drilling, Starting, Stepping, Reaching};
+ghost use Rattle.answers.specs.Answers.{«check-answer», «ends-answer», «stroke-answer», Filling, Laying, ListFilling, Framing, CopyFilling, MendFilling, Stripping, Joining, Drilling, Starting, Stepping, Reaching, Reporting, «report-answer»};
+ghost use Rattle.season.specs.Pool.{pool};
 
 #[no_mangle]
 pub extern "C" fn kuzpalen_read(file: &[u8], table: &mut [Record]) -> ReadAnswer
@@ -225,4 +229,25 @@ pub extern "C" fn kuzpalen_reach(
 {
     let answer = engine::reach(table, allowance, scratch, second, cell);
     told_reach(answer)
+}
+
+#[no_mangle]
+pub extern "C" fn kuzpalen_report(
+    file: &[u8],
+    table: &mut [Record],
+    scratch: &mut [u32],
+    positions: &mut [i32],
+) -> ReportAnswer
+    ensures { λ r. ⌜ Reporting (now (file .entry)) (now (table .entry)) (now (table .exit)) (now (scratch .entry)) (now (scratch .exit)) (now (positions .entry)) (now (positions .exit)) r ⌝ }
+{
+    let answer = engine::report(file, table, scratch, positions);
+    told_report(answer)
+}
+
+#[no_mangle]
+pub extern "C" fn kuzpalen_pool(a: Report, b: Report) -> ReportAnswer
+    ensures { λ r. ⌜ r ≡ report-answer (pool a b) ⌝ }
+{
+    let answer = engine::pool(a, b);
+    told_report(answer)
 }

@@ -5,6 +5,7 @@ use mathlib.Core.Path.{_≡_, refl}
 use mathlib.Core.List.{List, [], _∷_, _++_, map}
 use mathlib.Core.Logic.{_↔_}
 use Prim.Native.Nat.{ℕ, _+_, _*_, _-_, _/_, _%_, _^_, _≤_, _<_}
+use lib.Dec.{T}
 use lib.ListN.{length, getD, take, drop, replicate}
 use lib.IntN.{ℤ, pos, _+ℤ_, _-ℤ_}
 use lib.Signed.{_≤ℤ_, _<ℤ_}
@@ -66,6 +67,13 @@ use Rattle.raster.specs.Worked as strips
 use Rattle.raster.specs.laws.Worked as strips-laws
 use Rattle.strips.specs.Stripped.{Strips}
 use Rattle.strips.specs.laws.Promised as stripping
+use Rattle.season.specs.Report.{report, Plans}
+use Rattle.season.specs.Pool.{sound, pool}
+use Rattle.season.specs.Promised as season
+use Rattle.season.specs.declared.Report.{Report}
+use Rattle.season.specs.declared.Reported.{Reported}
+use Rattle.season.specs.declared.Reported.the-variants as reported
+use Rattle.reporting.specs.Reporting.{file-table, figure-of, report-refusal, Reports}
 use Rattle.engine.specs.declared.ReadAnswer.{ReadAnswer}
 use Rattle.engine.specs.declared.ReadAnswer.the-variants.{Plan, Refused}
 use Rattle.engine.specs.Read.{read-refusal, Reads}
@@ -82,6 +90,7 @@ use Rattle.demands.specs.laws.Layout as laying
 use Rattle.demands.specs.laws.List as listing
 use Rattle.demands.specs.laws.ReadThen as then
 use Rattle.demands.specs.laws.Demand as demand
+use Rattle.demands.specs.laws.Report as reporting
 use Rattle.demands.specs.laws.WorkedCalls as worked-calls
 use Rattle.demands.specs.WorkedCalls.{called, due}
 use lib.Dec.{T}
@@ -462,3 +471,40 @@ module _ (t : Table) (al : ℕ) (xs ms : List ℕ) (c : ℕ) (r : Reached) (g : 
 
   pub reach-waits : ¬ (T (mem c (take k (postorder t)))) → r ≡ reached.Refused 20 c
   reach-waits = making.reach-waits t al xs ms c r g z k h
+
+-- ==== THE SEASON'S FOLDER (document 02, E14)
+module _ (f : List ℕ) (t t′ : List Record) (s s′ : List ℕ) (ps ps′ : List ℤ) (r : Reported) (g : Reports f t t′ s s′ ps ps′ r) where
+  -- A refusal is answered by its number and cell, and leaves the table, the scratch and the positions as they were.
+  pub report-refuses : ¬ (report-refusal f (length t) (length s) (length ps) .number ≡ 0)
+      → (r ≡ reported.Refused (report-refusal f (length t) (length s) (length ps) .number) (report-refusal f (length t) (length s) (length ps) .cell)) × (t′ ≡ t) × (s′ ≡ s) × (ps′ ≡ ps)
+  report-refuses = reporting.unchanged f t t′ s s′ ps ps′ r g
+
+  -- Where no question refuses:
+  module _ (z : report-refusal f (length t) (length s) (length ps) ≡ none) where
+    -- the report of this one plan, whose width and rows are those of its sheet at its own allowance,
+    pub report-gives : r ≡ reported.Figures (report (figure-of f ∷ []))
+    report-gives = reporting.figures f t t′ s s′ ps ps′ r g z
+
+    -- the table as Read leaves it,
+    pub report-reads : Reads f t t′ (Plan (trailer-of f .count) (trailer-of f .allowance))
+    report-reads = reporting.reads f t t′ s s′ ps ps′ r g z
+
+    -- and the scratch and the positions as Layout leaves them, with that width and those rows.
+    pub report-lays : Lays (file-table f) (trailer-of f .allowance) s s′ ps ps′ (Sheet (figure-of f .width) (figure-of f .rows))
+    report-lays = reporting.lays f t t′ s s′ ps ps′ r g z
+
+    -- 22 does not refuse that report.
+    pub report-passes : T (sound (report (figure-of f ∷ [])))
+    report-passes = reporting.passes-22 f t t′ s s′ ps ps′ r g z
+
+-- With long enough buffers a file gets Read's refusal.
+pub report-as-read : (f : List ℕ) (room s p : ℕ) → most-cells ≤ room → scratch-size ≤ s → 2 * trailer-of f .count ≤ p → report-refusal f room s p ≡ read-refusal f room
+report-as-read = reporting.as-read
+
+-- A plan that Report does not refuse is within the limits per plan, so that 22 refuses neither its report nor, up to 1,024 plans, a pool of such (`pool-joins`, `report-sound`, in season's Promised).
+pub report-real : (f : List ℕ) (room s p : ℕ) → report-refusal f room s p ≡ none → Plans (figure-of f ∷ [])
+report-real = reporting.real
+
+-- Whichever of two reports comes first, the pool is the same.
+pub pool-turned : (a b : Report) → pool a b ≡ pool b a
+pool-turned = season.pool-turned

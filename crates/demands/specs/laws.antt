@@ -3,6 +3,7 @@ pub mod Demand
 pub mod Layout
 pub mod List
 pub mod ReadThen
+pub mod Report
 pub mod WorkedCalls
 pub mod Copy
 pub mod Making

@@ -1,3 +1,5 @@
 pub mod Join
 pub mod Lent
+pub mod Filled
 pub mod Read
+pub mod Report

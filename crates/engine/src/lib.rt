@@ -18,6 +18,8 @@ use printing::Listed;
 use records::columns_of;
 use records::fill;
 use records::lettered_of;
+use season::Report;
+use season::Reported;
 ghost use mathlib.Core.Path.{_≡_};
 ghost use Rattle.plan.specs.Records.{«cells-of»};
 ghost use Rattle.planfile.specs.Reading.{«label-refusal»};
@@ -35,6 +37,8 @@ ghost use Rattle.following.specs.Drilled.{Drills};
 ghost use Rattle.engine.specs.Read.{Reads, «read-of»};
 ghost use Rattle.engine.specs.Label.{«label-of»};
 ghost use Rattle.engine.specs.Hung.{Hangs};
+ghost use Rattle.season.specs.Pool.{pool};
+ghost use Rattle.reporting.specs.Reporting.{Reports};
 
 // The number of cells and the allowance; or the refusal's number and cell.
 pub enum ReadAnswer {
@@ -213,4 +217,26 @@ pub fn reach(
 {
     let t = columns_of(table);
     finishing::reach(t, allowance, scratch, second, cell)
+}
+
+// Report: the report of one plan file, with its sheet at its own allowance. The table is filled as Read fills it, scratch and positions are left as Layout leaves them; or the refusal.
+pub fn report(
+    file: &[u8],
+    table: &mut [Record],
+    scratch: &mut [u32],
+    positions: &mut [i32],
+) -> Reported
+    ensures { λ r. ⌜ Reports (now (file .entry)) (now (table .entry)) (now (table .exit)) (now (scratch .entry)) (now (scratch .exit)) (now (positions .entry)) (now (positions .exit)) r ⌝ }
+{
+    let draft = reporting::report(file, table.len(), scratch, positions);
+    let reading = draft.reading;
+    fill(reading, reading.columns.count, table);
+    draft.answer
+}
+
+// Pool: the report of two folders together; or the refusal.
+pub fn pool(a: Report, b: Report) -> Reported
+    ensures { λ r. ⌜ r ≡ pool a b ⌝ }
+{
+    season::pool(a, b)
 }

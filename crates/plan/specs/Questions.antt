@@ -148,6 +148,7 @@ pub data Call : Type 0 where
   join : Call
   drill : Call
   start step reach : Call
+  report : Call
 
 -- the numbers of the questions that a call puts
 unfoldable pub puts : Call → List ℕ
@@ -170,6 +171,7 @@ puts drill = 1 ∷ 4 ∷ 6 ∷ 7 ∷ 8 ∷ 11 ∷ 12 ∷ 13 ∷ 21 ∷ []
 puts start = 1 ∷ 4 ∷ 6 ∷ 7 ∷ 8 ∷ 11 ∷ 12 ∷ 13 ∷ 14 ∷ []
 puts step = 1 ∷ 4 ∷ 6 ∷ 7 ∷ 8 ∷ 11 ∷ 12 ∷ 13 ∷ 14 ∷ []
 puts reach = 1 ∷ 4 ∷ 6 ∷ 7 ∷ 8 ∷ 11 ∷ 12 ∷ 13 ∷ 14 ∷ 16 ∷ 20 ∷ []
+puts report = from 1 14
 
 -- whether the root may be named
 unfoldable pub root-too : Call → Bool
@@ -189,6 +191,7 @@ root-too drill = true
 root-too start = true
 root-too step = true
 root-too reach = true
+root-too report = true
 
 -- ---- what each question asks
 unfoldable pub roomy : Buffer → Bool

@@ -52,13 +52,16 @@ abbrev pub counted : (form : Form) (size begin n : ℕ) → Bool
 counted form size begin n = between 1 most-cells n && eqb (begin + record-size form * n + trailer-size) size
 
 module _ (f : List ℕ) where
-  -- questions 2 to 5
-  unfoldable pub header-refusal : Refusal
-  header-refusal =
+  -- questions 2 to 4
+  unfoldable pub formed-refusal : Refusal
+  formed-refusal =
       or-else (asked 2 (between least-file most-file (length f)) 0)
       (or-else (asked 3 (marked (trailer-of f .mark)) 0)
-      (or-else (asked 4 (counted (form f) (length f) (trailer-of f .begin) (trailer-of f .count)) 0)
-      (asked 5 (every (between first-letter last-letter) (take (trailer-of f .begin) f)) 0)))
+      (asked 4 (counted (form f) (length f) (trailer-of f .begin) (trailer-of f .count)) 0))
+
+  -- questions 2 to 5
+  unfoldable pub header-refusal : Refusal
+  header-refusal = or-else formed-refusal (asked 5 (every (between first-letter last-letter) (take (trailer-of f .begin) f)) 0)
 
   -- questions 6 to 14
   unfoldable pub body-refusal : Refusal

@@ -5,8 +5,10 @@ pub mod table;
 
 use crate::cursor::Cursor;
 use crate::questions::examined;
-use crate::questions::refused;
+pub use crate::questions::formed_refusal;
+pub use crate::questions::refused;
 use crate::table::place;
+pub use crate::table::trailer as trailer_of;
 use crate::table::trailer;
 use asking::asked;
 use plan::Columns;

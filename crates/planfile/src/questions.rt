@@ -28,7 +28,7 @@ ghost use Prim.Native.Nat.{_+_, _*_, _^_, _≤_, _<_};
 ghost use lib.ListN.{length, take};
 ghost use Rattle.plan.specs.Limits.{between, «first-letter», «last-letter», «least-file», «most-file», «most-cells»};
 ghost use Rattle.plan.specs.Questions.{every, «at-each»};
-ghost use Rattle.planfile.specs.FileSteps.{inside, counted, «record-refusal», «records-at», «header-refusal», «columns-refusal», «blank-reading», examined};
+ghost use Rattle.planfile.specs.FileSteps.{inside, counted, «record-refusal», «records-at», «formed-refusal», «header-refusal», «columns-refusal», «blank-reading», examined};
 
 // Question 2.
 fn file_sized(size: usize) -> bool
@@ -145,9 +145,9 @@ pub fn records_refusal<'a>(
     Refusal { number: 0, cell: 0 }
 }
 
-// Questions 2 to 5.
-fn header_refusal(file: &[u8]) -> Refusal
-    ensures { λ r. ⌜ r ≡ header-refusal (now (file .entry)) ⌝ }
+// Questions 2 to 4.
+pub fn formed_refusal(file: &[u8]) -> Refusal
+    ensures { λ r. ⌜ r ≡ formed-refusal (now (file .entry)) ⌝ }
 {
     let size = file.len();
     let sized = asked(2, file_sized(size), 0);
@@ -159,16 +159,23 @@ fn header_refusal(file: &[u8]) -> Refusal
     if right.number != 0 {
         return right;
     }
-    let begin = t.begin as usize;
-    let full = asked(
+    asked(
         4,
-        counted(form_of(t.mark), size, begin, t.count as usize),
+        counted(form_of(t.mark), size, t.begin as usize, t.count as usize),
         0,
-    );
-    if full.number != 0 {
-        return full;
+    )
+}
+
+// Questions 2 to 5.
+fn header_refusal(file: &[u8]) -> Refusal
+    ensures { λ r. ⌜ r ≡ header-refusal (now (file .entry)) ⌝ }
+{
+    let formed = formed_refusal(file);
+    if formed.number != 0 {
+        return formed;
     }
-    asked(5, letters_printable(file, begin), 0)
+    let t = trailer(file);
+    asked(5, letters_printable(file, t.begin as usize), 0)
 }
 
 // Questions 6 to 14, put to the records that were read.

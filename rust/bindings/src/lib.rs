@@ -92,8 +92,28 @@ pub struct Reach {
     pub right: u32,
 }
 
+/// The figures of up to 1,024 plans, zeros throughout for none. Beside each field the most that it can be.
+#[repr(C)]
+#[derive(Clone, Copy, Debug, Default, PartialEq, Eq)]
+pub struct Report {
+    /// 1,024
+    pub plans: u32,
+    /// 262,144
+    pub cells: u32,
+    /// The sum of widths: 268,434,432
+    pub widths: u32,
+    /// The sum of width times rows: 68,719,214,592
+    pub areas: u64,
+    /// The least and the greatest width: 262,143
+    pub least: u32,
+    pub greatest: u32,
+    /// The mean width, 262,143, and what is left over, 1,023
+    pub mean: u32,
+    pub rest: u32,
+}
+
 mod raw {
-    use super::{Page, Record};
+    use super::{Page, Record, Report};
 
     #[repr(C)]
     pub struct ReadAnswer {
@@ -227,6 +247,13 @@ mod raw {
         pub right: u32,
     }
 
+    #[repr(C)]
+    pub struct ReportAnswer {
+        pub number: u8,
+        pub cell: u16,
+        pub report: Report,
+    }
+
     extern "C" {
         pub fn kuzpalen_read(file: *const u8, file_len: usize, table: *mut Record, table_len: usize) -> ReadAnswer;
         pub fn kuzpalen_label(file: *const u8, file_len: usize, cell: usize) -> LabelPart;
@@ -344,6 +371,17 @@ mod raw {
             second_len: usize,
             cell: usize,
         ) -> ReachAnswer;
+        pub fn kuzpalen_report(
+            file: *const u8,
+            file_len: usize,
+            table: *mut Record,
+            table_len: usize,
+            scratch: *mut u32,
+            scratch_len: usize,
+            positions: *mut i32,
+            positions_len: usize,
+        ) -> ReportAnswer;
+        pub fn kuzpalen_pool(a: Report, b: Report) -> ReportAnswer;
     }
 }
 
@@ -579,4 +617,29 @@ pub fn reach(table: &[Record], allowance: u32, scratch: &[u32], second: &[u32], 
         )
     };
     unless(r.number, r.cell, Reach { left: r.left, right: r.right })
+}
+
+/// Report: of one plan file, with its sheet at its own allowance; table as Read's, scratch and positions as Layout's.
+pub fn report(file: &[u8], table: &mut [Record], scratch: &mut [u32], positions: &mut [i32]) -> Result<Report, Refusal> {
+    // SAFETY: the pointers are good for their lengths, and the three that are written share nothing.
+    let r = unsafe {
+        raw::kuzpalen_report(
+            file.as_ptr(),
+            file.len(),
+            table.as_mut_ptr(),
+            table.len(),
+            scratch.as_mut_ptr(),
+            scratch.len(),
+            positions.as_mut_ptr(),
+            positions.len(),
+        )
+    };
+    unless(r.number, r.cell, r.report)
+}
+
+/// Pool: the report of two folders together.
+pub fn pool(a: Report, b: Report) -> Result<Report, Refusal> {
+    // SAFETY: both go by value.
+    let r = unsafe { raw::kuzpalen_pool(a, b) };
+    unless(r.number, r.cell, r.report)
 }

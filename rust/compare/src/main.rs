@@ -63,6 +63,8 @@ struct Run {
     seen: Seen,
     calls: u64,
     rooms: Rooms,
+    /// The figures of the latest plans that were reported.
+    season: Vec<reference::Figures>,
 }
 
 impl Run {
@@ -580,7 +582,86 @@ impl Run {
         self.count("Drill", answer);
     }
 
-    /// A file of either form, valid or damaged, through Read, Label, List, Copy and Mend.
+    fn report(&mut self, rng: &mut Rng, file: &[u8]) {
+        let said = if file.len() < 16 { 9 } else { file[file.len() - 6] as usize };
+        let room = if rng.once_in(40) { rng.index(MAX_CELLS) } else { MAX_CELLS + rng.index(20) };
+        let scratch = if rng.once_in(60) { SCRATCH - 1 - rng.index(2) } else { SCRATCH + rng.index(3) * rng.index(40) };
+        let places = match rng.index(20) {
+            0 => (2 * said).saturating_sub(1 + rng.index(3)),
+            1..=5 => 2 * said,
+            _ => 2 * MAX_CELLS + rng.index(9),
+        };
+        let pattern = Cell { parent: rng.next() as u16, width: rng.next() as u16, label_start: rng.next() as u16, ..Cell::default() };
+        let (x, s) = (rng.next() as i32, rng.next() as u32);
+        let (mut table, mut their_scratch, mut theirs) = (vec![pattern; room], vec![s; scratch], vec![x; places]);
+        let at_end = rng.once_in(2);
+        let lent = self.rooms.file.lend(file, at_end);
+        let our_table = self.rooms.table.lend(&records(&table), at_end);
+        let our_scratch = self.rooms.scratch.lend(&their_scratch, at_end);
+        let ours = self.rooms.positions.lend(&theirs, at_end);
+        let got = bindings::report(lent, our_table, our_scratch, ours).map(plain).map_err(|r| Refusal { number: r.number as u32, cell: r.cell as u32 });
+        let (lent, our_table, our_scratch, ours) = (lent.to_vec(), our_table.to_vec(), our_scratch.to_vec(), ours.to_vec());
+        let expected = reference::report(file, &mut table, &mut their_scratch, &mut theirs);
+        let input = (room, scratch, places, file);
+        self.same("Report's answer", &got, &expected, &input);
+        self.same("the table after Report", &our_table, &records(&table), &input);
+        self.same("the scratch after Report", &our_scratch, &their_scratch, &input);
+        self.same("the positions after Report", &ours, &theirs, &input);
+        self.same("the file after Report", &lent.as_slice(), &file, &file);
+        if let Ok(r) = expected {
+            self.season.push((r.cells, r.widths, r.areas / r.widths));
+            if self.season.len() == 24 {
+                self.folders(rng);
+                self.season.clear();
+            }
+        }
+        if matches!(expected, Err(Refusal { number: 1, .. })) && room >= MAX_CELLS && scratch >= SCRATCH {
+            self.note("Report", "positions too few");
+        }
+        self.count("Report", of_form(file, &named(&expected.map(|_| ()))));
+    }
+
+    /// The latest real plans in three folders, pooled in every order; with the report of no plan as well.
+    fn folders(&mut self, rng: &mut Rng) {
+        let plans = self.season.clone();
+        let (i, j) = (rng.index(plans.len()), rng.index(plans.len()));
+        let parts = [&plans[..i.min(j)], &plans[i.min(j)..i.max(j)], &plans[i.max(j)..]].map(|p| engines(&reference::Report::of(p)));
+        let all = Ok(reference::Report::of(&plans));
+        for [a, b, c] in [[0, 1, 2], [0, 2, 1], [1, 0, 2], [1, 2, 0], [2, 0, 1], [2, 1, 0]] {
+            let both = |a, b| bindings::pool(a, b).expect("a pool of real plans");
+            let left = bindings::pool(both(parts[a], parts[b]), parts[c]).map(plain);
+            let right = bindings::pool(parts[a], both(parts[b], parts[c])).map(plain);
+            self.same("a pool of a pool, left", &left, &all, &plans);
+            self.same("a pool of a pool, right", &right, &all, &plans);
+        }
+        let none = bindings::pool(engines(&reference::Report::of(&plans)), bindings::Report::default()).map(plain);
+        self.same("a pool with no plan", &none, &all, &plans);
+        self.note("Pool", "pools of pools");
+    }
+
+    /// Reports that nobody's plans make: at each limit and past it, no plan with a figure that is not 0.
+    fn made_up(&mut self, rng: &mut Rng) {
+        let (a, b) = (some_report(rng), some_report(rng));
+        let expected = reference::pool(a, b);
+        for (x, y) in [(a, b), (b, a)] {
+            let got = bindings::pool(engines(&x), engines(&y)).map(plain).map_err(|r| Refusal { number: r.number as u32, cell: r.cell as u32 });
+            self.same("Pool's answer", &got, &expected, &(x, y));
+        }
+        for r in [a, b] {
+            if let Some(what) = edge(&r) {
+                self.note("Pool", format!("{what} {}", if reference::pool(r, reference::Report::default()).is_ok() { "passes" } else { "refused 22" }));
+            }
+        }
+        if [a.plans, b.plans] == [512, 512] && expected.is_ok() {
+            self.note("Pool", "512 and 512");
+        }
+        if [a.plans, b.plans] == [512, 513] && expected.is_err_and(|r| r.number == 4) {
+            self.note("Pool", "512 and 513");
+        }
+        self.count("Pool", named(&expected.map(|_| ())));
+    }
+
+    /// A file of either form, valid or damaged, through Read, Label, List, Copy, Mend and Report.
     fn a_file(&mut self, rng: &mut Rng) {
         let form = rng.pick(&FORMS);
         let mut cells = if rng.once_in(10) { make::too_tall(rng) } else { some_table(rng) };
@@ -644,6 +725,8 @@ impl Run {
         if reference::read(&file, &mut [Cell::default(); MAX_CELLS]).is_ok() && rng.once_in(4) {
             self.copies(rng, &file);
         }
+        self.report(rng, &file);
+        self.made_up(rng);
     }
 
     /// Copy of a table that may be damaged, with label bytes that may be, under any allowance.
@@ -1081,6 +1164,85 @@ fn some_pair(rng: &mut Rng) -> (Vec<Cell>, Vec<Cell>, usize) {
     (first, second, cell)
 }
 
+fn plain(r: bindings::Report) -> reference::Report {
+    reference::Report {
+        plans: r.plans as u64,
+        cells: r.cells as u64,
+        widths: r.widths as u64,
+        areas: r.areas,
+        least: r.least as u64,
+        greatest: r.greatest as u64,
+        mean: r.mean as u64,
+        rest: r.rest as u64,
+    }
+}
+
+fn engines(r: &reference::Report) -> bindings::Report {
+    bindings::Report {
+        plans: r.plans as u32,
+        cells: r.cells as u32,
+        widths: r.widths as u32,
+        areas: r.areas,
+        least: r.least as u32,
+        greatest: r.greatest as u32,
+        mean: r.mean as u32,
+        rest: r.rest as u32,
+    }
+}
+
+/// A report of some plans at or about its limits; of no plan, now and then with one figure that is not 0.
+fn some_report(rng: &mut Rng) -> reference::Report {
+    let plans = rng.pick(&[0, 0, 1, 2, 511, 512, 512, 513, 513, 1_023, 1_024, 1_025, u32::MAX as u64]);
+    let mut r = reference::Report { plans, ..Default::default() };
+    if plans == 0 {
+        let one = rng.pick(&[1, u32::MAX as u64]);
+        match rng.index(14) {
+            0 => r.cells = one,
+            1 => r.widths = one,
+            2 => r.areas = one,
+            3 => r.least = one,
+            4 => r.greatest = one,
+            5 => r.mean = one,
+            6 => r.rest = one,
+            _ => {}
+        }
+        return r;
+    }
+    let mut near = |most: u64, type_most: u64| match rng.index(24) {
+        0 => (most * plans).min(type_most),
+        1 => (most * plans).saturating_add(1).min(type_most),
+        2 => type_most,
+        _ => rng.next() % (most.min(5_000) * plans.min(1_024) + 1),
+    };
+    r.cells = near(256, u32::MAX as u64);
+    r.widths = near(262_143, u32::MAX as u64);
+    r.areas = near(67_108_608, u64::MAX);
+    for figure in [&mut r.least, &mut r.greatest, &mut r.mean, &mut r.rest] {
+        *figure = rng.next() % (1 << 32);
+    }
+    r
+}
+
+/// Which limit a report stands at, or one past it.
+fn edge(r: &reference::Report) -> Option<String> {
+    if r.plans == 0 {
+        let figures = [("cells", r.cells), ("widths", r.widths), ("areas", r.areas), ("least", r.least), ("greatest", r.greatest), ("mean", r.mean), ("rest", r.rest)];
+        return figures.iter().find(|f| f.1 != 0).map(|f| format!("no plan, {}", f.0));
+    }
+    if r.plans > 1_024 {
+        return (r.plans == 1_025).then(|| "1025 plans".into());
+    }
+    for (name, figure, most) in [("cells", r.cells, 256), ("widths", r.widths, 262_143), ("areas", r.areas, 67_108_608)] {
+        if figure == most * r.plans {
+            return Some(format!("{name} at most"));
+        }
+        if figure == most * r.plans + 1 {
+            return Some(format!("{name} past"));
+        }
+    }
+    None
+}
+
 /// A frame about as wide as the plan's sheet for some allowance, or any, or none at all.
 fn some_frame(rng: &mut Rng, cells: &[Cell]) -> u32 {
     match rng.index(12) {
@@ -1229,7 +1391,7 @@ fn some_table(rng: &mut Rng) -> Vec<Cell> {
 /// The answers that each call can give: all must have been seen in a long run.
 fn unseen(seen: &Seen) -> Vec<String> {
     let mut all: Vec<(&str, String)> = Vec::new();
-    let refusals: [(&str, &[u32]); 16] = [
+    let refusals: [(&str, &[u32]); 18] = [
         ("Read", &[1, 2, 3]),
         ("Label", &[2, 3]),
         ("Layout", &[1, 4, 6, 7, 8, 11, 12, 13, 14]),
@@ -1246,15 +1408,25 @@ fn unseen(seen: &Seen) -> Vec<String> {
         ("Start", &[1, 4, 6, 7, 8, 11, 12, 13, 14]),
         ("Step", &[1, 4, 6, 7, 8, 11, 12, 13, 14]),
         ("Reach", &[1, 4, 6, 7, 8, 11, 12, 13, 14, 16, 20]),
+        ("Report", &[1, 2, 3]),
+        ("Pool", &[4, 22]),
     ];
     for (call, numbers) in refusals {
         all.extend(numbers.iter().map(|n| (call, format!("refused {n:2}"))));
     }
-    all.extend(["Layout", "Ends", "Strip"].map(|call| (call, "accepted".into())));
+    all.extend(["Layout", "Ends", "Strip", "Pool"].map(|call| (call, "accepted".into())));
+    all.extend(["pools of pools", "512 and 512", "512 and 513", "1025 plans refused 22"].map(|a| ("Pool", a.into())));
+    for figure in ["cells", "widths", "areas"] {
+        all.extend(["at most passes", "past refused 22"].map(|a| ("Pool", format!("{figure} {a}"))));
+    }
+    for figure in ["cells", "widths", "areas", "least", "greatest", "mean", "rest"] {
+        all.push(("Pool", format!("no plan, {figure} refused 22")));
+    }
+    all.push(("Report", "positions too few".into()));
     all.extend([2, 3].map(|n| ("List", format!("prints {n:>4}"))));
     for form in FORMS {
-        all.extend(["Read", "Label"].map(|call| (call, format!("{form:?} accepted"))));
-        all.extend((4..=13).map(|n| ("Read", format!("{form:?} refused {n:2}"))));
+        all.extend(["Read", "Label", "Report"].map(|call| (call, format!("{form:?} accepted"))));
+        all.extend((4..=13).flat_map(|n| ["Read", "Report"].map(|call| (call, format!("{form:?} refused {n:2}")))));
         all.extend((4..=13).chain([16]).map(|n| ("Label", format!("{form:?} refused {n:2}"))));
         all.push(("List", format!("{form:?} prints sheet")));
         all.push(("Copy", format!("{form:?} copied")));
@@ -1326,7 +1498,7 @@ fn main() {
         list: Guarded::new(2 * (RECORDS + 200)),
         making: Guarded::new(4 * (SECOND + 200)),
     };
-    let mut run = Run { seed, number: 0, seen: Seen::new(), calls: 0, rooms };
+    let mut run = Run { seed, number: 0, seen: Seen::new(), calls: 0, rooms, season: Vec::new() };
     for number in first..first + inputs {
         run.number = number;
         let mut rng = Rng::new(seed, number);
@@ -1338,7 +1510,7 @@ fn main() {
         run.a_join(&mut rng);
     }
     for ((call, answer), times) in &run.seen {
-        println!("{call:7} {answer:22} {times:8}");
+        println!("{call:7} {answer:28} {times:8}");
     }
     println!("{inputs} inputs, {} calls, seed {seed}, {:.1} s: no difference", run.calls, began.elapsed().as_secs_f64());
     let missing = unseen(&run.seen);

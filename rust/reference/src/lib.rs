@@ -19,6 +19,7 @@ pub mod rng;
 mod rules;
 mod strokes;
 mod strip;
+mod season;
 
 pub use copy::{clean_form, content, copy, Content, COPY};
 pub use drill::{drill, drill_met, transcript, Drill, Outcome, ANSWERS, RECORDS};
@@ -32,3 +33,4 @@ pub use plan_file::{label, label_refusal, read, Form, FORMS};
 pub use rules::{check, ends, measure, Ends, Measure, Verdict, MAX_COORDINATE};
 pub use strokes::{stroke, Page, Stroke};
 pub use strip::strip;
+pub use season::{pool, report, Figures, Report};

@@ -160,3 +160,8 @@ pub fn label_refusal(file: &[u8], cell: usize) -> Refusal {
         Err(r) => r,
     }
 }
+
+/// The number of cells that a file of at least 8 bytes says it has.
+pub fn cells_said(file: &[u8]) -> usize {
+    two(file, file.len() - 6) as usize
+}

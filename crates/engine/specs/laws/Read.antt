@@ -1,27 +1,28 @@
 -- From a reading to Read's answer: for the code. Nothing that a reader must believe stands here. Assumes nothing.
 use mathlib.Core.Path.{_≡_, refl, sym, ap, _∙_}
-use mathlib.Core.List.{List, _++_}
-use Prim.Native.Nat.{ℕ, _≤_, _<_, zero-le}
+use mathlib.Core.List.{List}
+use Prim.Native.Nat.{ℕ, _≤_, zero-le}
 use native.Mathlib.Omega.{arith}
 use native.Mathlib.Decide.{ℕ-discrete}
 use borrow.Author.Tests.{eq-eqb, ne-eqb}
 use lib.Dec.{leb, leb→le}
-use lib.ListN.{length, drop}
+use lib.ListN.{length}
 use Rattle.plan.specs.Limits.{most-cells}
 use Rattle.plan.specs.Questions.{none, asked}
 use Rattle.plan.specs.laws.Questions.{both-none, asked-yes}
 use Rattle.plan.specs.declared.Record.{Record}
 use Rattle.plan.specs.declared.Refusal.{Refusal}
-use Rattle.planfile.specs.Format.{trailer-of, entry, records-of}
+use Rattle.planfile.specs.Format.{trailer-of, entry}
 use Rattle.planfile.specs.Reading.{columns-of, reading-of}
 use Rattle.planfile.specs.FileSteps.{header-refusal, body-refusal, file-refusal}
 use Rattle.planfile.specs.laws.File as Law
-use Rattle.planfile.specs.laws.Examined.{column-at, header-read}
+use Rattle.planfile.specs.laws.Examined.{header-read}
 use Rattle.planfile.specs.declared.Reading.{Reading}
-use Rattle.records.specs.Together.{record-in, filled}
-use Rattle.records.specs.laws.Together.{filled-none, filled-all}
+use Rattle.records.specs.Together.{filled}
+use Rattle.records.specs.laws.Together.{filled-none}
 use Rattle.engine.specs.declared.ReadAnswer.the-variants.{Plan, Refused}
 use Rattle.engine.specs.declared.Parsed.{Parsed}
+use Rattle.engine.specs.laws.Filled.{plan-records}
 use Rattle.engine.specs.Read.{read-refusal, read-answered, table-after, Reads, read-of}
 
 module _ (f : List ℕ) (room : ℕ) where
@@ -43,16 +44,6 @@ module _ (f : List ℕ) (room : ℕ) where
     plan-fits =
         let (a, b) = both-none (asked 1 (leb most-cells room) 0) (file-refusal f) (ap (λ (x : Refusal). x .number) (sym (Law.read-refusal f room)) ∙ z) in
         (leb→le most-cells room (asked-yes 0 _ 0 a), header-read f (both-none (header-refusal f) (body-refusal f) b .0) .full .few)
-
-    plan-record : (c : ℕ) → c < trailer-of f .count → record-in plan c ≡ entry f c
-    unfolding columns-of
-    plan-record c l =
-        let h = plan-fits .1 in
-        rw (column-at (λ c. entry f c .parent) _ c h l, column-at (λ c. entry f c .kind) _ c h l, column-at (λ c. entry f c .width) _ c h l, column-at (λ c. entry f c .depth) _ c h l, column-at (λ c. entry f c .rank) _ c h l, column-at (λ c. entry f c .«label_length») _ c h l, column-at (λ c. entry f c .«label_start») _ c h l)
-
-    plan-records : (t : List Record) → length t ≡ room → filled plan (trailer-of f .count) t ≡ records-of f ++ drop (trailer-of f .count) t
-    unfolding records-of
-    plan-records t e = filled-all plan (entry f) (trailer-of f .count) t (omega (arith, plan-fits)) plan-record
 
     plan-answer : read-answered f stop ≡ Plan (trailer-of f .count) (trailer-of f .allowance)
     unfolding read-answered
@@ -108,5 +99,5 @@ module _ (f : List ℕ) (t : List Record) (p : Parsed) (e : p ≡ read-of f (len
   parsed-reads t′ h = rw (h, e) (record { answers = refl; table = go (ℕ-discrete (read-refusal f (length t) .number) 0) })
     where
       go : Dec (read-refusal f (length t) .number ≡ 0) → filled (reading-of f (length t)) (reading-of f (length t) .columns .count) t ≡ table-after (read-answered f (read-refusal f (length t))) f t
-      go (yes z) = rw (reading-plan f (length t) z, plan-answer f (length t) z) (plan-records f (length t) z t refl)
+      go (yes z) = rw (reading-plan f (length t) z, plan-answer f (length t) z) (plan-records f (plan-fits f (length t) z .1) t (plan-fits f (length t) z .0))
       go (no z) = rw (reading-blank f (length t) z, refused-answer f (length t) z) (sym (filled-none _ t))

@@ -26,7 +26,7 @@ use Rattle.planfile.specs.declared.Reading.{Reading}
 use Rattle.planfile.specs.declared.Trailer.{Trailer}
 use Rattle.planfile.specs.Format.{trailer-of, form, record-at, entry, records-of}
 use Rattle.planfile.specs.Reading.{column, columns-of}
-use Rattle.planfile.specs.FileSteps.{counted, record-refusal, entry-refusal, records-at, columns-refusal, blank-reading, header-refusal, body-refusal, file-refusal, examined}
+use Rattle.planfile.specs.FileSteps.{counted, record-refusal, entry-refusal, records-at, columns-refusal, blank-reading, formed-refusal, header-refusal, body-refusal, file-refusal, examined}
 
 pub zero-of : (r a : Refusal) → r ≡ a → r .number ≡ 0 → a .number ≡ 0
 zero-of r a e z = ap (λ (x : Refusal). x .number) (sym e) ∙ z
@@ -55,13 +55,16 @@ pub record Headed (f : List ℕ) : Type 0 where
   pub long : least-file ≤ length f
   pub full : Full (form f) (length f) (trailer-of f .begin) (trailer-of f .count)
 
+pub formed-read : (f : List ℕ) → formed-refusal f .number ≡ 0 → Headed f
+unfolding formed-refusal
+formed-read f e =
+    let (a, r) = both-none (asked 2 (between least-file most-file (length f)) 0) _ e in
+    let (b, c) = both-none (asked 3 (marked (trailer-of f .mark)) 0) _ r in
+    record { long = sized-read (length f) _ refl a; full = full-read (form f) (length f) _ _ _ refl c }
+
 pub header-read : (f : List ℕ) → header-refusal f .number ≡ 0 → Headed f
 unfolding header-refusal
-header-read f e =
-    let (a, r) = both-none (asked 2 (between least-file most-file (length f)) 0) _ e in
-    let (b, s) = both-none (asked 3 (marked (trailer-of f .mark)) 0) _ r in
-    let (c, d) = both-none (asked 4 (counted (form f) (length f) (trailer-of f .begin) (trailer-of f .count)) 0) _ s in
-    record { long = sized-read (length f) _ refl a; full = full-read (form f) (length f) _ _ _ refl c }
+header-read f e = formed-read f (both-none (formed-refusal f) _ e .0)
 
 -- ---- questions 6 to 10, from columns
 record-passed : (form : Form) (begin c p k w d l s : ℕ) → record-refusal form begin c p k w d l s .number ≡ 0 → Passed (widest form) c p k w d

@@ -18,7 +18,7 @@ use Rattle.plan.specs.Steps.{cell-refusal, tree-refusal}
 use Rattle.plan.specs.declared.Record.{Record}
 use Rattle.planfile.specs.Format.{trailer-of, entry, records-of, label-in, file-given}
 use Rattle.planfile.specs.Reading.{label-refusal}
-use Rattle.planfile.specs.FileSteps.{record-refusal, entry-refusal, header-refusal, body-refusal, file-refusal}
+use Rattle.planfile.specs.FileSteps.{record-refusal, entry-refusal, formed-refusal, header-refusal, body-refusal, file-refusal}
 
 no-record : Record
 no-record = record { parent = 0; kind = 0; width = 0; depth = 0; rank = 0; «label_length» = 0; «label_start» = 0 }
@@ -77,7 +77,7 @@ module _ (f : List ℕ) where
     unfolding all-of ask holds number in-file on-labels widest-in file-given cell-refusal record-refusal
     at-record c h = rw (parent-is c h, kind-is c h, width-is c h, depth-is c h, label-is c h) (simp (or-assoc, asked-last 9))
 
-    turn-body : (ss : List Step) → in-turn call g (each (parent-lower ∷ kind-known ∷ box-sized ∷ label-inside ∷ label-fits ∷ []) ∷ each (children-allowed ∷ []) ∷ each (level-low ∷ []) ∷ each (rows-few ∷ []) ∷ ss)
+    pub turn-body : (ss : List Step) → in-turn call g (each (parent-lower ∷ kind-known ∷ box-sized ∷ label-inside ∷ label-fits ∷ []) ∷ each (children-allowed ∷ []) ∷ each (level-low ∷ []) ∷ each (rows-few ∷ []) ∷ ss)
         ≡ or-else (at-each (entry-refusal f) 0 n) (or-else (tree-refusal t) (in-turn call g ss))
     unfolding in-turn file-given
     turn-body ss =
@@ -86,7 +86,7 @@ module _ (f : List ℕ) where
 
   -- ---- Read
   pub read-refusal : (room : ℕ) → refusal read (file-given f (to-fill room ∷ []) nothing) ≡ or-else (asked 1 (leb most-cells room) 0) (file-refusal f)
-  unfolding kept put with-each sequence number puts mem some from ask holds roomy all-roomy enough in-file on-labels file-given file-refusal header-refusal body-refusal
+  unfolding kept put with-each sequence number puts mem some from ask holds roomy all-roomy enough in-file on-labels file-given file-refusal formed-refusal header-refusal body-refusal
   read-refusal room =
       let bs = to-fill room ∷ [] in
       let g = file-given f bs nothing in
@@ -95,7 +95,7 @@ module _ (f : List ℕ) where
 
   -- ---- the mended file (document 02, E11), as Read's but for the buffers
   pub mend-refusal : (o l : ℕ) → refusal mend (file-given f (copy-output o ∷ lines-output l ∷ []) nothing) ≡ or-else (asked 1 (leb most-file o && leb lines-size l) 0) (file-refusal f)
-  unfolding kept put with-each sequence number puts mem some from ask holds roomy all-roomy enough in-file on-labels file-given file-refusal header-refusal body-refusal
+  unfolding kept put with-each sequence number puts mem some from ask holds roomy all-roomy enough in-file on-labels file-given file-refusal formed-refusal header-refusal body-refusal
   mend-refusal o l =
       let bs = copy-output o ∷ lines-output l ∷ [] in
       let g = file-given f bs nothing in
@@ -104,7 +104,7 @@ module _ (f : List ℕ) where
 
   -- ---- Label
   pub label-refusal-is : (c : ℕ) → label-refusal f c ≡ or-else (file-refusal f) (asked 16 (ltb c n) 0)
-  unfolding label-refusal kept put with-each sequence number puts mem some from ask holds enough in-table in-file on-labels root-too file-given file-refusal header-refusal body-refusal
+  unfolding label-refusal kept put with-each sequence number puts mem some from ask holds enough in-table in-file on-labels root-too file-given file-refusal formed-refusal header-refusal body-refusal
   label-refusal-is c =
       let g = file-given f [] (named c) in
       refusal-kept label g

@@ -347,11 +347,34 @@ fn step_calls(rng: &mut Rng) -> Result<(), &'static str> {
     Ok(())
 }
 
+/// Report, and what it says against Read and Layout; and that its report pools with itself.
+fn report_call(rng: &mut Rng) -> Result<(), &'static str> {
+    let file = lent(&some_file(rng));
+    let (mut table, mut scratch, mut positions) = (lent(&vec![Record::default(); 256]), lent(&vec![7u32; SCRATCH]), lent(&vec![7i32; 512]));
+    let reported = bindings::report(&file, &mut table, &mut scratch, &mut positions);
+    let (mut read_table, mut clean, mut laid) = (lent(&vec![Record::default(); 256]), lent(&vec![7u32; SCRATCH]), lent(&vec![7i32; 512]));
+    let read = bindings::read(&file, &mut read_table);
+    let sheet = read.and_then(|p| bindings::layout(&read_table[..p.count], p.allowance as u32, &mut clean, &mut laid));
+    if table[..] != read_table[..] || scratch[..] != clean[..] || positions[..] != laid[..] {
+        return Err("Report leaves its buffers otherwise than Read and Layout");
+    }
+    match (reported, sheet) {
+        (Err(a), Err(b)) if a == b => Ok(()),
+        (Ok(r), Ok(s)) if r.plans == 1 && r.widths == s.width && r.areas == s.width as u64 * s.rows as u64 && [r.least, r.greatest, r.mean, r.rest] == [s.width, s.width, s.width, 0] => {
+            match bindings::pool(r, r) {
+                Ok(two) if two.plans == 2 && two.widths == 2 * s.width && two.mean == s.width && two.rest == 0 && two.least == s.width => Ok(()),
+                _ => Err("a report does not pool with itself"),
+            }
+        }
+        _ => Err("Report answers otherwise than Read and Layout"),
+    }
+}
+
 fn library(end: Instant, seed: u64) -> u64 {
     let mut number = 0;
     while Instant::now() < end {
         let mut rng = Rng::new(seed, number);
-        let done = match number % 12 {
+        let done = match number % 13 {
             0 | 1 => table_calls(&mut rng),
             2 => file_calls(&mut rng),
             3 => list_call(&mut rng),
@@ -360,7 +383,8 @@ fn library(end: Instant, seed: u64) -> u64 {
             6 => strip_calls(&mut rng),
             7 => join_call(&mut rng),
             8 => step_calls(&mut rng),
-            9 => frame_calls(&mut rng),
+            9 => report_call(&mut rng),
+            10 => frame_calls(&mut rng),
             _ => drill_calls(&mut rng),
         };
         done.unwrap_or_else(|what| fault(what, seed, number));

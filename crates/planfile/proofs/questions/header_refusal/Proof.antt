@@ -1,86 +1,47 @@
-use Rattle.planfile.specs.laws.Examined.{sized-read, full-read}
-use Rattle.planfile.specs.FileSteps.{header-refusal, counted}
-use Rattle.plan.specs.laws.Questions.{stops, goes-on}
-use Rattle.plan.specs.Questions.{asked, every}
-use Rattle.plan.specs.Forms.{marked, form-of}
-use Rattle.plan.specs.Limits.{between, first-letter, last-letter}
-use Rattle.planfile.specs.declared.Trailer.{Trailer}
-use lib.ListN.{length, take}
-use native.Mathlib.Omega.{arith}
 use mathlib.Core.Path.{ap, _∙_}
+use native.Mathlib.Omega.{arith}
+use lib.ListN.{take}
+use Rattle.plan.specs.Limits.{between, first-letter, last-letter}
+use Rattle.plan.specs.Questions.{asked, every}
+use Rattle.plan.specs.laws.Questions.{stops, goes-on}
+use Rattle.planfile.specs.FileSteps.{header-refusal}
+use Rattle.planfile.specs.declared.Trailer.{Trailer}
+use Rattle.planfile.specs.laws.Examined.{zero-of, formed-read}
 use borrow.Author.Needs.{needs}
 use Rattle.planfile.proofs.questions.header_refusal.Statement.{statement}
 use Rattle.planfile.proofs.questions.header_refusal.Tie as tie
 
-file-sized-requires : tie.Need-file-sized-requires
-file-sized-requires c κs = search needs
+formed-refusal-requires : tie.Need-formed-refusal-requires
+formed-refusal-requires c κs = search needs
+
+returns : tie.Need-returns
+unfolding header-refusal
+returns c = stops _ _ _ (c .before .before .formed-refusal .ensures) (c .if1 .taken)
+
+trailer-requires : tie.Need-trailer-requires
+trailer-requires c κs = omega (arith, formed-read (c .before .before .before .before .args .file .now) (zero-of _ _ (c .before .before .formed-refusal .ensures) (c .if1 .left)) .long)
+
+cast-letters-printable : tie.Need-cast-letters-printable
+cast-letters-printable c = search needs
+
+letters-printable-requires : tie.Need-letters-printable-requires
+letters-printable-requires c κs = omega (arith, formed-read (c .before .before .before .before .before .before .args .file .now) (zero-of _ _ (c .before .before .before .before .formed-refusal .ensures) (c .before .before .if1 .left)) .full .exact, ap (λ (t : Trailer). t .begin) (c .before .trailer .ensures))
 
 asked-requires : tie.Need-asked-requires
 asked-requires c κs = search needs
 
-returns : tie.Need-returns
-unfolding header-refusal
-returns c = stops _ _ _ (c .before .before .asked .ensures ∙ ap (λ x. asked 2 x 0) (c .before .before .before .file-sized .ensures)) (c .if1 .taken)
-
-trailer-requires : tie.Need-trailer-requires
-trailer-requires c κs = omega (arith, sized-read (length (c .before .before .before .before .before .args .file .now)) (c .before .before .asked .result) (c .before .before .asked .ensures ∙ ap (λ x. asked 2 x 0) (c .before .before .before .file-sized .ensures)) (c .if1 .left))
-
-marked-requires : tie.Need-marked-requires
-marked-requires c κs = search needs
-
-asked-requires-2 : tie.Need-asked-requires-2
-asked-requires-2 c κs = search needs
-
 returns-2 : tie.Need-returns-2
 unfolding header-refusal
-returns-2 c = goes-on _ _ _ _ (c .before .before .before .before .before .before .before .asked .ensures ∙ ap (λ x. asked 2 x 0) (c .before .before .before .before .before .before .before .before .file-sized .ensures)) (c .before .before .before .before .before .if1 .left) (stops _ _ _ (c .before .before .asked2 .ensures ∙ ap (λ x. asked 3 x 0) (c .before .before .before .marked .ensures ∙ ap (λ (t : Trailer). marked (t .mark)) (c .before .before .before .before .trailer .ensures))) (c .if2 .taken))
-
-cast-begin : tie.Need-cast-begin
-cast-begin c = search needs
-
-form-of-requires : tie.Need-form-of-requires
-form-of-requires c κs = search needs
-
-cast-counted : tie.Need-cast-counted
-cast-counted c = search needs
-
-counted-requires : tie.Need-counted-requires
-counted-requires c κs = search needs
-
-asked-requires-3 : tie.Need-asked-requires-3
-asked-requires-3 c κs = search needs
-
-returns-3 : tie.Need-returns-3
-unfolding header-refusal
-returns-3 c = goes-on _ _ _ _ (c .before .before .before .before .before .before .before .before .before .before .before .before .before .before .asked .ensures ∙ ap (λ x. asked 2 x 0) (c .before .before .before .before .before .before .before .before .before .before .before .before .before .before .before .file-sized .ensures)) (c .before .before .before .before .before .before .before .before .before .before .before .before .if1 .left) (goes-on _ _ _ _ (c .before .before .before .before .before .before .before .before .before .asked2 .ensures ∙ ap (λ x. asked 3 x 0) (c .before .before .before .before .before .before .before .before .before .before .marked .ensures ∙ ap (λ (t : Trailer). marked (t .mark)) (c .before .before .before .before .before .before .before .before .before .before .before .trailer .ensures))) (c .before .before .before .before .before .before .before .if2 .left) (stops _ _ _ (c .before .before .asked3 .ensures ∙ ap (λ x. asked 4 x 0) (c .before .before .before .counted .ensures ∙ rw (c .before .before .before .before .before .form-of .ensures) (ap (λ (t : Trailer). counted (form-of (t .mark)) (length (c .before .before .before .before .before .before .before .before .before .before .before .before .before .before .before .before .before .args .file .now)) (t .begin) (t .count)) (c .before .before .before .before .before .before .before .before .before .before .before .trailer .ensures)))) (c .if3 .taken)))
-
-letters-printable-requires : tie.Need-letters-printable-requires
-letters-printable-requires c κs = omega (arith, full-read _ (length (c .before .before .before .before .before .before .before .before .before .before .before .before .before .before .before .before .before .args .file .now)) (c .before .before .before .before .before .before .before .before .before .before .before .trailer .result .begin) (c .before .before .before .before .before .before .before .before .before .before .before .trailer .result .count) (c .before .before .asked3 .result) (c .before .before .asked3 .ensures ∙ ap (λ x. asked 4 x 0) (c .before .before .before .counted .ensures)) (c .if3 .left) .exact)
-
-asked-requires-4 : tie.Need-asked-requires-4
-asked-requires-4 c κs = search needs
-
-returns-4 : tie.Need-returns-4
-unfolding header-refusal
-returns-4 c = goes-on _ _ _ _ (c .before .before .before .before .before .before .before .before .before .before .before .before .before .before .before .before .asked .ensures ∙ ap (λ x. asked 2 x 0) (c .before .before .before .before .before .before .before .before .before .before .before .before .before .before .before .before .before .file-sized .ensures)) (c .before .before .before .before .before .before .before .before .before .before .before .before .before .before .if1 .left) (goes-on _ _ _ _ (c .before .before .before .before .before .before .before .before .before .before .before .asked2 .ensures ∙ ap (λ x. asked 3 x 0) (c .before .before .before .before .before .before .before .before .before .before .before .before .marked .ensures ∙ ap (λ (t : Trailer). marked (t .mark)) (c .before .before .before .before .before .before .before .before .before .before .before .before .before .trailer .ensures))) (c .before .before .before .before .before .before .before .before .before .if2 .left) (goes-on _ _ _ _ (c .before .before .before .before .asked3 .ensures ∙ ap (λ x. asked 4 x 0) (c .before .before .before .before .before .counted .ensures ∙ rw (c .before .before .before .before .before .before .before .form-of .ensures) (ap (λ (t : Trailer). counted (form-of (t .mark)) (length (c .before .before .before .before .before .before .before .before .before .before .before .before .before .before .before .before .before .before .before .args .file .now)) (t .begin) (t .count)) (c .before .before .before .before .before .before .before .before .before .before .before .before .before .trailer .ensures)))) (c .before .before .if3 .left) (c .asked4 .ensures ∙ ap (λ x. asked 5 x 0) (c .before .letters-printable .ensures ∙ ap (λ (t : Trailer). every (between first-letter last-letter) (take (t .begin) (c .before .before .before .before .before .before .before .before .before .before .before .before .before .before .before .before .before .before .before .args .file .now))) (c .before .before .before .before .before .before .before .before .before .before .before .before .before .trailer .ensures)))))
+returns-2 c = goes-on _ _ _ _ (c .before .before .before .before .before .before .formed-refusal .ensures) (c .before .before .before .before .if1 .left) (c .asked .ensures ∙ ap (λ x. asked 5 x 0) (c .before .letters-printable .ensures ∙ ap (λ (t : Trailer). every (between first-letter last-letter) (take (t .begin) (c .before .before .before .before .before .before .before .before .args .file .now))) (c .before .before .before .trailer .ensures)))
 
 pub header-refusal-spec : {M : Type 1} → statement M
 header-refusal-spec =
     tie.close
     (tie.spec
-    file-sized-requires
-    asked-requires
+    formed-refusal-requires
     returns
     trailer-requires
-    marked-requires
-    asked-requires-2
-    returns-2
-    cast-begin
-    form-of-requires
-    cast-counted
-    counted-requires
-    asked-requires-3
-    returns-3
+    cast-letters-printable
     letters-printable-requires
-    asked-requires-4
-    returns-4)
+    asked-requires
+    returns-2)

@@ -1,0 +1,4 @@
+pub mod Report
+pub mod Pool
+pub mod Promised
+pub mod Worked
