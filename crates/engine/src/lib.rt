@@ -229,8 +229,8 @@ pub fn report(
     ensures { λ r. ⌜ Reports (now (file .entry)) (now (table .entry)) (now (table .exit)) (now (scratch .entry)) (now (scratch .exit)) (now (positions .entry)) (now (positions .exit)) r ⌝ }
 {
     let draft = reporting::report(file, table.len(), scratch, positions);
-    let reading = draft.reading;
-    fill(reading, reading.columns.count, table);
+    let plan = draft.reading;
+    fill(plan, plan.columns.count, table);
     draft.answer
 }
 
