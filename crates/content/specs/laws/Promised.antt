@@ -21,7 +21,7 @@ use Rattle.plan.specs.declared.forms.Form.{Form}
 use Rattle.plan.specs.declared.forms.Form.the-variants.{Old, Wide}
 use Rattle.planfile.specs.declared.Trailer.{Trailer}
 use Rattle.planfile.specs.Format.{trailer-of, form, entry, records-of, file-given}
-use Rattle.planfile.specs.FileSteps.{counted, header-refusal, body-refusal, file-refusal}
+use Rattle.planfile.specs.FileSteps.{counted, formed-refusal, header-refusal, body-refusal, file-refusal}
 use Rattle.planfile.specs.laws.File.{records-length, read-refusal}
 use Rattle.planfile.specs.laws.Examined.{header-read}
 use Rattle.content.specs.Content.{Item, Content, item-of, content, letters-of}
@@ -121,7 +121,7 @@ module _ (rs : List Record) (letters : List ℕ) (al : ℕ) (e : copy-steps rs l
   letters-here = clean-letters c ∙ rw items-are refl
 
   header-passed : header-refusal g .number ≡ 0
-  unfolding header-refusal
+  unfolding formed-refusal header-refusal
   header-passed =
       let (one, many) = answers .count in
       let b = size-bounds (form-for is) (length rs) one in
@@ -133,10 +133,10 @@ module _ (rs : List Record) (letters : List ℕ) (al : ℕ) (e : copy-steps rs l
       (and-both (between 1 most-cells (length rs)) _ (and-both (leb 1 (length rs)) _ (le→leb _ _ one) (le→leb _ _ many)) (eqb-refl (length (labels is) + record-size (form-for is) * length rs + trailer-size)))
       in
       let printable : T (every letter (take (trailer-of g .begin) g)) = rw letters-here (labels-printable 0 is (answers .fine)) in
-      zero-none _ _ (asked-zero 1 _ 0 (and-both (leb least-file (length g)) _ (le→leb _ _ low) (le→leb _ _ high)))
-      (zero-none _ _ (asked-zero 2 _ 0 marked)
-      (zero-none _ _ (asked-zero 3 _ 0 full)
-      (asked-zero 4 _ 0 printable)))
+      zero-none _ _
+      (zero-none _ _ (asked-zero 1 _ 0 (and-both (leb least-file (length g)) _ (le→leb _ _ low) (le→leb _ _ high)))
+      (zero-none _ _ (asked-zero 2 _ 0 marked) (asked-zero 3 _ 0 full)))
+      (asked-zero 4 _ 0 printable)
 
   records-passed : rows-refusal (form g) (trailer-of g .begin) 0 (records-of g) .number ≡ 0
   records-passed = rw (records-are, form-is, begin-is) (entries-fine (length (labels is)) is (answers .fine) (omega arith))
@@ -176,15 +176,13 @@ module _ (f : List ℕ) (e : file-refusal f .number ≡ 0) where
       let (header, body) = both-none (header-refusal f) (body-refusal f) e in
       let (records, rest) = both-none _ _ body in
       let h = header-read f header in
-      let (a, r) = both-none (asked 2 (between least-file most-file (length f)) 0) _ header in
-      let (b, s) = both-none (asked 3 (marked (trailer-of f .mark)) 0) _ r in
-      let (c, d) = both-none (asked 4 (counted (form f) (length f) (trailer-of f .begin) (trailer-of f .count)) 0) _ s in
+      let (formed, five) = both-none (formed-refusal f) _ header in
       let n = records-length f in
       let l : length (letters-of f) ≡ trailer-of f .begin = letters-length (omega (arith, h .full .exact)) in
       let one : 1 ≤ trailer-of f .count = h .full .some in
       let many : trailer-of f .count ≤ most-cells = h .full .few in
       let each : rows-refusal Wide (trailer-of f .begin) 0 (records-of f) .number ≡ 0 = rows-widen (form f) (trailer-of f .begin) 0 (records-of f) (each-asked records) in
-      let p : asked 5 (every letter (letters-of f)) 0 .number ≡ 0 = letters-asked d in
+      let p : asked 5 (every letter (letters-of f)) 0 .number ≡ 0 = letters-asked five in
       rw (n, l)
       (zero-none _ _ (asked-zero 3 _ 0 (and-both (leb 1 (trailer-of f .count)) _ (le→leb _ _ one) (le→leb _ _ many)))
       (zero-none _ _ p

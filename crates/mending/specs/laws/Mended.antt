@@ -22,7 +22,7 @@ use Rattle.plan.specs.declared.Refusal.{Refusal}
 use Rattle.planfile.specs.declared.Trailer.{Trailer}
 use Rattle.planfile.specs.Fields.{pair, number-at, begin-place, count-place, allowance-place, mark-place}
 use Rattle.planfile.specs.Format.{trailer-of, form, place, record-at, entry}
-use Rattle.planfile.specs.FileSteps.{counted, record-refusal, entry-refusal, header-refusal, body-refusal, file-refusal}
+use Rattle.planfile.specs.FileSteps.{counted, record-refusal, entry-refusal, formed-refusal, header-refusal, body-refusal, file-refusal}
 use Rattle.planfile.specs.laws.File.{read-refusal}
 use Rattle.planfile.specs.laws.Examined.{Full, full-read}
 use Rattle.mending.specs.Boxes.{changed}
@@ -72,7 +72,7 @@ body-late f =
     (late-asked 14 _ 0 refl))
 
 in-turn : (a b c : Bool) (d e : Refusal) → Late (or-else d e)
-    → between 2 4 (or-else (or-else (asked 2 a 0) (or-else (asked 3 b 0) (or-else (asked 4 c 0) d))) e .number) ≡ not (a && (b && c))
+    → between 2 4 (or-else (or-else (or-else (asked 2 a 0) (or-else (asked 3 b 0) (asked 4 c 0))) d) e .number) ≡ not (a && (b && c))
 unfolding asked or-else
 in-turn false b c d e h = refl
 in-turn true false c d e h = refl
@@ -81,7 +81,7 @@ in-turn true true true d e h = h
 
 -- refused by 2 to 4: one of the three says no
 pub refused-framed : (f : List ℕ) → between 2 4 (would-get f .number) ≡ not (framed f)
-unfolding file-refusal header-refusal
+unfolding file-refusal formed-refusal header-refusal
 refused-framed f =
     ap (λ (r : Refusal). between 2 4 (r .number)) (would-get-is f)
     ∙ in-turn (between least-file most-file (length f)) (marked (trailer-of f .mark)) (counted (form f) (length f) (trailer-of f .begin) (trailer-of f .count)) _ (body-refusal f) (late-else _ _ (late-asked 5 _ 0 refl) (body-late f))
