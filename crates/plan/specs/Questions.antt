@@ -17,9 +17,8 @@ use Rattle.plan.specs.declared.Page.{Page}
 use Rattle.plan.specs.Pages.{fair}
 
 -- ---- what a call is given
--- a lent buffer of a length that question 1 asks for, with the length that it has: a table to fill, Layout's scratch, the output of a listing; of document 02 the output of a clean copy listing;
--- or of a mended file (E4, E11), and that of the lines that tell the mending
--- a drill's list
+-- a lent buffer of a length that question 1 asks for, with the length that it has: a table to fill, Layout's scratch, the output of a listing; of document 02 the output of a clean copy
+-- or of a mended file (E4, E11), that of the lines that tell the mending, and a drill's list (E12)
 pub data Buffer : Type 0 where
   to-fill scratch output : ℕ → Buffer
   copy-output : ℕ → Buffer
@@ -31,7 +30,7 @@ pub data Lent : Type 0 where
   absent : Lent
   long : ℕ → Lent
 
--- what a call is asked about besides: a cell that is named; a frame of so many squares; a page and the number of a stroke on it squares; so many answer bytes
+-- what a call is asked about besides: a cell that is named; a frame of so many squares; a page and the number of a stroke on it; so many answer bytes
 pub data Subject : Type 0 where
   nothing : Subject
   named squares : ℕ → Subject
