@@ -7,52 +7,75 @@ use Rattle.following.proofs.entered.Tie as tie
 kind-of-requires : tie.Need-kind-of-requires
 kind-of-requires c κs = search needs
 
+pushed-requires : tie.Need-pushed-requires
+pushed-requires c κs = search needs
+
 mul-list : tie.Need-mul-list
 mul-list c = search needs
 
 slice-write-list : tie.Need-slice-write-list
 slice-write-list c = search needs
 
-pushed-requires : tie.Need-pushed-requires
-pushed-requires c κs = search needs
+add-t20 : tie.Need-add-t20
+add-t20 c = search needs
 
-add-t13 : tie.Need-add-t13
-add-t13 c = search needs
+add-t22 : tie.Need-add-t22
+add-t22 c = search needs
 
 same-length : tie.Need-same-length
 same-length c = search needs
 
 returns : tie.Need-returns
-returns c = (enter-step (c .before .before .before .before .before .before .before .before .args .links .now) (c .before .before .before .before .before .before .before .before .args .kinds .now) (c .before .before .before .before .before .before .before .before .args .answers .now) (c .before .before .before .before .before .before .before .before .args .s) _ (c .before .before .before .before .before .before .before .before .args .used) (c .before .before .before .before .before .before .before .before .args .records) (c .before .before .before .before .before .before .before .before .args .list .now) (c .before .before .before .before .before .before .before .before .pre .long) (c .before .before .before .kind-of .ensures) (c .before .before .if1 .taken) (c .before .if2 .taken) (c .pushed .ensures .0), wrote-one (c .before .before .before .before .before .before .before .before .args .links .now) (c .before .before .before .before .before .before .before .before .args .kinds .now) (c .before .before .before .before .before .before .before .before .args .answers .now) (c .before .before .before .before .before .before .before .before .args .s) [] (c .before .before .before .before .before .before .before .before .args .used) (c .before .before .before .before .before .before .before .before .args .records) (c .before .before .before .before .before .before .before .before .args .list .now) (c .before .before .before .before .before .before .before .before .pre .long) (c .before .before .before .kind-of .ensures) (c .before .if2 .taken))
+returns c =
+    let a = c .before .before .before .before .before .before .before .before .before .before .before .args in
+    let p = c .before .before .before .before .before .before .before .before .before .before .before .pre .0 in (
+      enter-step (a .links .now) (a .kinds .now) (a .answers .now) (a .s) _ (a .used) (a .records) (a .list .now) (p .long) (c .before .before .before .before .before .before .kind-of .ensures) (c .before .before .before .before .before .if1 .taken) (c .if2 .taken) (c .before .pushed .ensures .1),
+      (wrote-one (a .links .now) (a .kinds .now) (a .answers .now) (a .s) [] (a .used) (a .records) (a .list .now) (p .long) (c .before .before .before .before .before .before .kind-of .ensures) (c .if2 .taken), c .before .pushed .ensures .0),
+    )
 
-pushed-requires-2 : tie.Need-pushed-requires-2
-pushed-requires-2 c κs = search needs
+add-t23 : tie.Need-add-t23
+add-t23 c = search needs
 
 returns-2 : tie.Need-returns-2
-returns-2 c = (enter-full (c .before .before .before .before .before .before .before .before .args .links .now) (c .before .before .before .before .before .before .before .before .args .kinds .now) (c .before .before .before .before .before .before .before .before .args .answers .now) (c .before .before .before .before .before .before .before .before .args .s) _ (c .before .before .before .before .before .before .before .before .args .used) (c .before .before .before .before .before .before .before .before .args .records) (c .before .before .before .before .before .before .before .before .args .list .now) (c .before .before .before .before .before .before .before .before .pre .long) (c .before .before .before .kind-of .ensures) (c .before .before .if1 .taken) (c .before .if2 .left) (c .before .before .before .before .before .before .before .before .pre .few) (c .pushed2 .ensures .0), wrote-none _ _ (c .before .before .before .before .before .before .before .before .pre .few))
+returns-2 c =
+    let a = c .before .before .before .before .before .before .before .before .before .before .before .args in
+    let p = c .before .before .before .before .before .before .before .before .before .before .before .pre .0 in (
+      enter-full (a .links .now) (a .kinds .now) (a .answers .now) (a .s) _ (a .used) (a .records) (a .list .now) (p .long) (c .before .before .before .before .before .before .kind-of .ensures) (c .before .before .before .before .before .if1 .taken) (c .if2 .left) (p .few) (c .before .pushed .ensures .1),
+      (wrote-none _ _ (p .few), c .before .pushed .ensures .0),
+    )
 
 open-cell-requires : tie.Need-open-cell-requires
 open-cell-requires c κs = search needs
 
-pushed-requires-3 : tie.Need-pushed-requires-3
-pushed-requires-3 c κs = search needs
+pushed-requires-2 : tie.Need-pushed-requires-2
+pushed-requires-2 c κs = search needs
+
+add-t28 : tie.Need-add-t28
+add-t28 c = search needs
 
 returns-3 : tie.Need-returns-3
-returns-3 c = (enter-other (c .before .before .before .before .before .before .before .before .args .links .now) (c .before .before .before .before .before .before .before .before .args .kinds .now) (c .before .before .before .before .before .before .before .before .args .answers .now) (c .before .before .before .before .before .before .before .before .args .s) _ (c .before .before .before .before .before .before .before .before .args .used) (c .before .before .before .before .before .before .before .before .args .records) (c .before .before .before .before .before .before .before .before .args .list .now) (c .before .before .before .before .before .before .before .before .pre .long) (c .before .before .before .kind-of .ensures) (c .before .open-cell .result) (c .before .before .if1 .left) (c .before .open-cell .ensures) (c .pushed3 .ensures .0), wrote-none _ _ (c .before .before .before .before .before .before .before .before .pre .few))
+returns-3 c =
+    let a = c .before .before .before .before .before .before .before .before .before .before .before .args in
+    let p = c .before .before .before .before .before .before .before .before .before .before .before .pre .0 in (
+      enter-other (a .links .now) (a .kinds .now) (a .answers .now) (a .s) _ (a .used) (a .records) (a .list .now) (p .long) (c .before .before .before .before .before .before .kind-of .ensures) (c .before .before .before .before .open-cell .result) (c .before .before .before .before .before .if1 .left) (c .before .before .before .before .open-cell .ensures) (c .pushed2 .ensures .1),
+      (wrote-none _ _ (p .few), c .pushed2 .ensures .0),
+    )
 
 pub entered-spec : {M : Type 1} → statement M
 entered-spec =
     tie.close
     (tie.spec
     kind-of-requires
+    pushed-requires
     mul-list
     slice-write-list
-    pushed-requires
-    add-t13
+    add-t20
+    add-t22
     same-length
     returns
-    pushed-requires-2
+    add-t23
     returns-2
     open-cell-requires
-    pushed-requires-3
+    pushed-requires-2
+    add-t28
     returns-3)

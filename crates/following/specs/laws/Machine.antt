@@ -13,10 +13,9 @@ use borrow.Author.Tests.{eq-eqb, ne-eqb, lt-ltb, le-ltb}
 use Rattle.links.specs.Links.{link}
 use Rattle.following.specs.declared.Opened.{Opened}
 use Rattle.following.specs.declared.Todo.{Todo}
-use Rattle.following.specs.declared.Chain.{Chain}
 use Rattle.plan.specs.Limits.{most-steps}
 use Rattle.moves.specs.Drill.{Drill, recorded}
-use Rattle.following.specs.Machine.{nothing, once, after, hops, repeated, picked, waiting, answered, opened, Frame, frame, frames, top, below, frames-of, State, outcome-of, so-far, passed, enter, step-at, step-on, step}
+use Rattle.following.specs.Machine.{nothing, once, after, hops, repeated, picked, waiting, answered, opened, Frame, frame, Chain, frames, top, below, frames-of, State, outcome-of, so-far, passed, enter, step-at, step-on, step}
 use Rattle.following.specs.Needed.{Wrote}
 
 -- ---- the stack that three arrays and a count show
@@ -131,11 +130,14 @@ module _ (ls ks bs : List ℕ) (c : Chain) (some : 0 < c .count) (d : Drill) whe
       go zero l = absurd (omega arith)
       go (suc n) l = refl
 
-pub pass-is : (ls ks : List ℕ) (c : Chain) {k : ℕ} (t : Todo) → 0 < c .count → c .count - 1 < length (c .nexts) → c .count - 1 < length (c .times) → k ≡ getD ks (top c .cell) 0 → t ≡ after ls k (top c .next) (top c .times)
-    → frames-of (c .cells) (set (c .nexts) (c .count - 1) (t .next)) (set (c .times) (c .count - 1) (t .times)) (c .count) ≡ passed ls ks (top c) ∷ below c
+pub pass-is : (ls ks : List ℕ) (c : Chain) {k : ℕ} {ns ts : List ℕ} → 0 < c .count → c .count - 1 < length (c .nexts) → c .count - 1 < length (c .times) → k ≡ getD ks (top c .cell) 0
+    → ns ≡ set (c .nexts) (c .count - 1) (after ls k (top c .next) (top c .times) .next) → ts ≡ set (c .times) (c .count - 1) (after ls k (top c .next) (top c .times) .times)
+    → frames-of (c .cells) ns ts (c .count) ≡ passed ls ks (top c) ∷ below c
 unfolding passed
-pass-is ls ks c t some a b ek et =
+pass-is ls ks c {k} some a b ek en et =
     let e : c .count ≡ c .count - 1 + 1 = omega arith in
-    ap (frames-of (c .cells) (set (c .nexts) (c .count - 1) (t .next)) (set (c .times) (c .count - 1) (t .times))) e
+    let t = after ls k (top c .next) (top c .times) in
+    rw (en, et)
+    (ap (frames-of (c .cells) (set (c .nexts) (c .count - 1) (t .next)) (set (c .times) (c .count - 1) (t .times))) e
     ∙ frames-pass (c .cells) (c .nexts) (c .times) (c .count - 1) (t .next) (t .times) a b
-    ∙ rw (et, ek)
+    ∙ rw ek)
