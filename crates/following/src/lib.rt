@@ -18,7 +18,7 @@ ghost use Rattle.plan.specs.Fit.{Fit};
 ghost use Rattle.plan.specs.Columns.{«table-of»};
 ghost use Rattle.plan.specs.Questions.{refusal, drill, «drill-given»};
 ghost use Rattle.links.specs.Links.{link, Links};
-ghost use Rattle.moves.specs.Drill.{«drill-of»};
+ghost use Rattle.moves.specs.Drill.{recorded, «drill-of»};
 ghost use Rattle.following.specs.Machine.{after, later, hops, repeated, picked, waiting, answered, opened, frame, «frames-of», chain, enter, step, «outcome-of», «so-far», «state-of»};
 ghost use Rattle.following.specs.Drilled.{«told-as», «drill-told», Drills};
 ghost use Rattle.following.specs.Needed.{Row, Cell, Arrays, Passing, Entering, Turning, Wrote};
@@ -258,7 +258,31 @@ fn passed(links: &[u16], kind: u8, nexts: &mut [u16; 32], times: &mut [u8; 32], 
     times[k] = t.times;
 }
 
-// The cell s is opened. A step is recorded, where there is room.
+// A step s, which is opened, is recorded, where there is room.
+fn recorded(s: u16, at: Turned, list: &mut [u16]) -> Turned
+    requires { ⌜ (at .count < 32) × (at .records ≤ most-steps) × (most-steps ≤ length (now list)) ⌝ }
+    ensures { λ r. ⌜ (r .count ≡ at .count + 1) × (so-far (r .halt) (r .used) (r .records) (now (list .exit)) ≡ recorded s (so-far 0 (at .used) (at .records) (now (list .entry)))) ⌝ }
+    ensures { λ r. ⌜ Wrote (at .records) (r .records) (now (list .entry)) (now (list .exit)) ⌝ }
+{
+    let k = at.records;
+    if k < MOST_STEPS {
+        list[k] = s;
+        return Turned {
+            count: at.count + 1,
+            halt: 0,
+            used: at.used,
+            records: k + 1,
+        };
+    }
+    Turned {
+        count: at.count + 1,
+        halt: 3,
+        used: at.used,
+        records: k,
+    }
+}
+
+// The cell s is opened.
 fn entered(
     links: &[u16],
     kinds: &[u8],
@@ -267,41 +291,25 @@ fn entered(
     cells: &mut [u16; 32],
     nexts: &mut [u16; 32],
     times: &mut [u8; 32],
-    count: usize,
-    used: usize,
-    records: usize,
+    at: Turned,
     list: &mut [u16],
 ) -> Turned
-    requires { ⌜ Entering (now links) (now kinds) s count records (now list) × Arrays (now cells) (now nexts) (now times) ⌝ }
-    ensures { λ r. ⌜ state-of (chain (now (cells .exit)) (now (nexts .exit)) (now (times .exit)) (r .count)) (r .halt) (r .used) (r .records) (now (list .exit)) ≡ enter (now (links .entry)) (now (kinds .entry)) (now (answers .entry)) s (frames-of (now (cells .entry)) (now (nexts .entry)) (now (times .entry)) count) (so-far 0 used records (now (list .entry))) ⌝ }
-    ensures { λ r. ⌜ Wrote records (r .records) (now (list .entry)) (now (list .exit)) × Arrays (now (cells .exit)) (now (nexts .exit)) (now (times .exit)) ⌝ }
+    requires { ⌜ Entering (now links) (now kinds) s (at .count) (at .records) (now list) × Arrays (now cells) (now nexts) (now times) ⌝ }
+    ensures { λ r. ⌜ state-of (chain (now (cells .exit)) (now (nexts .exit)) (now (times .exit)) (r .count)) (r .halt) (r .used) (r .records) (now (list .exit)) ≡ enter (now (links .entry)) (now (kinds .entry)) (now (answers .entry)) s (frames-of (now (cells .entry)) (now (nexts .entry)) (now (times .entry)) (at .count)) (so-far 0 (at .used) (at .records) (now (list .entry))) ⌝ }
+    ensures { λ r. ⌜ Wrote (at .records) (r .records) (now (list .entry)) (now (list .exit)) × Arrays (now (cells .exit)) (now (nexts .exit)) (now (times .exit)) ⌝ }
 {
     let kind = kind_of(kinds, s);
     if kind == 1 {
-        pushed(cells, nexts, times, count, s, 0, 0);
-        if records < MOST_STEPS {
-            list[records] = s;
-            return Turned {
-                count: count + 1,
-                halt: 0,
-                used,
-                records: records + 1,
-            };
-        }
-        return Turned {
-            count: count + 1,
-            halt: 3,
-            used,
-            records,
-        };
+        pushed(cells, nexts, times, at.count, s, 0, 0);
+        return recorded(s, at, list);
     }
-    let o = open_cell(links, answers, s, kind, used);
-    pushed(cells, nexts, times, count, s, o.next, o.times);
+    let o = open_cell(links, answers, s, kind, at.used);
+    pushed(cells, nexts, times, at.count, s, o.next, o.times);
     Turned {
-        count: count + 1,
+        count: at.count + 1,
         halt: o.halt,
         used: o.used,
-        records,
+        records: at.records,
     }
 }
 
@@ -313,40 +321,25 @@ fn turn(
     cells: &mut [u16; 32],
     nexts: &mut [u16; 32],
     times: &mut [u8; 32],
-    count: usize,
-    used: usize,
-    records: usize,
+    at: Turned,
     list: &mut [u16],
 ) -> Turned
-    requires { ⌜ Turning (now links) (now kinds) (chain (now cells) (now nexts) (now times) count) records (now list) × Arrays (now cells) (now nexts) (now times) ⌝ }
-    ensures { λ r. ⌜ state-of (chain (now (cells .exit)) (now (nexts .exit)) (now (times .exit)) (r .count)) (r .halt) (r .used) (r .records) (now (list .exit)) ≡ step (now (links .entry)) (now (kinds .entry)) (now (answers .entry)) (state-of (chain (now (cells .entry)) (now (nexts .entry)) (now (times .entry)) count) 0 used records (now (list .entry))) ⌝ }
-    ensures { λ r. ⌜ Wrote records (r .records) (now (list .entry)) (now (list .exit)) × Arrays (now (cells .exit)) (now (nexts .exit)) (now (times .exit)) ⌝ }
+    requires { ⌜ Turning (now links) (now kinds) (chain (now cells) (now nexts) (now times) (at .count)) (at .records) (now list) × Arrays (now cells) (now nexts) (now times) ⌝ }
+    ensures { λ r. ⌜ state-of (chain (now (cells .exit)) (now (nexts .exit)) (now (times .exit)) (r .count)) (r .halt) (r .used) (r .records) (now (list .exit)) ≡ step (now (links .entry)) (now (kinds .entry)) (now (answers .entry)) (state-of (chain (now (cells .entry)) (now (nexts .entry)) (now (times .entry)) (at .count)) 0 (at .used) (at .records) (now (list .entry))) ⌝ }
+    ensures { λ r. ⌜ Wrote (at .records) (r .records) (now (list .entry)) (now (list .exit)) × Arrays (now (cells .exit)) (now (nexts .exit)) (now (times .exit)) ⌝ }
 {
-    let k = count - 1;
+    let k = at.count - 1;
     let n = nexts[k];
     if n == 0 {
         return Turned {
             count: k,
             halt: 0,
-            used,
-            records,
+            used: at.used,
+            records: at.records,
         };
     }
-    let kind = kind_of(kinds, cells[k]);
-    passed(links, kind, nexts, times, k);
-    entered(
-        links,
-        kinds,
-        answers,
-        n,
-        cells,
-        nexts,
-        times,
-        count,
-        used,
-        records,
-        list,
-    )
+    passed(links, kind_of(kinds, cells[k]), nexts, times, k);
+    entered(links, kinds, answers, n, cells, nexts, times, at, list)
 }
 
 // Whether there is a further turn.
@@ -364,6 +357,12 @@ fn followed(t: Columns, links: &[u16], answers: &[u8], list: &mut [u16]) -> Turn
     let mut cells = [0u16; 32];
     let mut nexts = [0u16; 32];
     let mut times = [0u8; 32];
+    let begin = Turned {
+        count: 0,
+        halt: 0,
+        used: 0,
+        records: 0,
+    };
     let mut at = entered(
         links,
         &t.kind,
@@ -372,9 +371,7 @@ fn followed(t: Columns, links: &[u16], answers: &[u8], list: &mut [u16]) -> Turn
         &mut cells,
         &mut nexts,
         &mut times,
-        0,
-        0,
-        0,
+        begin,
         list,
     );
     while goes_on(at.halt, at.count) {
@@ -385,9 +382,7 @@ fn followed(t: Columns, links: &[u16], answers: &[u8], list: &mut [u16]) -> Turn
             &mut cells,
             &mut nexts,
             &mut times,
-            at.count,
-            at.used,
-            at.records,
+            at,
             list,
         );
     }

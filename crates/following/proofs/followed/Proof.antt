@@ -42,7 +42,7 @@ loop-holds c =
     let s = c .before .before .before .before .before .before .before .before .before .before .before .before .before in (
       goes-start (table-of (s .args .t1)) _ _ (s .args .answers .now) (given s) (chain _ _ _ 0) refl (s .args .list .now) (c .before .before .entered .ensures .0),
       wrote-none _ _ (c .before .before .entered .ensures .1 .0 .few),
-      omega (arith, c .before .before .entered .kept .1 .1 .1 .1 .1 .1 .1 .1 .1 .1 .0, s .pre .2),
+      omega (arith, c .before .before .entered .kept .1 .1 .1 .1 .1 .1 .1 .1 .0, s .pre .2),
       refl,
       c .before .before .entered .ensures .1 .1,
     )
@@ -71,13 +71,13 @@ loop-again c =
     let g = goes-both (c .before .before .before .before .before .before .before .before .before .before .before .goes-on .result) (l .at .halt) (l .at .count) (c .before .before .before .before .before .before .before .before .before .before .before .goes-on .ensures) (c .before .before .before .before .before .before .before .before .before .before .if1 .taken) in (
       goes-turn (table-of (a .t1)) (a .links .now) (a .t1 .kind) (a .answers .now) (chain (l .cells) (l .nexts) (l .times) (l .at .count)) (l .at .used) (l .at .records) (l .list) (g .1) (rw (g .0) at (l .inv .0)) (c .before .before .turn .ensures .0),
       wrote-more (l .inv .1) (c .before .before .turn .ensures .1 .0),
-      omega (arith, c .before .before .turn .kept .1 .1 .1 .1 .1 .1 .1 .1 .1 .0, l .inv .2),
-      c .before .before .turn .kept .1 .1 .1 .1 .1 .1 .1 .1 .1 .0 ∙ l .inv .3,
+      omega (arith, c .before .before .turn .kept .1 .1 .1 .1 .1 .1 .1 .0, l .inv .2),
+      c .before .before .turn .kept .1 .1 .1 .1 .1 .1 .1 .0 ∙ l .inv .3,
       c .before .before .turn .ensures .1 .1,
     )
 
 same-length : tie.Need-same-length Inv-loop μ-loop
-same-length c = c .before .before .loop .inv .3 ∙ c .before .before .before .before .before .entered .kept .1 .1 .1 .1 .1 .1 .1 .1 .1 .1 .0
+same-length c = c .before .before .loop .inv .3 ∙ c .before .before .before .before .before .entered .kept .1 .1 .1 .1 .1 .1 .1 .1 .0
 
 returns : tie.Need-returns Inv-loop μ-loop
 returns c =
