@@ -12,7 +12,6 @@ use lib.Dec.{ltb}
 use borrow.Author.Tests.{eq-eqb, ne-eqb, lt-ltb, le-ltb}
 use Rattle.links.specs.Links.{link}
 use Rattle.following.specs.declared.Opened.{Opened}
-use Rattle.following.specs.declared.Todo.{Todo}
 use Rattle.plan.specs.Limits.{most-steps}
 use Rattle.moves.specs.Drill.{Drill, recorded}
 use Rattle.following.specs.Machine.{nothing, once, after, hops, repeated, picked, waiting, answered, opened, Frame, frame, Chain, frames, top, below, frames-of, State, outcome-of, so-far, passed, enter, step-at, step-on, step}
