@@ -331,6 +331,9 @@ trouble "two arguments" "drill: it takes one argument, the plan's file; the answ
 trouble "no such plan" "drill: the plan's file cannot be opened" "$work/none.plan"
 trouble "a folder" "drill: the plan's file cannot be read" "$work"
 same "an empty plan" "refused 2 0" "$("$drill" "$work/empty" < "$work/empty")"
+"$drill" plans/printed.plan < "$work" > "$work/out" 2> "$work/err"
+same "standard error, answers that cannot be read" "drill: the answers cannot be read" "$(cat "$work/err")"
+same_files "standard output, answers that cannot be read" "$work/empty" "$work/out"
 "$drill" plans/printed.plan < "$work/empty" > /dev/full 2> "$work/err"
 same "standard error, a drill to a full device" "drill: the transcript could not be written whole" "$(cat "$work/err")"
 

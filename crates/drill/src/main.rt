@@ -31,14 +31,23 @@ fn open_plan() -> i32 {
     fd
 }
 
-fn print_drill(file: &[u8]) {
-    let mut answers = [0u8; 4097];
-    let n = io::read_full(STDIN_FILENO, &mut answers);
+fn print_drill(file: &[u8], answers: &[u8]) {
     let mut out = [0u8; TRANSCRIPT_SIZE];
-    let length = write_transcript(file, &answers[..n], &mut out);
+    let length = write_transcript(file, answers, &mut out);
     if !io::write_all(STDOUT_FILENO, &out[..length]) {
         trouble(b"drill: the transcript could not be written whole\n");
     }
+}
+
+// Reads the answers, and stops where that fails: to have none is something else.
+fn answer_plan(file: &[u8]) {
+    let mut answers = [0u8; 4097];
+    let n = io::read_full(STDIN_FILENO, &mut answers);
+    if n == 0 && os::errno() != 0 {
+        trouble(b"drill: the answers cannot be read\n");
+        return;
+    }
+    print_drill(file, &answers[..n]);
 }
 
 // Reads the plan, and stops where that fails: a folder can be opened, and not read.
@@ -49,7 +58,7 @@ fn drill_plan(fd: i32) {
         trouble(b"drill: the plan's file cannot be read\n");
         return;
     }
-    print_drill(&file[..n]);
+    answer_plan(&file[..n]);
 }
 
 fn main() {

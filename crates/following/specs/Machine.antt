@@ -8,7 +8,6 @@ use lib.Dec.{eqb, ltb}
 use Rattle.links.specs.Links.{link}
 use Rattle.following.specs.declared.Todo.{Todo}
 use Rattle.following.specs.declared.Opened.{Opened}
-use Rattle.following.specs.declared.Chain.{Chain}
 use Rattle.moves.specs.Drill.{Outcome, finished, spent, wrong, full, Drill, recorded}
 
 -- ---- what the code reads and makes, function by function
@@ -65,6 +64,16 @@ frame c n k = record { cell = c; next = n; times = k }
 unfoldable pub frames-of : (cells nexts times : List ℕ) → ℕ → List Frame
 frames-of cs ns ks zero = []
 frames-of cs ns ks (suc k) = frame (getD cs k 0) (getD ns k 0) (getD ks k 0) ∷ frames-of cs ns ks k
+
+-- the three arrays and the count
+pub record Chain : Type 0 where
+  pub cells : List ℕ
+  pub nexts : List ℕ
+  pub times : List ℕ
+  pub count : ℕ
+
+abbrev pub chain : (cells nexts times : List ℕ) → ℕ → Chain
+chain cs ns ks n = record { cells = cs; nexts = ns; times = ks; count = n }
 
 abbrev pub frames : Chain → List Frame
 frames c = frames-of (c .cells) (c .nexts) (c .times) (c .count)

@@ -7,8 +7,7 @@ use Rattle.plan.specs.Limits.{most-steps}
 use Rattle.plan.specs.Plan.{Table, Is, children}
 use Rattle.plan.specs.Fit.{Fit}
 use Rattle.links.specs.Links.{Links}
-use Rattle.following.specs.declared.Chain.{Chain}
-use Rattle.following.specs.Machine.{top, Beyond}
+use Rattle.following.specs.Machine.{Chain, top, Beyond}
 
 -- the links of a table that keeps the questions; n is 0 or a child
 pub record Row (ls : List ℕ) (n : ℕ) : Type 0 where
@@ -26,11 +25,16 @@ pub record Cell (ls : List ℕ) (s : ℕ) : Type 0 where
   pub links : Links table ls
   pub is : Is table s
 
-pub record Passing (ls ks : List ℕ) (c : Chain) : Type 0 where
-  pub some : 0 < c .count
-  pub many : c .count ≤ 32
-  pub links : 4 * top c .next + 4 ≤ length ls
-  pub kinds : top c .cell < length ks
+-- the arrays of the chain have 32 places each
+pub record Arrays (cells nexts times : List ℕ) : Type 0 where
+  pub cells-long : length cells ≡ 32
+  pub nexts-long : length nexts ≡ 32
+  pub times-long : length times ≡ 32
+
+-- the child at place k of the chain may be begun
+pub record Passing (ls nexts : List ℕ) (k : ℕ) : Type 0 where
+  pub room : k < 32
+  pub links : 4 * getD nexts k 0 + 4 ≤ length ls
 
 -- the cell s may be opened, and a step may be recorded
 pub record Entering (ls ks : List ℕ) (s count records : ℕ) (list : List ℕ) : Type 0 where

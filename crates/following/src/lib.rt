@@ -11,17 +11,17 @@ ghost use mathlib.Core.Path.{_≡_};
 ghost use mathlib.Core.List.{_∷_, _++_};
 ghost use mathlib.Core.Bool.{_&&_};
 ghost use Prim.Native.Nat.{_+_, _*_, _≤_, _<_};
-ghost use lib.ListN.{length, getD, drop};
+ghost use lib.ListN.{length, getD, set, drop};
 ghost use lib.Dec.{eqb, ltb};
 ghost use Rattle.plan.specs.Limits.{«most-steps»};
 ghost use Rattle.plan.specs.Fit.{Fit};
 ghost use Rattle.plan.specs.Columns.{«table-of»};
 ghost use Rattle.plan.specs.Questions.{refusal, drill, «drill-given»};
 ghost use Rattle.links.specs.Links.{link, Links};
-ghost use Rattle.moves.specs.Drill.{«drill-of»};
-ghost use Rattle.following.specs.Machine.{after, later, hops, repeated, picked, waiting, answered, opened, frame, frames, top, below, passed, enter, step, «outcome-of», «so-far», «state-of»};
+ghost use Rattle.moves.specs.Drill.{recorded, «drill-of»};
+ghost use Rattle.following.specs.Machine.{after, later, hops, repeated, picked, waiting, answered, opened, frame, «frames-of», chain, enter, step, «outcome-of», «so-far», «state-of»};
 ghost use Rattle.following.specs.Drilled.{«told-as», «drill-told», Drills};
-ghost use Rattle.following.specs.Needed.{Row, Cell, Passing, Entering, Turning, Wrote};
+ghost use Rattle.following.specs.Needed.{Row, Cell, Arrays, Passing, Entering, Turning, Wrote};
 
 // What is still to do of an open cell: the next child, 0 where there is none, and how often.
 pub struct Todo {
@@ -37,17 +37,9 @@ pub struct Opened {
     pub used: usize,
 }
 
-// The chain of open cells, from the root down, and beside each what is still to do of it.
-pub struct Chain {
-    pub cells: [u16; 32],
-    pub nexts: [u16; 32],
-    pub times: [u8; 32],
-    pub count: usize,
-}
-
-// The drill after a turn.
+// The drill after a turn: the number of open cells, how it ended, as above, bytes used and records.
 pub struct Turned {
-    pub chain: Chain,
+    pub count: usize,
     pub halt: u8,
     pub used: usize,
     pub records: usize,
@@ -236,74 +228,88 @@ fn open_cell(links: &[u16], answers: &[u8], s: u16, kind: u8, used: usize) -> Op
     }
 }
 
-// One more open cell.
-fn pushed(chain: Chain, s: u16, next: u16, times: u8) -> Chain
-    requires { ⌜ chain .count < 32 ⌝ }
-    ensures { λ r. ⌜ frames r ≡ frame s next times ∷ frames chain ⌝ }
-    ensures { λ r. ⌜ r .count ≡ chain .count + 1 ⌝ }
+// The chain of open cells, from the root down, is three arrays that are lent, not copied: the cell, its next child, how often that one. One more open cell.
+fn pushed(
+    cells: &mut [u16; 32],
+    nexts: &mut [u16; 32],
+    times: &mut [u8; 32],
+    count: usize,
+    s: u16,
+    next: u16,
+    often: u8,
+)
+    requires { ⌜ (count < 32) × Arrays (now cells) (now nexts) (now times) ⌝ }
+    ensures { λ _. ⌜ Arrays (now (cells .exit)) (now (nexts .exit)) (now (times .exit)) ⌝ }
+    ensures { λ _. ⌜ frames-of (now (cells .exit)) (now (nexts .exit)) (now (times .exit)) (count + 1) ≡ frame s next often ∷ frames-of (now (cells .entry)) (now (nexts .entry)) (now (times .entry)) count ⌝ }
 {
-    let k = chain.count;
-    let mut c = chain;
-    c.cells[k] = s;
-    c.nexts[k] = next;
-    c.times[k] = times;
-    c.count = k + 1;
-    c
+    cells[count] = s;
+    nexts[count] = next;
+    times[count] = often;
 }
 
-// The next child of the latest open cell is begun: what is to do after it.
-fn passed(links: &[u16], kinds: &[u8], chain: Chain) -> Chain
-    requires { ⌜ Passing (now links) (now kinds) chain ⌝ }
-    ensures { λ r. ⌜ frames r ≡ passed (now (links .entry)) (now (kinds .entry)) (top chain) ∷ below chain ⌝ }
-    ensures { λ r. ⌜ r .count ≡ chain .count ⌝ }
+// The next child of the latest open cell, which is of this kind, is begun: what is to do after it.
+fn passed(links: &[u16], kind: u8, nexts: &mut [u16; 32], times: &mut [u8; 32], k: usize)
+    requires { ⌜ Passing (now links) (now nexts) k ⌝ }
+    ensures { λ _. ⌜ now (nexts .exit) ≡ set (now (nexts .entry)) k (after (now (links .entry)) kind (getD (now (nexts .entry)) k 0) (getD (now (times .entry)) k 0) .next) ⌝ }
+    ensures { λ _. ⌜ now (times .exit) ≡ set (now (times .entry)) k (after (now (links .entry)) kind (getD (now (nexts .entry)) k 0) (getD (now (times .entry)) k 0) .times) ⌝ }
 {
-    let k = chain.count - 1;
-    let mut c = chain;
-    let t = after(links, kind_of(kinds, c.cells[k]), c.nexts[k], c.times[k]);
-    c.nexts[k] = t.next;
-    c.times[k] = t.times;
-    c
+    let t = after(links, kind, nexts[k], times[k]);
+    nexts[k] = t.next;
+    times[k] = t.times;
 }
 
-// The cell s is opened. A step is recorded, where there is room.
+// A step s, which is opened, is recorded, where there is room.
+fn recorded(s: u16, at: Turned, list: &mut [u16]) -> Turned
+    requires { ⌜ (at .count < 32) × (at .records ≤ most-steps) × (most-steps ≤ length (now list)) ⌝ }
+    ensures { λ r. ⌜ (r .count ≡ at .count + 1) × (so-far (r .halt) (r .used) (r .records) (now (list .exit)) ≡ recorded s (so-far 0 (at .used) (at .records) (now (list .entry)))) ⌝ }
+    ensures { λ r. ⌜ Wrote (at .records) (r .records) (now (list .entry)) (now (list .exit)) ⌝ }
+{
+    let k = at.records;
+    if k < MOST_STEPS {
+        list[k] = s;
+        return Turned {
+            count: at.count + 1,
+            halt: 0,
+            used: at.used,
+            records: k + 1,
+        };
+    }
+    Turned {
+        count: at.count + 1,
+        halt: 3,
+        used: at.used,
+        records: k,
+    }
+}
+
+// The cell s is opened.
 fn entered(
     links: &[u16],
     kinds: &[u8],
     answers: &[u8],
     s: u16,
-    chain: Chain,
-    used: usize,
-    records: usize,
+    cells: &mut [u16; 32],
+    nexts: &mut [u16; 32],
+    times: &mut [u8; 32],
+    at: Turned,
     list: &mut [u16],
 ) -> Turned
-    requires { ⌜ Entering (now links) (now kinds) s (chain .count) records (now list) ⌝ }
-    ensures { λ r. ⌜ state-of (r .chain) (r .halt) (r .used) (r .records) (now (list .exit)) ≡ enter (now (links .entry)) (now (kinds .entry)) (now (answers .entry)) s (frames chain) (so-far 0 used records (now (list .entry))) ⌝ }
-    ensures { λ r. ⌜ Wrote records (r .records) (now (list .entry)) (now (list .exit)) ⌝ }
+    requires { ⌜ Entering (now links) (now kinds) s (at .count) (at .records) (now list) × Arrays (now cells) (now nexts) (now times) ⌝ }
+    ensures { λ r. ⌜ state-of (chain (now (cells .exit)) (now (nexts .exit)) (now (times .exit)) (r .count)) (r .halt) (r .used) (r .records) (now (list .exit)) ≡ enter (now (links .entry)) (now (kinds .entry)) (now (answers .entry)) s (frames-of (now (cells .entry)) (now (nexts .entry)) (now (times .entry)) (at .count)) (so-far 0 (at .used) (at .records) (now (list .entry))) ⌝ }
+    ensures { λ r. ⌜ Wrote (at .records) (r .records) (now (list .entry)) (now (list .exit)) × Arrays (now (cells .exit)) (now (nexts .exit)) (now (times .exit)) ⌝ }
 {
     let kind = kind_of(kinds, s);
     if kind == 1 {
-        if records < MOST_STEPS {
-            list[records] = s;
-            return Turned {
-                chain: pushed(chain, s, 0, 0),
-                halt: 0,
-                used,
-                records: records + 1,
-            };
-        }
-        return Turned {
-            chain: pushed(chain, s, 0, 0),
-            halt: 3,
-            used,
-            records,
-        };
+        pushed(cells, nexts, times, at.count, s, 0, 0);
+        return recorded(s, at, list);
     }
-    let o = open_cell(links, answers, s, kind, used);
+    let o = open_cell(links, answers, s, kind, at.used);
+    pushed(cells, nexts, times, at.count, s, o.next, o.times);
     Turned {
-        chain: pushed(chain, s, o.next, o.times),
+        count: at.count + 1,
         halt: o.halt,
         used: o.used,
-        records,
+        records: at.records,
     }
 }
 
@@ -312,37 +318,28 @@ fn turn(
     links: &[u16],
     kinds: &[u8],
     answers: &[u8],
-    chain: Chain,
-    used: usize,
-    records: usize,
+    cells: &mut [u16; 32],
+    nexts: &mut [u16; 32],
+    times: &mut [u8; 32],
+    at: Turned,
     list: &mut [u16],
 ) -> Turned
-    requires { ⌜ Turning (now links) (now kinds) chain records (now list) ⌝ }
-    ensures { λ r. ⌜ state-of (r .chain) (r .halt) (r .used) (r .records) (now (list .exit)) ≡ step (now (links .entry)) (now (kinds .entry)) (now (answers .entry)) (state-of chain 0 used records (now (list .entry))) ⌝ }
-    ensures { λ r. ⌜ Wrote records (r .records) (now (list .entry)) (now (list .exit)) ⌝ }
+    requires { ⌜ Turning (now links) (now kinds) (chain (now cells) (now nexts) (now times) (at .count)) (at .records) (now list) × Arrays (now cells) (now nexts) (now times) ⌝ }
+    ensures { λ r. ⌜ state-of (chain (now (cells .exit)) (now (nexts .exit)) (now (times .exit)) (r .count)) (r .halt) (r .used) (r .records) (now (list .exit)) ≡ step (now (links .entry)) (now (kinds .entry)) (now (answers .entry)) (state-of (chain (now (cells .entry)) (now (nexts .entry)) (now (times .entry)) (at .count)) 0 (at .used) (at .records) (now (list .entry))) ⌝ }
+    ensures { λ r. ⌜ Wrote (at .records) (r .records) (now (list .entry)) (now (list .exit)) × Arrays (now (cells .exit)) (now (nexts .exit)) (now (times .exit)) ⌝ }
 {
-    let k = chain.count - 1;
-    let n = chain.nexts[k];
+    let k = at.count - 1;
+    let n = nexts[k];
     if n == 0 {
-        let mut c = chain;
-        c.count = k;
         return Turned {
-            chain: c,
+            count: k,
             halt: 0,
-            used,
-            records,
+            used: at.used,
+            records: at.records,
         };
     }
-    entered(
-        links,
-        kinds,
-        answers,
-        n,
-        passed(links, kinds, chain),
-        used,
-        records,
-        list,
-    )
+    passed(links, kind_of(kinds, cells[k]), nexts, times, k);
+    entered(links, kinds, answers, n, cells, nexts, times, at, list)
 }
 
 // Whether there is a further turn.
@@ -357,16 +354,37 @@ fn followed(t: Columns, links: &[u16], answers: &[u8], list: &mut [u16]) -> Turn
     requires { ⌜ Fit (table-of t) × Links (table-of t) (now links) × (most-steps ≤ length (now list)) ⌝ }
     ensures { λ r. ⌜ (so-far (r .halt) (r .used) (r .records) (now (list .exit)) ≡ drill-of (table-of t) (now (answers .entry))) × Wrote 0 (r .records) (now (list .entry)) (now (list .exit)) ⌝ }
 {
-    let empty = Chain {
-        cells: [0u16; 32],
-        nexts: [0u16; 32],
-        times: [0u8; 32],
+    let mut cells = [0u16; 32];
+    let mut nexts = [0u16; 32];
+    let mut times = [0u8; 32];
+    let begin = Turned {
         count: 0,
+        halt: 0,
+        used: 0,
+        records: 0,
     };
-    let mut at = entered(links, &t.kind, answers, 0, empty, 0, 0, list);
-    while goes_on(at.halt, at.chain.count) {
-        let chain = at.chain;
-        at = turn(links, &t.kind, answers, chain, at.used, at.records, list);
+    let mut at = entered(
+        links,
+        &t.kind,
+        answers,
+        0,
+        &mut cells,
+        &mut nexts,
+        &mut times,
+        begin,
+        list,
+    );
+    while goes_on(at.halt, at.count) {
+        at = turn(
+            links,
+            &t.kind,
+            answers,
+            &mut cells,
+            &mut nexts,
+            &mut times,
+            at,
+            list,
+        );
     }
     at
 }

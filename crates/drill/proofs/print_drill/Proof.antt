@@ -5,20 +5,8 @@ use borrow.Author.Needs.{needs}
 use Rattle.drill.proofs.print_drill.Statement.{statement}
 use Rattle.drill.proofs.print_drill.Tie as tie
 
-slice-aggregate-read-full : tie.Need-slice-aggregate-read-full
-slice-aggregate-read-full c = search needs
-
-read-full-requires : tie.Need-read-full-requires
-read-full-requires c κs = search needs
-
-array-share-prefix-answers : tie.Need-array-share-prefix-answers
-array-share-prefix-answers c = search needs
-
 slice-aggregate-write-transcript : tie.Need-slice-aggregate-write-transcript
 slice-aggregate-write-transcript c = search needs
-
-slice-aggregate-write-transcript-2 : tie.Need-slice-aggregate-write-transcript-2
-slice-aggregate-write-transcript-2 c = search needs
 
 write-transcript-requires : tie.Need-write-transcript-requires
 write-transcript-requires c κs = search needs
@@ -48,11 +36,7 @@ pub print-drill-spec : {M : Type 1} → statement M
 print-drill-spec =
     tie.close
     (tie.spec
-    slice-aggregate-read-full
-    read-full-requires
-    array-share-prefix-answers
     slice-aggregate-write-transcript
-    slice-aggregate-write-transcript-2
     write-transcript-requires
     array-share-prefix-out
     slice-aggregate-write-all

@@ -3,8 +3,8 @@ use Rattle.plan.specs.Limits.{most-steps}
 use Rattle.following.specs.laws.Machine.{wrote-none}
 use Rattle.following.specs.laws.Follows.{Reads, Goes, start-entering, goes-start, goes-turning, goes-turn, goes-less, goes-end, goes-both, wrote-more}
 use Rattle.following.specs.laws.Runs.{weight}
-use Rattle.following.specs.Needed.{Wrote}
-use Rattle.following.specs.Machine.{state-of}
+use Rattle.following.specs.Needed.{Arrays, Wrote}
+use Rattle.following.specs.Machine.{chain, state-of}
 use Rattle.plan.specs.laws.Tables.{kind-is, length-is}
 use Rattle.plan.specs.Columns.{table-of}
 use lib.ListN.{length}
@@ -15,10 +15,15 @@ use Rattle.following.proofs.followed.Statement.{statement}
 use Rattle.following.proofs.followed.Tie as tie
 
 abbrev Inv-loop : tie.InvT-loop
-Inv-loop links answers list₀ t at₀ list at = Goes (table-of t) links (t .kind) answers (state-of (at .chain) (at .halt) (at .used) (at .records) list) × Wrote (at₀ .records) (at .records) list₀ list × (most-steps ≤ length list) × (length list ≡ length list₀)
+Inv-loop links answers list₀ t cells₀ nexts₀ times₀ at₀ list cells nexts times at =
+    Goes (table-of t) links (t .kind) answers (state-of (chain cells nexts times (at .count)) (at .halt) (at .used) (at .records) list)
+    × Wrote (at₀ .records) (at .records) list₀ list
+    × (most-steps ≤ length list)
+    × (length list ≡ length list₀)
+    × Arrays cells nexts times
 
 abbrev μ-loop : tie.MeasureT-loop
-μ-loop links answers list₀ t at₀ list at = weight answers (state-of (at .chain) (at .halt) (at .used) (at .records) list)
+μ-loop links answers list₀ t cells₀ nexts₀ times₀ at₀ list cells nexts times at = weight answers (state-of (chain cells nexts times (at .count)) (at .halt) (at .used) (at .records) list)
 
 -- the table that the columns are of
 given : (s : tie.Start Inv-loop μ-loop) → Reads (table-of (s .args .t1)) (s .args .links .now) (s .args .t1 .kind)
@@ -28,37 +33,59 @@ given s =
     record { fit = s .pre .0; links = s .pre .1; kind-of = λ c i. sym (kind-is t c (omega (arith, length-is t))); long = omega arith }
 
 entered-requires : tie.Need-entered-requires Inv-loop μ-loop
-entered-requires c κs = start-entering (table-of (c .before .before .before .before .before .before .before .args .t1)) _ _ (c .before .before .before .before .before .before .before .args .answers .now) (given (c .before .before .before .before .before .before .before)) _ (c .before .before .before .before .before .before .before .pre .2)
+entered-requires c κs =
+    let s = c .before .before .before .before .before .before .before .before .before .before in
+    (start-entering (table-of (s .args .t1)) _ _ (s .args .answers .now) (given s) _ (s .pre .2), record { cells-long = refl; nexts-long = refl; times-long = refl })
 
 loop-holds : tie.Need-loop-holds Inv-loop μ-loop
-loop-holds c = (goes-start (table-of (c .before .before .before .before .before .before .before .before .before .before .args .t1)) _ _ (c .before .before .before .before .before .before .before .before .before .before .args .answers .now) (given (c .before .before .before .before .before .before .before .before .before .before)) _ refl (c .before .before .before .before .before .before .before .before .before .before .args .list .now) (c .before .before .entered .ensures .0), wrote-none _ _ (c .before .before .entered .ensures .1 .few), omega (arith, c .before .before .entered .kept .1 .1 .1 .1 .1 .1 .1 .0, c .before .before .before .before .before .before .before .before .before .before .pre .2), refl)
+loop-holds c =
+    let s = c .before .before .before .before .before .before .before .before .before .before .before .before .before in (
+      goes-start (table-of (s .args .t1)) _ _ (s .args .answers .now) (given s) (chain _ _ _ 0) refl (s .args .list .now) (c .before .before .entered .ensures .0),
+      wrote-none _ _ (c .before .before .entered .ensures .1 .0 .few),
+      omega (arith, c .before .before .entered .kept .1 .1 .1 .1 .1 .1 .1 .1 .0, s .pre .2),
+      refl,
+      c .before .before .entered .ensures .1 .1,
+    )
 
 goes-on-requires : tie.Need-goes-on-requires Inv-loop μ-loop
 goes-on-requires c κs = search needs
 
 turn-requires : tie.Need-turn-requires Inv-loop μ-loop
 turn-requires c κs =
-    let l = c .before .before .before .before .before .before .before .loop in
-    let g = goes-both (c .before .before .before .before .before .before .goes-on .result) (l .at .halt) (l .at .chain .count) (c .before .before .before .before .before .before .goes-on .ensures) (c .before .before .before .before .before .if1 .taken) in
-    goes-turning (table-of (c .before .before .before .before .before .before .before .before .before .before .before .before .before .before .before .before .before .before .args .t1)) _ _ (c .before .before .before .before .before .before .before .before .before .before .before .before .before .before .before .before .before .before .args .answers .now) (l .at .chain) (l .at .used) (l .at .records) (l .list) (g .1) (rw (g .0) at (l .inv .0)) (l .inv .1 .few) (l .inv .2)
+    let a = c .before .before .before .before .before .before .before .before .before .before .before .before .before .before .before .before .before .before .before .before .before .before .before .args in
+    let l = c .before .before .before .before .before .before .before .before .before .loop in
+    let g = goes-both (c .before .before .before .before .before .before .before .before .goes-on .result) (l .at .halt) (l .at .count) (c .before .before .before .before .before .before .before .before .goes-on .ensures) (c .before .before .before .before .before .before .before .if1 .taken) in
+    (goes-turning (table-of (a .t1)) _ _ (a .answers .now) (chain (l .cells) (l .nexts) (l .times) (l .at .count)) (l .at .used) (l .at .records) (l .list) (g .1) (rw (g .0) at (l .inv .0)) (l .inv .1 .few) (l .inv .2), l .inv .4)
 
 loop-less : tie.Need-loop-less Inv-loop μ-loop
 loop-less c =
-    let l = c .before .before .before .before .before .before .before .before .before .before .loop in
-    let g = goes-both (c .before .before .before .before .before .before .before .before .before .goes-on .result) (l .at .halt) (l .at .chain .count) (c .before .before .before .before .before .before .before .before .before .goes-on .ensures) (c .before .before .before .before .before .before .before .before .if1 .taken) in
-    rw (g .0) (goes-less (table-of (c .before .before .before .before .before .before .before .before .before .before .before .before .before .before .before .before .before .before .before .before .before .args .t1)) (c .before .before .before .before .before .before .before .before .before .before .before .before .before .before .before .before .before .before .before .before .before .args .links .now) (c .before .before .before .before .before .before .before .before .before .before .before .before .before .before .before .before .before .before .before .before .before .args .t1 .kind) (c .before .before .before .before .before .before .before .before .before .before .before .before .before .before .before .before .before .before .before .before .before .args .answers .now) (l .at .chain) (l .at .used) (l .at .records) (l .list) (g .1) (rw (g .0) at (l .inv .0)) (c .before .before .turn .ensures .0))
+    let a = c .before .before .before .before .before .before .before .before .before .before .before .before .before .before .before .before .before .before .before .before .before .before .before .before .before .before .args in
+    let l = c .before .before .before .before .before .before .before .before .before .before .before .before .loop in
+    let g = goes-both (c .before .before .before .before .before .before .before .before .before .before .before .goes-on .result) (l .at .halt) (l .at .count) (c .before .before .before .before .before .before .before .before .before .before .before .goes-on .ensures) (c .before .before .before .before .before .before .before .before .before .before .if1 .taken) in
+    rw (g .0) (goes-less (table-of (a .t1)) (a .links .now) (a .t1 .kind) (a .answers .now) (chain (l .cells) (l .nexts) (l .times) (l .at .count)) (l .at .used) (l .at .records) (l .list) (g .1) (rw (g .0) at (l .inv .0)) (c .before .before .turn .ensures .0))
 
 loop-again : tie.Need-loop-again Inv-loop μ-loop
 loop-again c =
-    let l = c .before .before .before .before .before .before .before .before .before .before .loop in
-    let g = goes-both (c .before .before .before .before .before .before .before .before .before .goes-on .result) (l .at .halt) (l .at .chain .count) (c .before .before .before .before .before .before .before .before .before .goes-on .ensures) (c .before .before .before .before .before .before .before .before .if1 .taken) in
-    (goes-turn (table-of (c .before .before .before .before .before .before .before .before .before .before .before .before .before .before .before .before .before .before .before .before .before .args .t1)) (c .before .before .before .before .before .before .before .before .before .before .before .before .before .before .before .before .before .before .before .before .before .args .links .now) (c .before .before .before .before .before .before .before .before .before .before .before .before .before .before .before .before .before .before .before .before .before .args .t1 .kind) (c .before .before .before .before .before .before .before .before .before .before .before .before .before .before .before .before .before .before .before .before .before .args .answers .now) (l .at .chain) (l .at .used) (l .at .records) (l .list) (g .1) (rw (g .0) at (l .inv .0)) (c .before .before .turn .ensures .0), wrote-more (l .inv .1) (c .before .before .turn .ensures .1), omega (arith, c .before .before .turn .kept .1 .1 .1 .1 .1 .1 .0, l .inv .2), c .before .before .turn .kept .1 .1 .1 .1 .1 .1 .0 ∙ l .inv .3)
+    let a = c .before .before .before .before .before .before .before .before .before .before .before .before .before .before .before .before .before .before .before .before .before .before .before .before .before .before .args in
+    let l = c .before .before .before .before .before .before .before .before .before .before .before .before .loop in
+    let g = goes-both (c .before .before .before .before .before .before .before .before .before .before .before .goes-on .result) (l .at .halt) (l .at .count) (c .before .before .before .before .before .before .before .before .before .before .before .goes-on .ensures) (c .before .before .before .before .before .before .before .before .before .before .if1 .taken) in (
+      goes-turn (table-of (a .t1)) (a .links .now) (a .t1 .kind) (a .answers .now) (chain (l .cells) (l .nexts) (l .times) (l .at .count)) (l .at .used) (l .at .records) (l .list) (g .1) (rw (g .0) at (l .inv .0)) (c .before .before .turn .ensures .0),
+      wrote-more (l .inv .1) (c .before .before .turn .ensures .1 .0),
+      omega (arith, c .before .before .turn .kept .1 .1 .1 .1 .1 .1 .1 .0, l .inv .2),
+      c .before .before .turn .kept .1 .1 .1 .1 .1 .1 .1 .0 ∙ l .inv .3,
+      c .before .before .turn .ensures .1 .1,
+    )
 
 same-length : tie.Need-same-length Inv-loop μ-loop
-same-length c = c .before .before .loop .inv .3 ∙ c .before .before .before .before .before .entered .kept .1 .1 .1 .1 .1 .1 .1 .0
+same-length c = c .before .before .loop .inv .3 ∙ c .before .before .before .before .before .entered .kept .1 .1 .1 .1 .1 .1 .1 .1 .0
 
 returns : tie.Need-returns Inv-loop μ-loop
-returns c = (goes-end (table-of (c .before .before .before .before .before .before .before .before .before .before .before .before .before .args .t1)) (c .before .before .before .before .before .before .before .before .before .before .before .before .before .args .links .now) (c .before .before .before .before .before .before .before .before .before .before .before .before .before .args .t1 .kind) (c .before .before .before .before .before .before .before .before .before .before .before .before .before .args .answers .now) (c .before .before .loop .at .chain) (c .before .before .loop .at .halt) (c .before .before .loop .at .used) (c .before .before .loop .at .records) (c .before .before .loop .list) (c .before .before .loop .inv .0) (sym (c .before .goes-on .ensures) ∙ c .if1 .left), wrote-more (c .before .before .before .before .before .entered .ensures .1) (c .before .before .loop .inv .1))
+returns c =
+    let a = c .before .before .before .before .before .before .before .before .before .before .before .before .before .before .before .before .args in
+    let l = c .before .before .loop in (
+      goes-end (table-of (a .t1)) (a .links .now) (a .t1 .kind) (a .answers .now) (chain (l .cells) (l .nexts) (l .times) (l .at .count)) (l .at .halt) (l .at .used) (l .at .records) (l .list) (l .inv .0) (sym (c .before .goes-on .ensures) ∙ c .if1 .left),
+      wrote-more (c .before .before .before .before .before .entered .ensures .1 .0) (l .inv .1),
+    )
 
 pub followed-spec : {M : Type 1} → statement M
 followed-spec =

@@ -12,11 +12,9 @@ use lib.Dec.{ltb}
 use borrow.Author.Tests.{eq-eqb, ne-eqb, lt-ltb, le-ltb}
 use Rattle.links.specs.Links.{link}
 use Rattle.following.specs.declared.Opened.{Opened}
-use Rattle.following.specs.declared.Todo.{Todo}
-use Rattle.following.specs.declared.Chain.{Chain}
 use Rattle.plan.specs.Limits.{most-steps}
 use Rattle.moves.specs.Drill.{Drill, recorded}
-use Rattle.following.specs.Machine.{nothing, once, after, hops, repeated, picked, waiting, answered, opened, Frame, frame, frames, top, below, frames-of, State, outcome-of, so-far, passed, enter, step-at, step-on, step}
+use Rattle.following.specs.Machine.{nothing, once, after, hops, repeated, picked, waiting, answered, opened, Frame, frame, Chain, frames, top, below, frames-of, State, outcome-of, so-far, passed, enter, step-at, step-on, step}
 use Rattle.following.specs.Needed.{Wrote}
 
 -- ---- the stack that three arrays and a count show
@@ -83,33 +81,39 @@ module _ (ls bs : List ℕ) (s kind used : ℕ) where
   unfolding opened
   opened-spent z l = rw (ne-eqb kind 2 z, le-ltb used (length bs) l, opened)
 
--- ---- a cell is opened
-module _ (ls ks bs : List ℕ) (s : ℕ) (fs : List Frame) (used records : ℕ) (xs : List ℕ) (long : most-steps ≤ length xs) {kind : ℕ} (ek : kind ≡ getD ks s 0) where
+-- ---- a step is recorded
+module _ (s used records : ℕ) (xs : List ℕ) (long : most-steps ≤ length xs) where
   steps-length : records ≤ most-steps → length (take records xs) ≡ records
   steps-length l = length-take-le records xs (omega arith)
 
-  pub enter-step : {gs : List Frame} → kind ≡ 1 → records < most-steps → gs ≡ frame s 0 0 ∷ fs → record { stack = gs; drill = so-far 0 used (records + 1) (set xs records s) } ≡ enter ls ks bs s fs (so-far 0 used records xs)
-  unfolding enter recorded outcome-of
-  enter-step e l eg =
-      let e1 : getD ks s 0 ≡ 1 = sym ek ∙ e in
+  pub record-one : records < most-steps → so-far 0 used (records + 1) (set xs records s) ≡ recorded s (so-far 0 used records xs)
+  unfolding recorded outcome-of
+  record-one l =
       let lt : ltb (length (take records xs)) most-steps ≡ true = lt-ltb (length (take records xs)) most-steps (omega (arith, steps-length (omega arith))) in
-      rw (eg, add-one, take-suc-set xs records s (omega arith), eq-eqb _ 1 e1, enter, lt, recorded)
+      rw (add-one, take-suc-set xs records s (omega arith), lt, recorded)
 
-  pub enter-full : {gs : List Frame} → kind ≡ 1 → most-steps ≤ records → records ≤ most-steps → gs ≡ frame s 0 0 ∷ fs → record { stack = gs; drill = so-far 3 used records xs } ≡ enter ls ks bs s fs (so-far 0 used records xs)
-  unfolding enter recorded outcome-of
-  enter-full e l m eg =
-      let e1 : getD ks s 0 ≡ 1 = sym ek ∙ e in
+  pub record-full : most-steps ≤ records → records ≤ most-steps → so-far 3 used records xs ≡ recorded s (so-far 0 used records xs)
+  unfolding recorded outcome-of
+  record-full l m =
       let lt : ltb (length (take records xs)) most-steps ≡ false = le-ltb (length (take records xs)) most-steps (omega (arith, steps-length m)) in
-      rw (eg, eq-eqb _ 1 e1, enter, lt, recorded)
+      rw (lt, recorded)
+
+  pub wrote-one : records < most-steps → Wrote records (records + 1) xs (set xs records s)
+  wrote-one l = record { more = omega arith; few = omega arith; beyond = λ i le. getD-set-other xs records i s 0 (λ e. omega arith) }
+
+-- ---- a cell is opened
+module _ (ls ks bs : List ℕ) (s : ℕ) (fs : List Frame) (used records : ℕ) (xs : List ℕ) {kind : ℕ} (ek : kind ≡ getD ks s 0) where
+  pub enter-step : {gs : List Frame} {d : Drill} → kind ≡ 1 → gs ≡ frame s 0 0 ∷ fs → d ≡ recorded s (so-far 0 used records xs) → record { stack = gs; drill = d } ≡ enter ls ks bs s fs (so-far 0 used records xs)
+  unfolding enter
+  enter-step e eg ed =
+      let e1 : getD ks s 0 ≡ 1 = sym ek ∙ e in
+      rw (eg, ed, eq-eqb _ 1 e1, enter)
 
   pub enter-other : {gs : List Frame} (o : Opened) → (kind ≡ 1 → ⊥) → o ≡ opened ls bs s kind used → gs ≡ frame s (o .next) (o .times) ∷ fs → record { stack = gs; drill = so-far (o .halt) (o .used) records xs } ≡ enter ls ks bs s fs (so-far 0 used records xs)
   unfolding enter
   enter-other o z eo eg =
       let e1 : getD ks s 0 ≡ 1 → ⊥ = λ e. z (ek ∙ e) in
       rw (eg, eo, ek, ne-eqb _ 1 e1, enter)
-
-  pub wrote-one : records < most-steps → Wrote records (records + 1) xs (set xs records s)
-  wrote-one l = record { more = omega arith; few = omega arith; beyond = λ i le. getD-set-other xs records i s 0 (λ e. omega arith) }
 
 pub wrote-none : (records : ℕ) (xs : List ℕ) → records ≤ most-steps → Wrote records records xs xs
 wrote-none records xs l = record { more = omega arith; few = l; beyond = λ i le. refl }
@@ -131,11 +135,14 @@ module _ (ls ks bs : List ℕ) (c : Chain) (some : 0 < c .count) (d : Drill) whe
       go zero l = absurd (omega arith)
       go (suc n) l = refl
 
-pub pass-is : (ls ks : List ℕ) (c : Chain) {k : ℕ} (t : Todo) → 0 < c .count → c .count - 1 < length (c .nexts) → c .count - 1 < length (c .times) → k ≡ getD ks (top c .cell) 0 → t ≡ after ls k (top c .next) (top c .times)
-    → frames-of (c .cells) (set (c .nexts) (c .count - 1) (t .next)) (set (c .times) (c .count - 1) (t .times)) (c .count) ≡ passed ls ks (top c) ∷ below c
+pub pass-is : (ls ks : List ℕ) (c : Chain) {k : ℕ} {ns ts : List ℕ} → 0 < c .count → c .count - 1 < length (c .nexts) → c .count - 1 < length (c .times) → k ≡ getD ks (top c .cell) 0
+    → ns ≡ set (c .nexts) (c .count - 1) (after ls k (top c .next) (top c .times) .next) → ts ≡ set (c .times) (c .count - 1) (after ls k (top c .next) (top c .times) .times)
+    → frames-of (c .cells) ns ts (c .count) ≡ passed ls ks (top c) ∷ below c
 unfolding passed
-pass-is ls ks c t some a b ek et =
+pass-is ls ks c {k} some a b ek en et =
     let e : c .count ≡ c .count - 1 + 1 = omega arith in
-    ap (frames-of (c .cells) (set (c .nexts) (c .count - 1) (t .next)) (set (c .times) (c .count - 1) (t .times))) e
+    let t = after ls k (top c .next) (top c .times) in
+    rw (en, et)
+    (ap (frames-of (c .cells) (set (c .nexts) (c .count - 1) (t .next)) (set (c .times) (c .count - 1) (t .times))) e
     ∙ frames-pass (c .cells) (c .nexts) (c .times) (c .count - 1) (t .next) (t .times) a b
-    ∙ rw (et, ek)
+    ∙ rw ek)
