@@ -1,70 +1,56 @@
+use Prim.Native.Nat.{_-_, _≤_}
 use borrow.Author.Needs.{needs}
 use Rattle.folder.proofs.main.Statement.{statement}
 use Rattle.folder.proofs.main.Tie as tie
 
 abbrev Inv-loop : tie.InvT-loop
-Inv-loop count sum₀ i₀ t6 sum i = ?
+Inv-loop count sum₀ i₀ t6 sum i = 1 ≤ i
 
 abbrev μ-loop : tie.MeasureT-loop
-μ-loop count sum₀ i₀ t6 sum i = ?
+μ-loop count sum₀ i₀ t6 sum i = count - i
 
--- src/main.rt:146:9
 arg-count-requires : tie.Need-arg-count-requires Inv-loop μ-loop
 arg-count-requires c κs = search needs
 
--- src/main.rt:150:34
 nothing-requires : tie.Need-nothing-requires Inv-loop μ-loop
 nothing-requires c κs = search needs
 
--- src/main.rt:153:5
 loop-holds : tie.Need-loop-holds Inv-loop μ-loop
 loop-holds c = search needs
 
--- src/main.rt:154:9
 added-requires : tie.Need-added-requires Inv-loop μ-loop
 added-requires c κs = search needs
 
--- src/main.rt:155:26
 sub-tell-progress : tie.Need-sub-tell-progress Inv-loop μ-loop
 sub-tell-progress c = search needs
 
--- src/main.rt:155:9
 tell-progress-requires : tie.Need-tell-progress-requires Inv-loop μ-loop
 tell-progress-requires c κs = search needs
 
--- src/main.rt:156:9
 add-i : tie.Need-add-i Inv-loop μ-loop
 add-i c = search needs
 
--- src/main.rt:153:5
 loop-less : tie.Need-loop-less Inv-loop μ-loop
 loop-less c = search needs
 
--- src/main.rt:153:5
 loop-again : tie.Need-loop-again Inv-loop μ-loop
 loop-again c = search needs
 
--- src/main.rt:159:9
 returns : tie.Need-returns Inv-loop μ-loop
 returns c = search needs
 
--- src/main.rt:162:9
 tell-report-requires : tie.Need-tell-report-requires Inv-loop μ-loop
 tell-report-requires c κs = search needs
 
--- src/main.rt:164:26
 slice-aggregate-write-all : tie.Need-slice-aggregate-write-all Inv-loop μ-loop
 slice-aggregate-write-all c = search needs
 
--- src/main.rt:164:9
 write-all-requires : tie.Need-write-all-requires Inv-loop μ-loop
 write-all-requires c κs = search needs
 
--- src/main.rt:145:1
 returns-2 : tie.Need-returns-2 Inv-loop μ-loop
 returns-2 c = search needs
 
--- src/main.rt:145:1
 returns-3 : tie.Need-returns-3 Inv-loop μ-loop
 returns-3 c = search needs
 

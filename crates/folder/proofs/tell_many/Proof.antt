@@ -1,24 +1,22 @@
+use mathlib.Core.Path.{sym}
+use native.Mathlib.Omega.{arith}
+use lib.Seq.{length-take-le}
 use borrow.Author.Needs.{needs}
 use Rattle.folder.proofs.tell_many.Statement.{statement}
 use Rattle.folder.proofs.tell_many.Tie as tie
 
--- src/main.rt:106:9
 write-refused-requires : tie.Need-write-refused-requires
 write-refused-requires c κs = search needs
 
--- src/main.rt:107:22
 array-share-prefix-out : tie.Need-array-share-prefix-out
 array-share-prefix-out c = search needs
 
--- src/main.rt:107:22
 slice-aggregate-write-all : tie.Need-slice-aggregate-write-all
-slice-aggregate-write-all c = search needs
+slice-aggregate-write-all c = sym (length-take-le _ _ (omega (arith, c .before .before .write-refused .ensures .1, c .before .before .write-refused .kept)))
 
--- src/main.rt:107:5
 write-all-requires : tie.Need-write-all-requires
 write-all-requires c κs = search needs
 
--- src/main.rt:104:1
 returns : tie.Need-returns
 returns c = search needs
 

@@ -1,24 +1,22 @@
+use mathlib.Core.Path.{sym}
+use native.Mathlib.Omega.{arith}
+use lib.Seq.{length-take-le}
 use borrow.Author.Needs.{needs}
 use Rattle.folder.proofs.tell_refused.Statement.{statement}
 use Rattle.folder.proofs.tell_refused.Tie as tie
 
--- src/main.rt:77:9
 write-named-requires : tie.Need-write-named-requires
 write-named-requires c κs = search needs
 
--- src/main.rt:78:22
 array-share-prefix-out : tie.Need-array-share-prefix-out
 array-share-prefix-out c = search needs
 
--- src/main.rt:78:22
 slice-aggregate-write-all : tie.Need-slice-aggregate-write-all
-slice-aggregate-write-all c = search needs
+slice-aggregate-write-all c = sym (length-take-le _ _ (omega (arith, c .before .before .write-named .ensures .1, c .before .before .write-named .kept)))
 
--- src/main.rt:78:5
 write-all-requires : tie.Need-write-all-requires
 write-all-requires c κs = search needs
 
--- src/main.rt:73:1
 returns : tie.Need-returns
 returns c = search needs
 

@@ -1,40 +1,34 @@
+use mathlib.Core.Path.{sym}
+use native.Mathlib.Omega.{arith}
+use lib.Seq.{length-take-le}
 use borrow.Author.Needs.{needs}
 use Rattle.folder.proofs.tell_report.Statement.{statement}
 use Rattle.folder.proofs.tell_report.Tie as tie
 
--- src/main.rt:113:27
 enum-known-total : tie.Need-enum-known-total
 enum-known-total c = search needs
 
--- src/main.rt:115:17
 write-report-requires : tie.Need-write-report-requires
 write-report-requires c κs = search needs
 
--- src/main.rt:116:30
 array-share-prefix-out : tie.Need-array-share-prefix-out
 array-share-prefix-out c = search needs
 
--- src/main.rt:116:30
 slice-aggregate-write-all : tie.Need-slice-aggregate-write-all
-slice-aggregate-write-all c = search needs
+slice-aggregate-write-all c = sym (length-take-le _ _ (omega (arith, c .before .before .write-report .ensures .1, c .before .before .write-report .kept)))
 
--- src/main.rt:116:13
 write-all-requires : tie.Need-write-all-requires
 write-all-requires c κs = search needs
 
--- src/main.rt:118:27
 enum-known-total-2 : tie.Need-enum-known-total-2
 enum-known-total-2 c = search needs
 
--- src/main.rt:118:44
 tell-many-requires : tie.Need-tell-many-requires
 tell-many-requires c κs = search needs
 
--- src/main.rt:111:1
 returns : tie.Need-returns
 returns c = search needs
 
--- src/main.rt:111:1
 returns-2 : tie.Need-returns-2
 returns-2 c = search needs
 
