@@ -19,7 +19,7 @@ use Rattle.plan.specs.laws.Sums.{total-subtree}
 use Rattle.plan.specs.Columns.{table-of}
 use Rattle.plan.specs.Fit.{Fit}
 use Rattle.plan.specs.Questions as calls
-use Rattle.plan.specs.Questions.{Buffer, Given, to-fill, scratch, nothing, none, asked, or-else, every, parent-lower, kind-known, box-sized, label-inside, label-fits, children-allowed, level-low, rows-few, allowance-small, once, each, sequence, puts, number, roomy, all-roomy, enough, in-file, holds, ask, read, refusal}
+use Rattle.plan.specs.Questions.{Buffer, Given, to-fill, scratch, nothing, none, asked, or-else, every, parent-lower, kind-known, box-sized, label-inside, label-fits, children-allowed, level-low, rows-few, allowance-small, once, each, sequence, puts, number, roomy, all-roomy, enough, in-file, on-labels, holds, ask, read, refusal}
 use Rattle.plan.specs.laws.Questions.{first-none, both-none, asked-yes, stops, goes-on}
 use Rattle.plan.specs.laws.Kept.{asked-last, asked-true, and-true, none-first, or-assoc, put, with-each, kept, all-of, in-turn, refusal-kept, turn-ends, turn-once}
 use Rattle.plan.specs.laws.Steps.{and-left, and-right}
@@ -86,7 +86,7 @@ module _ (f : List ℕ) (room s p : ℕ) where
   letters = asked 5 (every (between first-letter last-letter) (take (trailer-of f .begin) f)) 0
 
   pub refusal-is : report-refusal f room s p ≡ or-else long (or-else (formed-refusal f) (or-else placed (or-else letters (body-refusal f))))
-  unfolding kept put with-each sequence number puts mem some from ask holds roomy all-roomy enough in-file file-given report-given formed-refusal body-refusal
+  unfolding kept put with-each sequence number puts mem some from ask holds roomy all-roomy enough in-file on-labels file-given report-given formed-refusal body-refusal
   refusal-is =
       refusal-kept calls.report g
       ∙ simp (turn-once calls.report g, body-same, turn-body f calls.report bs nothing, turn-once calls.report g₀, turn-ends calls.report g₀, cells-length f, and-true, or-assoc, asked-last 13 (leb (trailer-of f .allowance) most-allowance) 0)
