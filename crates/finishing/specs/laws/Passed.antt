@@ -14,7 +14,8 @@ use Rattle.walk.specs.Machine.{Chart, State, closed, step, Closing, Ending}
 use Rattle.walk.specs.Walked.{Suits}
 use Rattle.walk.specs.laws.Claim.{at}
 use Rattle.walk.specs.laws.Machine.{step-open, step-close, Safe}
-use Rattle.walk.specs.laws.Tree.{Tail, tail-all, tail-head, tail-next, tail-first, sum, level-child}
+use Rattle.walk.specs.laws.Tree.{Tail, tail-all, tail-head, tail-next, tail-first, sum}
+use Rattle.plan.specs.laws.Trees.{level-child}
 use Rattle.finishing.specs.Made.{finishes, work}
 use Rattle.finishing.specs.laws.Postorder.{post}
 
