@@ -111,7 +111,7 @@ use Rattle.finishing.specs.declared.Started.{Started}
 use Rattle.finishing.specs.declared.Started.the-variants as started
 use Rattle.finishing.specs.declared.Stepped.{Stepped}
 use Rattle.finishing.specs.declared.Stepped.the-variants as stepped
-use Rattle.finishing.specs.declared.Reached.{Reached}
+use Rattle.finishing.specs.declared.Reached.{Reached as ReachAnswer}
 use Rattle.finishing.specs.declared.Reached.the-variants as reached
 use Rattle.finishing.specs.laws.Promised as finishing
 use Rattle.demands.specs.laws.Making as making
@@ -456,7 +456,7 @@ module _ (t : Table) (fit : Fit t) where
   siblings-first = finishing.siblings-first t fit
 
 -- A reading of the cell c, where no question but 20 refuses, after k steps: the reach of the complete sheet if the cell is among the first k of the order, and else 20 with the cell.
-module _ (t : Table) (al : ℕ) (xs ms : List ℕ) (c : ℕ) (r : Reached) (g : Reaches t al xs ms c r) (z : reach-no t al (length xs) (length ms) (cells t) c .number ≡ 0) (k : ℕ) (h : Holds t al k xs ms) where
+module _ (t : Table) (al : ℕ) (xs ms : List ℕ) (c : ℕ) (r : ReachAnswer) (g : Reaches t al xs ms c r) (z : reach-no t al (length xs) (length ms) (cells t) c .number ≡ 0) (k : ℕ) (h : Holds t al k xs ms) where
   pub reach-final : T (mem c (take k (postorder t))) → r ≡ reached.Sides (plus (left-extent t (sheet t al) c)) (plus (right-extent t (sheet t al) c))
   reach-final = making.reach-final t al xs ms c r g z k h
 
