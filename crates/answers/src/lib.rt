@@ -407,18 +407,21 @@ pub fn told_drill(answer: Drilled) -> DrillAnswer
             number: 0,
             cell: 0,
             outcome: 2,
+            used,
             records,
         },
         Drilled::Wrong(used, records) => DrillAnswer {
             number: 0,
             cell: 0,
             outcome: 3,
+            used,
             records,
         },
         Drilled::Full(used, records) => DrillAnswer {
             number: 0,
             cell: 0,
             outcome: 4,
+            used,
             records,
         },
         Drilled::Refused(number, cell) => DrillAnswer {
