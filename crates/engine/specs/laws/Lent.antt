@@ -100,6 +100,9 @@ module _ (t : List Record) (r : Columns) (e : r ≡ lent-columns t) where
   pub frame-lent : (f : ℕ) (s s′ : List ℕ) (d : Fitted) → Frames (table-of r) f s s′ d → Frames (cells-of t) f s s′ d
   frame-lent f s s′ d h = of-records (λ u. Frames u f s s′ d) t (frames-crowded f s s′ d) (rw e at h)
 
+  pub strip-lent : (ps : List ℤ) (row first : ℕ) (bs bs′ : List ℕ) (d : Refusal) → Strips (table-of r) ps row first bs bs′ d → Strips (cells-of t) ps row first bs bs′ d
+  strip-lent ps row first bs bs′ d h = of-records (λ u. Strips u ps row first bs bs′ d) t (strips-crowded ps row first bs bs′ d) (rw e at h)
+
 -- ---- with the labels taken along: the clean copy
 module _ (letters : List ℕ) (al : ℕ) (out out′ : List ℕ) (d : Copied) where
   abbrev uncopied : Refusal
@@ -122,6 +125,3 @@ module _ (letters : List ℕ) (al : ℕ) (out out′ : List ℕ) (d : Copied) wh
 
   pub copy-lent : (t : List Record) (r : Lettered) → r ≡ lent-lettered t → Copies (records-in r) letters al out out′ d → Copies t letters al out out′ d
   copy-lent t r e h = of-lettered (λ u. Copies u letters al out out′ d) t copies-crowded (rw e at h)
-
-  pub strip-lent : (ps : List ℤ) (row first : ℕ) (bs bs′ : List ℕ) (d : Refusal) → Strips (table-of r) ps row first bs bs′ d → Strips (cells-of t) ps row first bs bs′ d
-  strip-lent ps row first bs bs′ d h = of-records (λ u. Strips u ps row first bs bs′ d) t (strips-crowded ps row first bs bs′ d) (rw e at h)
