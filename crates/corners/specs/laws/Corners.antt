@@ -21,7 +21,7 @@ use Rattle.plan.specs.laws.Tables.{length-is}
 use Rattle.plan.specs.declared.Columns.{Columns}
 use Rattle.rules.specs.Placement.{Placement, placed, lesser, best, least}
 use Rattle.rules.specs.laws.Extremes.{least-all, least-one}
-use Rattle.corners.specs.Corners.{left, Spot, Leftmost}
+use Rattle.corners.specs.Corners.{left, x-up, Spot, Leftmost}
 
 -- ---- the least x: no cell has a lesser one, and some cell has it
 pub left-least : (t : Table) (p : Placement) (c : ℕ) → Is t c → left t p ≤ℤ p .x c
@@ -107,6 +107,15 @@ module _ (ps : List ℤ) (n : ℕ) (near : Near ps n) where
   -- ---- what the code's least x is good for
   pub spot : (c : ℕ) → n ≤ most-cells → c < n → Spot ps c
   spot c few h = record { few = omega arith; there = omega (arith, near .room); x = near .x c h; y = near .y c h }
+
+  pub left-low : (l : ℕ) → Leftmost ps n l → (a : ℕ) → a < n → l ≤ x-up ps a
+  unfolding placed
+  left-low l lm a h =
+      let k : least (placed ps .x) (placed ps .x 0) (from 0 n) ≤ℤ getD ps (2 * a) (pos 0) = least-all (placed ps .x) (placed ps .x 0) (from 0 n) a (from-show 0 n a (omega arith) (omega arith)) in
+      let e = lm .is in
+      let b = back-is (getD ps (2 * a) (pos 0)) (near .x a h) in
+      let m : (pos l -ℤ pos farthest) ≤ℤ (pos (x-up ps a) -ℤ pos farthest) = rw (e, b) k in
+      omega (whole, diff (pos l) (pos farthest), diff (pos (x-up ps a)) (pos farthest))
 
 pub left-is : (t : Columns) (ps : List ℤ) (l : ℕ) → Leftmost ps (t .count) l → left (table-of t) (placed ps) ≡ pos l -ℤ pos farthest
 unfolding left cells
