@@ -166,6 +166,3 @@ module _ (t : Table) (al : ℕ) (c : Run t al) where
   pub done-then : c .answers (length t) ≡ Done
   unfolding stepped-at
   done-then = let s = at-step (length t) (omega arith) .answers in rw (le-ltb (length t) (length t) (omega arith)) at s
-
-  pub done-alters-nothing : (c .scratch (suc (length t)) ≡ c .scratch (length t)) × (c .second (suc (length t)) ≡ c .second (length t)) × (c .positions (suc (length t)) ≡ c .positions (length t))
-  done-alters-nothing = let u = c .calls (length t) .idle done-then in (u .scratch, u .second, u .positions)

@@ -210,10 +210,6 @@ cells-mem : (t : Table) (c : ℕ) → Is t c → T (mem c (cells t))
 unfolding cells
 cells-mem t c i = from-show 0 (length t) c (omega arith) (omega arith)
 
-asked-no : (k c : ℕ) → asked (suc k) false c .number ≢ 0
-unfolding asked
-asked-no k c e = omega (arith, e)
-
 module _ (t : Table) (al : ℕ) (xs ms : List ℕ) (c : ℕ) {r : Refusal} (e : r ≡ start-no t al (length xs) (length ms)) where
   -- whichever cells are finished
   no-of : (finished : List ℕ) → reach-no t al (length xs) (length ms) finished c ≡ or-else r (or-else (asked 16 (ltb c (length t)) 0) (asked 20 (mem c finished) c))

@@ -22,12 +22,12 @@ use Rattle.plan.specs.declared.Refusal.{Refusal}
 use Rattle.planfile.specs.declared.Reading.{Reading}
 use Rattle.planfile.specs.Reading.{reading-of}
 use Rattle.listing.specs.Printed.{Bytes, refused-line, step-line, end-line}
-use Rattle.listing.specs.Line.{line-of}
+use Rattle.listing.specs.Line.{line-of, text}
 use Rattle.listing.specs.Put.{Put}
 use Rattle.listing.specs.laws.Put.{then, put-none}
 use Rattle.listing.specs.declared.Line.{Line}
-use Rattle.printing.specs.Printing.{label-bytes, read-table, text, Taken}
-use Rattle.printing.specs.laws.Taken.{line-text}
+use Rattle.printing.specs.Printing.{label-bytes, read-table, Taken}
+use Rattle.listing.specs.laws.Line.{line-text}
 use Rattle.moves.specs.Drill.{Outcome, finished, spent, wrong, full, drill-of}
 use Rattle.moves.specs.laws.Beyond.{used-few, records-few}
 use Rattle.moves.specs.laws.Steps.{steps-are}
