@@ -195,7 +195,7 @@ pub extern "C" fn kuzpalen_start(
 ) -> StartAnswer
     ensures { λ r. ⌜ Starting (cells-of (now (table .entry))) allowance (now (scratch .entry)) (now (scratch .exit)) (now (second .entry)) (now (second .exit)) r ⌝ }
 {
-    let answer = engine::start(table, allowance, scratch, second);
+    let answer = making::start(table, allowance, scratch, second);
     told_start(answer)
 }
 
@@ -209,7 +209,7 @@ pub extern "C" fn kuzpalen_step(
 ) -> StepAnswer
     ensures { λ r. ⌜ Stepping (cells-of (now (table .entry))) allowance (now (scratch .entry)) (now (scratch .exit)) (now (second .entry)) (now (second .exit)) (now (positions .entry)) (now (positions .exit)) r ⌝ }
 {
-    let answer = engine::step(table, allowance, scratch, second, positions);
+    let answer = making::step(table, allowance, scratch, second, positions);
     told_step(answer)
 }
 
@@ -223,6 +223,6 @@ pub extern "C" fn kuzpalen_reach(
 ) -> ReachAnswer
     ensures { λ r. ⌜ Reaching (cells-of (now (table .entry))) allowance (now (scratch .entry)) (now (second .entry)) cell r ⌝ }
 {
-    let answer = engine::reach(table, allowance, scratch, second, cell);
+    let answer = making::reach(table, allowance, scratch, second, cell);
     told_reach(answer)
 }
