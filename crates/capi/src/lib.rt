@@ -199,7 +199,7 @@ pub extern "C" fn kuzpalen_start(
 ) -> StartAnswer
     ensures { λ r. ⌜ Starting (cells-of (now (table .entry))) allowance (now (scratch .entry)) (now (scratch .exit)) (now (second .entry)) (now (second .exit)) r ⌝ }
 {
-    let answer = engine::start(table, allowance, scratch, second);
+    let answer = making::start(table, allowance, scratch, second);
     told_start(answer)
 }
 
@@ -213,7 +213,7 @@ pub extern "C" fn kuzpalen_step(
 ) -> StepAnswer
     ensures { λ r. ⌜ Stepping (cells-of (now (table .entry))) allowance (now (scratch .entry)) (now (scratch .exit)) (now (second .entry)) (now (second .exit)) (now (positions .entry)) (now (positions .exit)) r ⌝ }
 {
-    let answer = engine::step(table, allowance, scratch, second, positions);
+    let answer = making::step(table, allowance, scratch, second, positions);
     told_step(answer)
 }
 
@@ -227,7 +227,7 @@ pub extern "C" fn kuzpalen_reach(
 ) -> ReachAnswer
     ensures { λ r. ⌜ Reaching (cells-of (now (table .entry))) allowance (now (scratch .entry)) (now (second .entry)) cell r ⌝ }
 {
-    let answer = engine::reach(table, allowance, scratch, second, cell);
+    let answer = making::reach(table, allowance, scratch, second, cell);
     told_reach(answer)
 }
 
@@ -240,7 +240,7 @@ pub extern "C" fn kuzpalen_report(
 ) -> ReportAnswer
     ensures { λ r. ⌜ Reporting (now (file .entry)) (now (table .entry)) (now (table .exit)) (now (scratch .entry)) (now (scratch .exit)) (now (positions .entry)) (now (positions .exit)) r ⌝ }
 {
-    let answer = engine::report(file, table, scratch, positions);
+    let answer = tallying::report(file, table, scratch, positions);
     told_report(answer)
 }
 
@@ -248,6 +248,6 @@ pub extern "C" fn kuzpalen_report(
 pub extern "C" fn kuzpalen_pool(a: Report, b: Report) -> ReportAnswer
     ensures { λ r. ⌜ r ≡ report-answer (pool a b) ⌝ }
 {
-    let answer = engine::pool(a, b);
+    let answer = tallying::pool(a, b);
     told_report(answer)
 }

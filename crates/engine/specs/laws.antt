@@ -2,4 +2,3 @@ pub mod Join
 pub mod Lent
 pub mod Filled
 pub mod Read
-pub mod Report

@@ -2,9 +2,6 @@
 use checker::Checked;
 use copying::Copied;
 use ends::Ended;
-use finishing::Reached;
-use finishing::Started;
-use finishing::Stepped;
 use fitting::Fitted;
 use following::Drilled;
 use grafting::JoinAnswer;
@@ -18,15 +15,12 @@ use printing::Listed;
 use records::columns_of;
 use records::fill;
 use records::lettered_of;
-use season::Report;
-use season::Reported;
 ghost use mathlib.Core.Path.{_≡_};
 ghost use Rattle.plan.specs.Records.{«cells-of»};
 ghost use Rattle.planfile.specs.Reading.{«label-refusal»};
 ghost use Rattle.layout.specs.Laid.{Lays};
 ghost use Rattle.fitting.specs.Fitted.{Frames};
 ghost use Rattle.grafting.specs.Joins.{Joins};
-ghost use Rattle.finishing.specs.Finishing.{Starts, Steps, Reaches};
 ghost use Rattle.checker.specs.Checked.{«checked-of»};
 ghost use Rattle.ends.specs.Ended.{«ended-of»};
 ghost use Rattle.printing.specs.Printing.{Lists};
@@ -37,8 +31,6 @@ ghost use Rattle.following.specs.Drilled.{Drills};
 ghost use Rattle.engine.specs.Read.{Reads, «read-of»};
 ghost use Rattle.engine.specs.Label.{«label-of»};
 ghost use Rattle.engine.specs.Hung.{Hangs};
-ghost use Rattle.season.specs.Pool.{pool};
-ghost use Rattle.reporting.specs.Reporting.{Reports};
 
 // The number of cells and the allowance; or the refusal's number and cell.
 pub enum ReadAnswer {
@@ -181,62 +173,4 @@ pub fn drill(table: &[Record], answers: &[u8], list: &mut [u16]) -> Drilled
 {
     let t = columns_of(table);
     following::drill(t, answers, list)
-}
-
-// Start: both scratches are cleared, for a sheet that is made a cell a step; or the refusal.
-pub fn start(table: &[Record], allowance: u32, scratch: &mut [u32], second: &mut [u32]) -> Started
-    ensures { λ r. ⌜ Starts (cells-of (now (table .entry))) allowance (now (scratch .entry)) (now (scratch .exit)) (now (second .entry)) (now (second .exit)) r ⌝ }
-{
-    let t = columns_of(table);
-    finishing::start(t, allowance, scratch, second)
-}
-
-// Step: one more cell is finished, and with the last the positions are written; "done" when all are; or the refusal.
-pub fn step(
-    table: &[Record],
-    allowance: u32,
-    scratch: &mut [u32],
-    second: &mut [u32],
-    positions: &mut [i32],
-) -> Stepped
-    ensures { λ r. ⌜ Steps (cells-of (now (table .entry))) allowance (now (scratch .entry)) (now (scratch .exit)) (now (second .entry)) (now (second .exit)) (now (positions .entry)) (now (positions .exit)) r ⌝ }
-{
-    let t = columns_of(table);
-    finishing::step(t, allowance, scratch, second, positions)
-}
-
-// Reach: the left and the right reach of a subtree that is finished; or the refusal.
-pub fn reach(
-    table: &[Record],
-    allowance: u32,
-    scratch: &[u32],
-    second: &[u32],
-    cell: usize,
-) -> Reached
-    ensures { λ r. ⌜ Reaches (cells-of (now (table .entry))) allowance (now (scratch .entry)) (now (second .entry)) cell r ⌝ }
-{
-    let t = columns_of(table);
-    finishing::reach(t, allowance, scratch, second, cell)
-}
-
-// Report: the report of one plan file, with its sheet at its own allowance. The table is filled as Read fills it, scratch and positions are left as Layout leaves them; or the refusal.
-pub fn report(
-    file: &[u8],
-    table: &mut [Record],
-    scratch: &mut [u32],
-    positions: &mut [i32],
-) -> Reported
-    ensures { λ r. ⌜ Reports (now (file .entry)) (now (table .entry)) (now (table .exit)) (now (scratch .entry)) (now (scratch .exit)) (now (positions .entry)) (now (positions .exit)) r ⌝ }
-{
-    let draft = reporting::report(file, table.len(), scratch, positions);
-    let plan = draft.reading;
-    fill(plan, plan.columns.count, table);
-    draft.answer
-}
-
-// Pool: the report of two folders together; or the refusal.
-pub fn pool(a: Report, b: Report) -> Reported
-    ensures { λ r. ⌜ r ≡ pool a b ⌝ }
-{
-    season::pool(a, b)
 }

@@ -1,4 +1,4 @@
--- `capi::kuzpalen_reach` meets its contract: `engine::reach` is called on its parameters, and `told_reach` on the answer. Assumes nothing.
+-- `capi::kuzpalen_reach` meets its contract: `making::reach` is called on its parameters, and `told_reach` on the answer. Assumes nothing.
 use mathlib.Core.Path.{refl}
 use Prim.Native.Nat.{ℕ, _<_, _^_}
 use mathlib.Core.List.{[], _∷_, List}
@@ -26,8 +26,8 @@ use Rattle.answers.proofs.ReachAnswer as L
 use Rattle.answers.proofs.ReachAnswer.Laws as L′
 use Rattle.engine.proofs.InTurn.{Told, Answered, Calling}
 use Rattle.capi.proofs.Told.{Passes, meets-told}
-use Rattle.engine.proofs.reach.Symbol as entry
-use Rattle.engine.proofs.reach.Met as entry-thm
+use Rattle.making.proofs.reach.Symbol as entry
+use Rattle.making.proofs.reach.Met as entry-thm
 use Rattle.answers.proofs.told_reach.Symbol as told
 use Rattle.answers.proofs.told_reach.Met as told-thm
 use Rattle.capi.proofs.kuzpalen_reach.Key as key
@@ -55,7 +55,7 @@ module _ {M : Type 1} (𝓤 : URA M) (H : Heap 𝓤) (A : Atoms 𝓤) (W : Given
 pub kuzpalen-reach-spec : {M : Type 1} → stated.statement M
 unfolding code.routine
 kuzpalen-reach-spec 𝓤 H 𝓜 𝓖 𝓡 =
-    meets-told 𝓤 H 𝓜 𝓖 𝓡 code.env key.name entry.name told.name code.function (code.unfolded 𝓤 H 𝓜 𝓡) entry.routine told.routine code.calls-engine·reach code.calls-answers·told-reach B′.mir L′.mir B.the-row L.the-row reach-answer
+    meets-told 𝓤 H 𝓜 𝓖 𝓡 code.env key.name entry.name told.name code.function (code.unfolded 𝓤 H 𝓜 𝓡) entry.routine told.routine code.calls-making·reach code.calls-answers·told-reach B′.mir L′.mir B.the-row L.the-row reach-answer
     (λ b v is. EL.lawful B.the-type B′.the-laws 𝓤 H (𝓖 .A) (givenOf 𝓤 H 𝓜 𝓖) tt .typed b _ is .0) (λ r u is. LL.lawful L.the-type L′.the-laws 𝓤 H (𝓖 .A) (givenOf 𝓤 H 𝓜 𝓖) .typed r _ is .0)
     3 (own.signature .params)
     (λ κs a e d. Reaches (cells-of (a .0 .now)) (a .1 .0) (a .1 .1 .0 .now) (a .1 .1 .1 .0 .now) (a .1 .1 .1 .1 .0) d)

@@ -1,4 +1,4 @@
--- `capi::kuzpalen_report` meets its contract: `engine::report` is called on its parameters, the three `&mut` slices lent on, and `told_report` on the answer. Assumes nothing.
+-- `capi::kuzpalen_report` meets its contract: `tallying::report` is called on its parameters, the three `&mut` slices lent on, and `told_report` on the answer. Assumes nothing.
 use mathlib.Core.Path.{refl}
 use Prim.Native.Nat.{ℕ, _<_, _^_}
 use mathlib.Core.List.{[], _∷_, List}
@@ -25,8 +25,8 @@ use Rattle.answers.proofs.ReportAnswer as L
 use Rattle.answers.proofs.ReportAnswer.Laws as L′
 use Rattle.engine.proofs.InTurn.{Told, Answered, Calling}
 use Rattle.capi.proofs.Told.{Passes, meets-told}
-use Rattle.engine.proofs.report.Symbol as entry
-use Rattle.engine.proofs.report.Met as entry-thm
+use Rattle.tallying.proofs.report.Symbol as entry
+use Rattle.tallying.proofs.report.Met as entry-thm
 use Rattle.answers.proofs.told_report.Symbol as told
 use Rattle.answers.proofs.told_report.Met as told-thm
 use Rattle.capi.proofs.kuzpalen_report.Key as key
@@ -60,7 +60,7 @@ module _ {M : Type 1} (𝓤 : URA M) (H : Heap 𝓤) (A : Atoms 𝓤) (W : Given
 pub kuzpalen-report-spec : {M : Type 1} → stated.statement M
 unfolding code.routine
 kuzpalen-report-spec 𝓤 H 𝓜 𝓖 𝓡 =
-    meets-told 𝓤 H 𝓜 𝓖 𝓡 code.env key.name entry.name told.name code.function (code.unfolded 𝓤 H 𝓜 𝓡) entry.routine told.routine code.calls-engine·report code.calls-answers·told-report B′.mir L′.mir B.the-row L.the-row report-answer
+    meets-told 𝓤 H 𝓜 𝓖 𝓡 code.env key.name entry.name told.name code.function (code.unfolded 𝓤 H 𝓜 𝓡) entry.routine told.routine code.calls-tallying·report code.calls-answers·told-report B′.mir L′.mir B.the-row L.the-row report-answer
     (λ b v is. EL.lawful B.the-type B′.the-laws 𝓤 H (𝓖 .A) (givenOf 𝓤 H 𝓜 𝓖) tt .typed b _ is .0) (λ r u is. LL.lawful L.the-type L′.the-laws 𝓤 H (𝓖 .A) (givenOf 𝓤 H 𝓜 𝓖) .typed r _ is .0)
     4 (own.signature .params)
     (λ κs a e d. Reports (a .0 .now) (a .1 .0 .now) (e .1 .0 .now) (a .1 .1 .0 .now) (e .1 .1 .0 .now) (a .1 .1 .1 .0 .now) (e .1 .1 .1 .0 .now) d)

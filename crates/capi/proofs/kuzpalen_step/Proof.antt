@@ -1,4 +1,4 @@
--- `capi::kuzpalen_step` meets its contract: `engine::step` is called on its parameters, the three `&mut` slices lent on, and `told_step` on the answer. Assumes nothing.
+-- `capi::kuzpalen_step` meets its contract: `making::step` is called on its parameters, the three `&mut` slices lent on, and `told_step` on the answer. Assumes nothing.
 use mathlib.Core.Path.{refl}
 use Prim.Native.Nat.{ℕ, _<_, _^_}
 use mathlib.Core.List.{[], _∷_, List}
@@ -27,8 +27,8 @@ use Rattle.answers.proofs.StepAnswer as L
 use Rattle.answers.proofs.StepAnswer.Laws as L′
 use Rattle.engine.proofs.InTurn.{Told, Answered, Calling}
 use Rattle.capi.proofs.Told.{Passes, meets-told}
-use Rattle.engine.proofs.step.Symbol as entry
-use Rattle.engine.proofs.step.Met as entry-thm
+use Rattle.making.proofs.step.Symbol as entry
+use Rattle.making.proofs.step.Met as entry-thm
 use Rattle.answers.proofs.told_step.Symbol as told
 use Rattle.answers.proofs.told_step.Met as told-thm
 use Rattle.capi.proofs.kuzpalen_step.Key as key
@@ -62,7 +62,7 @@ module _ {M : Type 1} (𝓤 : URA M) (H : Heap 𝓤) (A : Atoms 𝓤) (W : Given
 pub kuzpalen-step-spec : {M : Type 1} → stated.statement M
 unfolding code.routine
 kuzpalen-step-spec 𝓤 H 𝓜 𝓖 𝓡 =
-    meets-told 𝓤 H 𝓜 𝓖 𝓡 code.env key.name entry.name told.name code.function (code.unfolded 𝓤 H 𝓜 𝓡) entry.routine told.routine code.calls-engine·step code.calls-answers·told-step B′.mir L′.mir B.the-row L.the-row step-answer
+    meets-told 𝓤 H 𝓜 𝓖 𝓡 code.env key.name entry.name told.name code.function (code.unfolded 𝓤 H 𝓜 𝓡) entry.routine told.routine code.calls-making·step code.calls-answers·told-step B′.mir L′.mir B.the-row L.the-row step-answer
     (λ b v is. EL.lawful B.the-type B′.the-laws 𝓤 H (𝓖 .A) (givenOf 𝓤 H 𝓜 𝓖) tt .typed b _ is .0) (λ r u is. LL.lawful L.the-type L′.the-laws 𝓤 H (𝓖 .A) (givenOf 𝓤 H 𝓜 𝓖) .typed r _ is .0)
     4 (own.signature .params)
     (λ κs a e d. Steps (cells-of (a .0 .now)) (a .1 .0) (a .1 .1 .0 .now) (e .1 .1 .0 .now) (a .1 .1 .1 .0 .now) (e .1 .1 .1 .0 .now) (a .1 .1 .1 .1 .0 .now) (e .1 .1 .1 .1 .0 .now) d)

@@ -1,19 +1,19 @@
 -- From the columns of a lent table to its records: the calls answer the same. Nothing that a reader must believe stands here. Assumes nothing.
-use mathlib.Core.Path.{_≡_, refl, sym, ap, _∙_}
+use mathlib.Core.Path.{_≡_, refl, sym, _∙_}
 use mathlib.Core.List.{List, [], _∷_, map}
 use Prim.Native.Nat.{ℕ, _<_}
 use borrow.Author.Tests.{ne-eqb}
-use lib.ListN.{length, length-map, take}
+use lib.ListN.{length, length-map}
 use lib.IntN.{ℤ}
 use Rattle.plan.specs.Limits.{most-cells}
 use Rattle.plan.specs.Lists.{from, mem, some}
-use Rattle.plan.specs.Plan.{Table, cells}
+use Rattle.plan.specs.Plan.{Table}
 use Rattle.plan.specs.Columns.{table-of}
 use Rattle.plan.specs.Records.{bare, cells-of}
 use Rattle.plan.specs.declared.Record.{Record}
 use Rattle.plan.specs.declared.Columns.{Columns}
 use Rattle.plan.specs.declared.Lettered.{Lettered}
-use Rattle.plan.specs.Questions.{Buffer, scratch, second-scratch, all-roomy, in-file, puts, asked, or-else, refusal, layout, check, ends, frame, strip, layout-given, check-given, ends-given, frame-given, copy-output, copy, copy-given, strip-given, step-list, drill, drill-given, start, step, reach, start-given, step-given, reach-given}
+use Rattle.plan.specs.Questions.{Buffer, scratch, all-roomy, in-file, puts, asked, or-else, refusal, layout, check, ends, frame, strip, layout-given, check-given, ends-given, frame-given, copy-output, copy, copy-given, strip-given, step-list, drill, drill-given}
 use Rattle.plan.specs.laws.Crowded.{crowded, refusal-crowded, crowded-refuses}
 use Rattle.plan.specs.declared.Refusal.{Refusal}
 use Rattle.layout.specs.Laid.{laid-of, positions-after, Lays}
@@ -26,13 +26,6 @@ use Rattle.fitting.specs.declared.Fitted.the-variants as fits
 use Rattle.following.specs.Drilled.{drilled-of, list-after, Drills}
 use Rattle.following.specs.declared.Drilled.{Drilled}
 use Rattle.following.specs.declared.Drilled.the-variants as drilled
-use Rattle.finishing.specs.Postorder.{postorder}
-use Rattle.finishing.specs.Finishing.{start-no, step-no, reach-no, started-of, started-scratches, Starts, Steps, reached-of, Reaches}
-use Rattle.finishing.specs.declared.Started.{Started}
-use Rattle.finishing.specs.declared.Stepped.{Stepped}
-use Rattle.finishing.specs.declared.Stepped.the-variants as stepped
-use Rattle.finishing.specs.declared.Reached.{Reached}
-use Rattle.finishing.specs.declared.Reached.the-variants as reached
 use Rattle.checker.specs.Checked.{checked-of}
 use Rattle.checker.specs.declared.Checked.{Checked}
 use Rattle.checker.specs.declared.Checked.the-variants as checks
@@ -49,7 +42,7 @@ use Rattle.records.specs.Apart.{lent-columns, lent-lettered, records-in}
 use Rattle.records.specs.laws.Apart.{of-records, of-lettered}
 
 -- every table that is too long is refused, and alike: by the buffers, or by its length
-abbrev no : List Buffer → Refusal
+abbrev pub no : List Buffer → Refusal
 no bs = or-else (asked 1 (all-roomy bs) 0) crowded
 
 module _ (al : ℕ) (s s′ : List ℕ) (ps ps′ : List ℤ) (d : Laid) where
@@ -112,52 +105,6 @@ module _ (ps : List ℤ) (row first : ℕ) (bs bs′ : List ℕ) (d : Refusal) w
       let z : ¬ (d .number ≡ 0) = rw e (crowded-refuses _) in
       record { answers = e ∙ sym (strip-crowded v q); bytes = rw (ne-eqb (d .number) 0 z) (rw (ne-eqb (d .number) 0 z) at (g .bytes)) }
 
--- document 02, E9
-module _ (al s m : ℕ) where
-  abbrev unmade : Refusal
-  unmade = no (scratch s ∷ second-scratch m ∷ [])
-
-  start-crowded : (u : Table) → most-cells < length u → start-no u al s m ≡ unmade
-  unfolding start-given in-file puts mem some
-  start-crowded u h = refusal-crowded start (start-given u al s m) (λ _. refl) refl refl h
-
-  step-crowded : (p : ℕ) (u : Table) → most-cells < length u → step-no u al s m p ≡ unmade
-  unfolding step-given in-file puts mem some
-  step-crowded p u h = refusal-crowded step (step-given u al s m p) (λ _. refl) refl refl h
-
-  reach-crowded : (finished : List ℕ) (c : ℕ) (u : Table) → most-cells < length u → reach-no u al s m finished c ≡ unmade
-  unfolding reach-given in-file puts mem some
-  reach-crowded finished c u h = refusal-crowded reach (reach-given u al s m finished c) (λ _. refl) refl refl h
-
-starts-crowded : (al : ℕ) (xs xs′ ms ms′ : List ℕ) (d : Started) (u v : Table) → most-cells < length u → most-cells < length v → Starts u al xs xs′ ms ms′ d → Starts v al xs xs′ ms ms′ d
-starts-crowded al xs xs′ ms ms′ d u v p q g =
-    let e : start-no u al (length xs) (length ms) ≡ start-no v al (length xs) (length ms) = start-crowded al (length xs) (length ms) u p ∙ sym (start-crowded al (length xs) (length ms) v q) in
-    record { answers = g .answers ∙ ap started-of e; scratches = g .scratches ∙ ap (λ (r : Refusal). started-scratches r xs ms) e }
-
-steps-crowded : (al : ℕ) (xs xs′ ms ms′ : List ℕ) (ps ps′ : List ℤ) (d : Stepped) (u v : Table) → most-cells < length u → most-cells < length v → Steps u al xs xs′ ms ms′ ps ps′ d → Steps v al xs xs′ ms ms′ ps ps′ d
-steps-crowded al xs xs′ ms ms′ ps ps′ d u v p q g =
-    let ev = step-crowded al (length xs) (length ms) (length ps) v q in
-    let e : step-no u al (length xs) (length ms) (length ps) ≡ step-no v al (length xs) (length ms) (length ps) = step-crowded al (length xs) (length ms) (length ps) u p ∙ sym ev in
-    let refused : ¬ (step-no v al (length xs) (length ms) (length ps) .number ≡ 0) = (λ z. crowded-refuses _ (ap (λ (r : Refusal). r .number) (sym ev) ∙ z)) in
-    record {
-      refuses = λ z. let (a, b) = g .refuses (λ y. z (ap (λ (r : Refusal). r .number) (sym e) ∙ y)) in (a ∙ ap (λ (r : Refusal). stepped.Refused (r .number) (r .cell)) e, b);
-      steps = λ z. absurd (refused z);
-      says = λ z. absurd (refused z);
-      idle = g .idle;
-    }
-
-reaches-crowded : (al : ℕ) (xs ms : List ℕ) (c : ℕ) (d : Reached) (u v : Table) → most-cells < length u → most-cells < length v → Reaches u al xs ms c d → Reaches v al xs ms c d
-unfolding reached-of
-reaches-crowded al xs ms c d u v p q g =
-    let eu = reach-crowded al (length xs) (length ms) (cells u) c u p in
-    let r = unmade al (length xs) (length ms) in
-    let refused : ¬ (reach-no u al (length xs) (length ms) (cells u) c .number ≡ 0) = (λ z. crowded-refuses _ (ap (λ (r : Refusal). r .number) (sym eu) ∙ z)) in
-    let said : d ≡ reached.Refused (r .number) (r .cell) = g .refuses refused ∙ ap (λ (r : Refusal). reached.Refused (r .number) (r .cell)) eu in
-    record {
-      refuses = λ _. said ∙ ap (λ (r : Refusal). reached.Refused (r .number) (r .cell)) (sym (reach-crowded al (length xs) (length ms) (cells v) c v q));
-      reads = λ k h. said ∙ rw (reach-crowded al (length xs) (length ms) (take k (postorder v)) c v q, ne-eqb (r .number) 0 (crowded-refuses _));
-    }
-
 module _ (t : List Record) (r : Columns) (e : r ≡ lent-columns t) where
   pub layout-lent : (al : ℕ) (s s′ : List ℕ) (ps ps′ : List ℤ) (d : Laid) → Lays (table-of r) al s s′ ps ps′ d → Lays (cells-of t) al s s′ ps ps′ d
   layout-lent al s s′ ps ps′ d h = of-records (λ u. Lays u al s s′ ps ps′ d) t (lays-crowded al s s′ ps ps′ d) (rw e at h)
@@ -176,15 +123,6 @@ module _ (t : List Record) (r : Columns) (e : r ≡ lent-columns t) where
 
   pub drill-lent : (bs xs xs′ : List ℕ) (d : Drilled) → Drills (table-of r) bs xs xs′ d → Drills (cells-of t) bs xs xs′ d
   drill-lent bs xs xs′ d h = of-records (λ u. Drills u bs xs xs′ d) t (drills-crowded bs xs xs′ d) (rw e at h)
-
-  pub start-lent : (al : ℕ) (xs xs′ ms ms′ : List ℕ) (d : Started) → Starts (table-of r) al xs xs′ ms ms′ d → Starts (cells-of t) al xs xs′ ms ms′ d
-  start-lent al xs xs′ ms ms′ d h = of-records (λ u. Starts u al xs xs′ ms ms′ d) t (starts-crowded al xs xs′ ms ms′ d) (rw e at h)
-
-  pub step-lent : (al : ℕ) (xs xs′ ms ms′ : List ℕ) (ps ps′ : List ℤ) (d : Stepped) → Steps (table-of r) al xs xs′ ms ms′ ps ps′ d → Steps (cells-of t) al xs xs′ ms ms′ ps ps′ d
-  step-lent al xs xs′ ms ms′ ps ps′ d h = of-records (λ u. Steps u al xs xs′ ms ms′ ps ps′ d) t (steps-crowded al xs xs′ ms ms′ ps ps′ d) (rw e at h)
-
-  pub reach-lent : (al : ℕ) (xs ms : List ℕ) (c : ℕ) (d : Reached) → Reaches (table-of r) al xs ms c d → Reaches (cells-of t) al xs ms c d
-  reach-lent al xs ms c d h = of-records (λ u. Reaches u al xs ms c d) t (reaches-crowded al xs ms c d) (rw e at h)
 
 -- ---- with the labels taken along: the clean copy
 module _ (letters : List ℕ) (al : ℕ) (out out′ : List ℕ) (d : Copied) where

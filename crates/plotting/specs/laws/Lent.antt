@@ -10,25 +10,21 @@ use Rattle.plan.specs.Lists.{mem, some}
 use Rattle.plan.specs.Plan.{Table}
 use Rattle.plan.specs.Columns.{table-of}
 use Rattle.plan.specs.Records.{cells-of}
-use Rattle.plan.specs.Questions.{all-roomy, in-file, puts, asked, or-else, stroke, stroke-given}
-use Rattle.plan.specs.laws.Crowded.{crowded, refusal-crowded, crowded-refuses}
+use Rattle.plan.specs.Questions.{in-file, puts, stroke, stroke-given}
+use Rattle.plan.specs.laws.Crowded.{refusal-crowded, crowded-refuses}
 use Rattle.plan.specs.declared.Columns.{Columns}
 use Rattle.plan.specs.declared.Page.{Page}
 use Rattle.plan.specs.declared.Record.{Record}
-use Rattle.plan.specs.declared.Refusal.{Refusal}
 use Rattle.records.specs.Apart.{lent-columns}
 use Rattle.records.specs.laws.Apart.{of-records}
 use Rattle.strokes.specs.Stroked.{stroked-of}
 use Rattle.strokes.specs.declared.Stroked.{Stroked}
 use Rattle.strokes.specs.declared.Stroked.the-variants.{Refused}
+use Rattle.engine.specs.laws.Lent.{no}
 
--- every table that is too long is refused by its length
-abbrev no : Refusal
-no = or-else (asked 1 (all-roomy []) 0) crowded
-
-stroke-crowded : (ps : List ℤ) (g : Page) (s : ℕ) (u : Table) → most-cells < length u → stroked-of u ps g s ≡ Refused (no .number) (no .cell)
+stroke-crowded : (ps : List ℤ) (g : Page) (s : ℕ) (u : Table) → most-cells < length u → stroked-of u ps g s ≡ Refused (no [] .number) (no [] .cell)
 unfolding stroked-of stroke-given in-file puts mem some
-stroke-crowded ps g s u h = rw (refusal-crowded stroke (stroke-given u ps g s) (λ _. refl) refl refl h, ne-eqb (no .number) 0 (crowded-refuses _))
+stroke-crowded ps g s u h = rw (refusal-crowded stroke (stroke-given u ps g s) (λ _. refl) refl refl h, ne-eqb (no [] .number) 0 (crowded-refuses _))
 
 pub stroke-lent : (t : List Record) (r : Columns) → r ≡ lent-columns t → (ps : List ℤ) (g : Page) (s : ℕ) (d : Stroked)
     → d ≡ stroked-of (table-of r) ps g s → d ≡ stroked-of (cells-of t) ps g s

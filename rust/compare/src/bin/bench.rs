@@ -4,7 +4,7 @@
 //!     bench                          the calls
 //!     bench PLAN PROGRAM...          programs that print a plan's listing, such as `sheet`: microseconds a run
 
-use bindings::{Record, Sheet};
+use bindings::{Record, Sheet, Step};
 use compare::plain;
 use reference::generate::{file, labels, table, Shape, Sizes};
 use reference::rng::Rng;
@@ -70,6 +70,7 @@ fn main() {
         None => {
             calls();
             drills();
+            steps();
         }
     }
 }
@@ -126,6 +127,46 @@ fn drills() {
         );
         println!("| 4,096 records | {levels} | {} | {} | {engine:.0} | {rust:.0} | {:.2} |", table.len(), drill.used, engine / rust);
     }
+}
+
+/// A sheet that is made a cell a step: the mean of a run's steps, and of that the guard's part, which is the looking at the numbers that it looks at.
+fn steps() {
+    println!("| steps | cells | rows | a step ns | of it the guard ns | Layout ns |\n|---|---|---|---|---|---|");
+    for shape in [Shape::Bushy, Shape::Chain, Shape::Deep, Shape::Wide] {
+        for n in [16, 64, 256] {
+            let cells = table(&mut Rng::new(SEED, n as u64), shape, n, &Sizes { max_width: 30, max_depth: 3 });
+            let records: Vec<Record> = cells.iter().map(record).collect();
+            let (mut scratch, mut second, mut positions) = (vec![0; 16_384], vec![0; 1_024], vec![0; 2 * n]);
+            let sheet = bindings::layout(&records, 10, &mut scratch, &mut positions).expect("a sheet");
+            let looked_at = guarded(&records, &positions, &mut scratch, &mut second);
+            let mut run = |steps: usize| {
+                bindings::start(&records, 10, &mut scratch, &mut second).expect("a start");
+                (0..steps).for_each(|_| { let _ = black_box(bindings::step(&records, 10, &mut scratch, &mut second, &mut positions)); });
+            };
+            let (whole, guard) = race(|| run(n), || looked_at.iter().for_each(|x| { black_box(x.iter().max()); }));
+            let (start, _) = race(|| run(0), || ());
+            let (layout, _) = race(|| { let _ = black_box(bindings::layout(&records, 10, &mut scratch, &mut positions)); }, || ());
+            println!("| {shape:?} | {n} | {} | {:.0} | {:.0} | {layout:.0} |", sheet.rows, (whole - start) / n as f64, guard / n as f64);
+        }
+    }
+}
+
+/// The numbers that each step's guard looks at, of a whole run: the rows that its cell and the cells before it under the same parent fill.
+fn guarded(records: &[Record], positions: &[i32], scratch: &mut [u32], second: &mut [u32]) -> Vec<Vec<u32>> {
+    let mut written = positions.to_vec();
+    bindings::start(records, 10, scratch, second).expect("a start");
+    let mut out = Vec::new();
+    for _ in 0..records.len() {
+        let (before, marks) = (scratch.to_vec(), second.to_vec());
+        let Ok(Step::Finished(cell)) = bindings::step(records, 10, scratch, second, &mut written) else { panic!("a step") };
+        let c = cell as usize;
+        if c > 0 {
+            let rows = marks[4 * records[c].parent as usize].max(records[c].depth as u32 + 1 + marks[4 * c]) as usize;
+            let first = positions[2 * c + 1] as usize;
+            out.push(before[64 * first..64 * (first + rows)].to_vec());
+        }
+    }
+    out
 }
 
 fn file_calls(shape: Shape, n: usize, bytes: &[u8], note: &str) {

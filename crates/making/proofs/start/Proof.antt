@@ -1,4 +1,4 @@
--- `engine::start` meets its contract: `columns_of` is called on the table, and `finishing::start` on the columns and on the other parameters, the two scratches lent on. Assumes nothing.
+-- `making::start` meets its contract: `columns_of` is called on the table, and `finishing::start` on the columns and on the other parameters, the two scratches lent on. Assumes nothing.
 use mathlib.Core.Path.{refl}
 use Prim.Native.Nat.{ℕ, _<_, _^_}
 use mathlib.Core.List.{[], _∷_, List}
@@ -18,19 +18,19 @@ use denote.Builtin.{u32, SliceRefMutOf}
 use denote.Slice.{sliceVal, slice-vals, mut-slice-tells}
 use denote.Enum.Laws as EL
 use Rattle.finishing.specs.Finishing.{Starts}
-use Rattle.engine.specs.laws.Lent.{start-lent}
+use Rattle.making.specs.laws.Lent.{start-lent}
 use Rattle.plan.proofs.Columns.Laws as B′
 use Rattle.finishing.proofs.Started as L
 use Rattle.finishing.proofs.Started.Laws as L′
 use Rattle.engine.proofs.InTurn.{Told, Answered, Calling, Follows}
 use Rattle.engine.proofs.Lent.{by-columns, columned, meets-lent}
 use Rattle.records.proofs.columns_of.Symbol as apart
 use Rattle.records.proofs.columns_of.Met as apart-thm
 use Rattle.finishing.proofs.start.Symbol as core
 use Rattle.finishing.proofs.start.Met as core-thm
-use Rattle.engine.proofs.start.Key as own
-use Rattle.engine.proofs.start.Statement as stated
-use Rattle.engine.proofs.start.Code as code
+use Rattle.making.proofs.start.Key as own
+use Rattle.making.proofs.start.Statement as stated
+use Rattle.making.proofs.start.Code as code
 
 -- the parameters beside the table
 abbrev others : List (Slot 3)

@@ -1,4 +1,4 @@
--- `engine::reach` meets its contract: `columns_of` is called on the table, and `finishing::reach` on the columns and on the other parameters. Assumes nothing.
+-- `making::reach` meets its contract: `columns_of` is called on the table, and `finishing::reach` on the columns and on the other parameters. Assumes nothing.
 use mathlib.Core.Path.{refl}
 use Prim.Native.Nat.{ℕ, _<_, _^_}
 use mathlib.Core.List.{[], _∷_, List}
@@ -17,19 +17,19 @@ use denote.Builtin.{u32, SliceRefOf}
 use denote.Slice.{sliceVal, slice-vals, shr-slice-tells}
 use denote.Enum.Laws as EL
 use Rattle.finishing.specs.Finishing.{Reaches}
-use Rattle.engine.specs.laws.Lent.{reach-lent}
+use Rattle.making.specs.laws.Lent.{reach-lent}
 use Rattle.plan.proofs.Columns.Laws as B′
 use Rattle.finishing.proofs.Reached as L
 use Rattle.finishing.proofs.Reached.Laws as L′
 use Rattle.engine.proofs.InTurn.{Told, Answered, Calling, Follows}
 use Rattle.engine.proofs.Lent.{by-columns, columned, meets-lent}
 use Rattle.records.proofs.columns_of.Symbol as apart
 use Rattle.records.proofs.columns_of.Met as apart-thm
 use Rattle.finishing.proofs.reach.Symbol as core
 use Rattle.finishing.proofs.reach.Met as core-thm
-use Rattle.engine.proofs.reach.Key as own
-use Rattle.engine.proofs.reach.Statement as stated
-use Rattle.engine.proofs.reach.Code as code
+use Rattle.making.proofs.reach.Key as own
+use Rattle.making.proofs.reach.Statement as stated
+use Rattle.making.proofs.reach.Code as code
 
 -- the parameters beside the table
 abbrev others : List (Slot 3)

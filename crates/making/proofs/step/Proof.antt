@@ -1,4 +1,4 @@
--- `engine::step` meets its contract: `columns_of` is called on the table, and `finishing::step` on the columns and on the other parameters, the three `&mut` slices lent on. Assumes nothing.
+-- `making::step` meets its contract: `columns_of` is called on the table, and `finishing::step` on the columns and on the other parameters, the three `&mut` slices lent on. Assumes nothing.
 use mathlib.Core.Path.{refl}
 use Prim.Native.Nat.{ℕ, _<_, _^_}
 use mathlib.Core.List.{[], _∷_, List}
@@ -18,19 +18,19 @@ use denote.Builtin.{u32, i32, SliceRefMutOf}
 use denote.Slice.{sliceVal, slice-vals, mut-slice-tells}
 use denote.Enum.Laws as EL
 use Rattle.finishing.specs.Finishing.{Steps}
-use Rattle.engine.specs.laws.Lent.{step-lent}
+use Rattle.making.specs.laws.Lent.{step-lent}
 use Rattle.plan.proofs.Columns.Laws as B′
 use Rattle.finishing.proofs.Stepped as L
 use Rattle.finishing.proofs.Stepped.Laws as L′
 use Rattle.engine.proofs.InTurn.{Told, Answered, Calling, Follows}
 use Rattle.engine.proofs.Lent.{by-columns, columned, meets-lent}
 use Rattle.records.proofs.columns_of.Symbol as apart
 use Rattle.records.proofs.columns_of.Met as apart-thm
 use Rattle.finishing.proofs.step.Symbol as core
 use Rattle.finishing.proofs.step.Met as core-thm
-use Rattle.engine.proofs.step.Key as own
-use Rattle.engine.proofs.step.Statement as stated
-use Rattle.engine.proofs.step.Code as code
+use Rattle.making.proofs.step.Key as own
+use Rattle.making.proofs.step.Statement as stated
+use Rattle.making.proofs.step.Code as code
 
 -- the parameters beside the table
 abbrev others : List (Slot 4)

@@ -1,5 +1,5 @@
--- `engine::report` meets its contract: `reporting::report` is called on the file, the table's length and the two other slices, lent on, and `records::fill` on what was read and on the table,
--- lent on (proofs/Filled.antt). Assumes nothing.
+-- `tallying::report` meets its contract: `reporting::report` is called on the file, the table's length and the two other slices, lent on, and `records::fill` on what was read and on the table,
+-- lent on (engine, proofs/Filled.antt). Assumes nothing.
 use mathlib.Core.Path.{refl, ap}
 use Prim.Native.Nat.{ℕ, _<_, _^_}
 use mathlib.Core.List.{[], _∷_, List}
@@ -23,7 +23,7 @@ use denote.Slice.{sliceVal, slice-vals, mut-slice-tells}
 use denote.Enum.Laws as EL
 use denote.Struct.Laws as LL
 use Rattle.reporting.specs.Reporting.{Drafts, Reports}
-use Rattle.engine.specs.laws.Report.{draft-fits, draft-reports}
+use Rattle.tallying.specs.laws.Report.{draft-fits, draft-reports}
 use Rattle.planfile.specs.declared.Reading.{Reading}
 use Rattle.reporting.specs.declared.Draft.{Draft}
 use Rattle.season.specs.declared.Reported.{Reported}
@@ -33,12 +33,12 @@ use Rattle.reporting.proofs.Draft as P
 use Rattle.reporting.proofs.Draft.Laws as P′
 use Rattle.season.proofs.Reported as N
 use Rattle.season.proofs.Reported.Laws as N′
 use Rattle.engine.proofs.Filled.{Filled, Read-in, Follows, meets-filled}
 use Rattle.reporting.proofs.report.Symbol as core
 use Rattle.reporting.proofs.report.Met as core-thm
-use Rattle.engine.proofs.report.Key as own
-use Rattle.engine.proofs.report.Statement as stated
-use Rattle.engine.proofs.report.Code as code
+use Rattle.tallying.proofs.report.Key as own
+use Rattle.tallying.proofs.report.Statement as stated
+use Rattle.tallying.proofs.report.Code as code
 
 -- the parameters behind the file and the table
 abbrev others : List (Slot 4)
