@@ -22,7 +22,7 @@ extern "C" {
 #endif
 
 #define KUZPALEN_CELLS 256u           /* the most cells of a plan; the records that Read's, Join's and Report's tables need */
-#define KUZPALEN_SCRATCH 16384u       /* the numbers that the scratch of Layout, Frame and Report needs */
+#define KUZPALEN_SCRATCH 16384u       /* the numbers that the scratch of Layout, Frame, Start, Step, Reach and Report needs */
 #define KUZPALEN_SECOND 1024u         /* the numbers that the second scratch of Start, Step and Reach needs */
 #define KUZPALEN_LISTING_SIZE 17408u  /* the bytes that List's output needs, whatever the file */
 #define KUZPALEN_COPY_SIZE 16384u     /* the bytes that Copy's output needs, whatever the plan */
@@ -42,7 +42,7 @@ typedef struct {
     uint16_t width;        /* 1 to KUZPALEN_WIDEST */
     uint8_t depth;         /* 1 to 15 */
     uint8_t label_length;  /* the label: so many bytes of the file, */
-    uint16_t label_start; /* from this one on. Read writes the two label fields; Copy reads them, Join copies them, no other call that takes a table looks at them */
+    uint16_t label_start; /* from this one on. Read and Report write the two label fields; Copy reads them, Join copies them, no other call that takes a table looks at them */
 } kuzpalen_record;
 
 typedef struct {
