@@ -1,13 +1,17 @@
-// Texts and numbers written into a buffer at a place; each function hands the next place back. A float in millimetres is written to three digits after the point.
+// Texts, numbers and the line of a refusal written into a buffer at a place; each function hands the next place back. A float in millimetres is written to three digits after the point.
 ghost use mathlib.Core.Path.{_≡_};
 ghost use mathlib.Core.List.{_∷_, []};
 ghost use Prim.Native.Nat.{_+_, _≤_, _<_};
 ghost use lib.ListN.{length};
-ghost use Rattle.listing.specs.Printed.{decimal};
+ghost use Rattle.listing.specs.Printed.{decimal, «refused-line»};
 ghost use Rattle.listing.specs.Put.{Put};
 ghost use Rattle.decimals.specs.Fixed.{scaled, thousandths, fixed, millimetres};
 
 const POINT: u8 = 46;
+
+const SPACE: u8 = 32;
+
+const LINE_FEED: u8 = 10;
 
 // One byte.
 pub fn put_byte(b: u8, out: &mut [u8], at: usize) -> usize
@@ -49,6 +53,19 @@ pub fn put_decimal(n: u64, out: &mut [u8], at: usize) -> usize
     }
     let last = put_decimal(n / 10, out, at);
     put_byte(digit(n % 10), out, last)
+}
+
+// The line of a refusal, as a listing has it.
+pub fn put_refused(number: u64, cell: u64, out: &mut [u8], at: usize) -> usize
+    requires { ⌜ at + 50 ≤ length (now out) ⌝ }
+    ensures { λ r. ⌜ Put (now (out .entry)) at (refused-line number cell) (now (out .exit)) r × (r ≤ at + 50) ⌝ }
+{
+    let a = put_text(b"refused", out, at);
+    let b = put_byte(SPACE, out, a);
+    let c = put_decimal(number, out, b);
+    let d = put_byte(SPACE, out, c);
+    let e = put_decimal(cell, out, d);
+    put_byte(LINE_FEED, out, e)
 }
 
 // So many thousandths: the whole ones, a point and three digits.

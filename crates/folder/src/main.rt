@@ -1,17 +1,19 @@
 // folder FILE..: the report of the plans in these files together, `word number` a line, on standard output; before it a line for each file that is refused, its name and `refused N C`.
 // More than 1,024 plans: `refused 4 0` in the report's place. A file that cannot be read is told on standard error, and then there is no report, since it would not be that of the folder.
+use decimals::put_refused;
 use plan::limits::MOST_CELLS;
 use plan::limits::SCRATCH_SIZE;
 use season::Reported;
-use summary::TEXT_SIZE;
 use summary::write_named;
-use summary::write_refused;
 use summary::write_report;
 ghost use Prim.Native.Nat.{_≤_};
 ghost use lib.ListN.{length};
 
 // One byte more than a plan file may have is read, so that a longer one is refused.
 const FILE_SIZE: usize = 16385;
+
+// Bytes of a line's or a report's buffer: a path of 4,096 and a refusal; a report has at most 240.
+const TEXT_SIZE: usize = 4352;
 
 // Files after which it is told how far the work has come.
 const MANY: usize = 100;
@@ -103,7 +105,7 @@ fn tell_progress(done: usize, all: usize) {
 // That there are too many plans.
 fn tell_many(number: u8, cell: u16) -> bool {
     let mut out = [0u8; TEXT_SIZE];
-    let n = write_refused(number as u64, cell as u64, &mut out, 0);
+    let n = put_refused(number as u64, cell as u64, &mut out, 0);
     io::write_all(1, &out[..n])
 }
 

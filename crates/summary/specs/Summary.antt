@@ -47,16 +47,12 @@ report-lines r = sums-lines r ++ extremes-lines r
 unfoldable pub named-line : Bytes → (number cell : ℕ) → Bytes
 named-line name k c = name ++ (space ∷ refused-line k c)
 
--- bytes of a text's buffer, and of a file's name at most
-abbrev pub text-size : ℕ
-text-size = 4352
-
-abbrev pub most-name : ℕ
-most-name = 4096
-
--- bytes of a figure's line and of a report, at most
+-- bytes of a figure's line, of a report, and of what stands behind a refused file's name, at most
 abbrev pub figure-size : ℕ
 figure-size = 30
 
 abbrev pub report-size : ℕ
 report-size = 240
+
+abbrev pub named-size : ℕ
+named-size = 51

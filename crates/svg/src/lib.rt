@@ -2,6 +2,7 @@
 use decimals::put_byte;
 use decimals::put_decimal;
 use decimals::put_millimetres;
+use decimals::put_refused;
 use decimals::put_text;
 use pen::Stroke;
 use plan::Columns;
@@ -20,7 +21,6 @@ ghost use Rattle.plan.specs.Fit.{Fit};
 ghost use Rattle.plan.specs.Near.{Near};
 ghost use Rattle.rules.specs.Placement.{placed};
 ghost use Rattle.pen.specs.Strokes.{strokes};
-ghost use Rattle.listing.specs.Printed.{«refused-line»};
 ghost use Rattle.listing.specs.Put.{Put};
 ghost use Rattle.printing.specs.Printing.{Taken};
 ghost use Rattle.svg.specs.Drawing.{«point-text», «stroke-text», «strokes-text», letter, escaped, «label-at», «label-text», side, «head-text», «labels-head», «labels-text», «sheet-text», «drawing-of»};
@@ -218,19 +218,6 @@ fn write_sheet(plan: Reading, file: &[u8], page: Page, out: &mut [u8]) -> usize
     put_text(b"</g></g>\n</svg>\n", out, d)
 }
 
-// The line of a refusal.
-fn put_refused(number: u64, cell: u64, out: &mut [u8]) -> usize
-    requires { ⌜ drawing-size ≤ length (now out) ⌝ }
-    ensures { λ r. ⌜ Put (now (out .entry)) 0 (refused-line number cell) (now (out .exit)) r × (r ≤ drawing-size) ⌝ }
-{
-    let a = put_text(b"refused", out, 0);
-    let b = put_byte(SPACE, out, a);
-    let c = put_decimal(number, out, b);
-    let d = put_byte(SPACE, out, c);
-    let e = put_decimal(cell, out, d);
-    put_byte(LINE_FEED, out, e)
-}
-
 // The drawing of a plan file on a page, or the line of the refusal, into an output that is long enough: its length.
 pub fn write_drawing(file: &[u8], page: Page, out: &mut [u8]) -> usize
     requires { ⌜ drawing-size ≤ length (now out) ⌝ }
@@ -239,10 +226,10 @@ pub fn write_drawing(file: &[u8], page: Page, out: &mut [u8]) -> usize
     let plan = planfile::read(file, MOST_CELLS);
     let refusal = plan.refusal;
     if refusal.number != 0 {
-        return put_refused(refusal.number as u64, refusal.cell as u64, out);
+        return put_refused(refusal.number as u64, refusal.cell as u64, out, 0);
     }
     if !fair(page) {
-        return put_refused(17, 0, out);
+        return put_refused(17, 0, out, 0);
     }
     write_sheet(plan, file, page, out)
 }

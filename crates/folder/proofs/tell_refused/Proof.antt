@@ -1,26 +1,21 @@
 use mathlib.Core.Path.{sym}
-use Prim.Native.Nat.{ℕ}
 use native.Mathlib.Omega.{arith}
-use lib.ListN.{length-replicate}
 use lib.Seq.{length-take-le}
-use Rattle.summary.specs.Summary.{text-size}
-use Rattle.folder.specs.laws.Text.{still-long}
 use borrow.Author.Needs.{needs}
 use Rattle.folder.proofs.tell_refused.Statement.{statement}
 use Rattle.folder.proofs.tell_refused.Tie as tie
+
+slice-aggregate-write-named : tie.Need-slice-aggregate-write-named
+slice-aggregate-write-named c = search needs
 
 write-named-requires : tie.Need-write-named-requires
 write-named-requires c κs = search needs
 
 array-share-prefix-out : tie.Need-array-share-prefix-out
-array-share-prefix-out c =
-    let r = c .write-named .ensures in
-    omega (arith, r .1, still-long _ _ _ _ _ (r .0) (length-replicate {A = ℕ} text-size 0))
+array-share-prefix-out c = omega (arith, c .before .write-named .ensures .1, c .before .write-named .kept)
 
 slice-aggregate-write-all : tie.Need-slice-aggregate-write-all
-slice-aggregate-write-all c =
-    let r = c .before .write-named .ensures in
-    sym (length-take-le _ _ (omega (arith, r .1, still-long _ _ _ _ _ (r .0) (length-replicate {A = ℕ} text-size 0))))
+slice-aggregate-write-all c = sym (length-take-le _ _ (omega (arith, c .before .before .write-named .ensures .1, c .before .before .write-named .kept)))
 
 write-all-requires : tie.Need-write-all-requires
 write-all-requires c κs = search needs
@@ -32,6 +27,7 @@ pub tell-refused-spec : {M : Type 1} → statement M
 tell-refused-spec =
     tie.close
     (tie.spec
+    slice-aggregate-write-named
     write-named-requires
     array-share-prefix-out
     slice-aggregate-write-all

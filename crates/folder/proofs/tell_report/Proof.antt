@@ -1,10 +1,6 @@
 use mathlib.Core.Path.{sym}
-use Prim.Native.Nat.{ℕ}
 use native.Mathlib.Omega.{arith}
-use lib.ListN.{length-replicate}
 use lib.Seq.{length-take-le}
-use Rattle.summary.specs.Summary.{text-size}
-use Rattle.folder.specs.laws.Text.{still-long}
 use borrow.Author.Needs.{needs}
 use Rattle.folder.proofs.tell_report.Statement.{statement}
 use Rattle.folder.proofs.tell_report.Tie as tie
@@ -12,18 +8,17 @@ use Rattle.folder.proofs.tell_report.Tie as tie
 enum-known-total : tie.Need-enum-known-total
 enum-known-total c = search needs
 
+slice-aggregate-write-report : tie.Need-slice-aggregate-write-report
+slice-aggregate-write-report c = search needs
+
 write-report-requires : tie.Need-write-report-requires
 write-report-requires c κs = search needs
 
 array-share-prefix-out : tie.Need-array-share-prefix-out
-array-share-prefix-out c =
-    let r = c .write-report .ensures in
-    omega (arith, r .1, still-long _ _ _ _ _ (r .0) (length-replicate {A = ℕ} text-size 0))
+array-share-prefix-out c = omega (arith, c .before .write-report .ensures .1, c .before .write-report .kept)
 
 slice-aggregate-write-all : tie.Need-slice-aggregate-write-all
-slice-aggregate-write-all c =
-    let r = c .before .write-report .ensures in
-    sym (length-take-le _ _ (omega (arith, r .1, still-long _ _ _ _ _ (r .0) (length-replicate {A = ℕ} text-size 0))))
+slice-aggregate-write-all c = sym (length-take-le _ _ (omega (arith, c .before .before .write-report .ensures .1, c .before .before .write-report .kept)))
 
 write-all-requires : tie.Need-write-all-requires
 write-all-requires c κs = search needs
@@ -45,6 +40,7 @@ tell-report-spec =
     tie.close
     (tie.spec
     enum-known-total
+    slice-aggregate-write-report
     write-report-requires
     array-share-prefix-out
     slice-aggregate-write-all

@@ -1,3 +1,4 @@
+use native.Mathlib.Omega.{arith}
 use Rattle.svg.specs.laws.Drawing.{put-as, drawing-refused, drawing-unfair, drawing-sheet, unfair, is-fair}
 use borrow.Author.Needs.{needs}
 use Rattle.svg.proofs.write_drawing.Statement.{statement}
@@ -19,7 +20,7 @@ same-length : tie.Need-same-length
 same-length c = search needs
 
 returns : tie.Need-returns
-returns c = (put-as _ _ (drawing-refused _ _ (c .before .before .before .before .before .before .before .before .before .before .before .before .args .page) (c .before .before .before .before .before .before .before .before .before .read .ensures) (c .before .before .before .before .before .before .if1 .taken)) (c .before .before .put-refused .ensures .0), c .before .before .put-refused .ensures .1)
+returns c = (put-as _ _ (drawing-refused _ _ (c .before .before .before .before .before .before .before .before .before .before .before .before .args .page) (c .before .before .before .before .before .before .before .before .before .read .ensures) (c .before .before .before .before .before .before .if1 .taken)) (c .before .before .put-refused .ensures .0), omega (arith, c .before .before .put-refused .ensures .1))
 
 fair-requires : tie.Need-fair-requires
 fair-requires c κs = search needs
@@ -31,7 +32,7 @@ same-length-2 : tie.Need-same-length-2
 same-length-2 c = search needs
 
 returns-2 : tie.Need-returns-2
-returns-2 c = (put-as _ _ (drawing-unfair _ _ _ (c .before .before .before .before .before .before .before .before .before .read .ensures) (c .before .before .before .before .before .before .if1 .left) (unfair _ _ (c .before .before .before .before .before .fair .ensures) (c .before .before .before .before .if2 .taken))) (c .before .before .put-refused2 .ensures .0), c .before .before .put-refused2 .ensures .1)
+returns-2 c = (put-as _ _ (drawing-unfair _ _ _ (c .before .before .before .before .before .before .before .before .before .read .ensures) (c .before .before .before .before .before .before .if1 .left) (unfair _ _ (c .before .before .before .before .before .fair .ensures) (c .before .before .before .before .if2 .taken))) (c .before .before .put-refused2 .ensures .0), omega (arith, c .before .before .put-refused2 .ensures .1))
 
 write-sheet-requires : tie.Need-write-sheet-requires
 write-sheet-requires c κs = (record { is = c .before .before .before .before .before .before .read .ensures; passes = c .before .before .before .if1 .left }, c .before .before .before .before .before .before .before .before .before .pre)

@@ -30,8 +30,7 @@ use Rattle.layout.specs.Laid.{Drawn}
 use Rattle.layout.specs.declared.Measures.{Measures}
 use Rattle.planfile.specs.declared.Reading.{Reading}
 use Rattle.planfile.specs.Reading.{reading-of}
-use Rattle.listing.specs.Printed.{Bytes, space, line-feed, refused-word, decimal, refused-line}
-use Rattle.listing.specs.laws.Line.{refused-line-is}
+use Rattle.listing.specs.Printed.{Bytes, refused-line}
 use Rattle.listing.specs.Put.{Put}
 use Rattle.listing.specs.laws.Put.{then, put-none}
 use Rattle.printing.specs.Printing.{Taken, read-table, ours, label-bytes}
@@ -210,10 +209,6 @@ module _ (p : Reading) (f : Bytes) (g : Page) (e : p ≡ reading-of f most-cells
   pub drawing-sheet : p .refusal .number ≡ 0 → fair g ≡ true → drawing-of f g ≡ sheet-text p g f
   unfolding drawing-of
   drawing-sheet z u = rw (← e, eq-eqb (p .refusal .number) 0 z, u)
-
--- the line of a refusal
-pub refused-put : (k c : ℕ) {a b d e f g h : List ℕ} {i j l m n o q : ℕ} → Put a i refused-word b j → Put b j (space ∷ []) d l → Put d l (decimal k) e m → Put e m (space ∷ []) f n → Put f n (decimal c) g o → Put g o (line-feed ∷ []) h q → Put a i (refused-line k c) h q
-refused-put k c u v w x y z = rw (← refused-line-is k c) (then (then (then u (then v w)) (then x y)) z)
 
 -- a test that is turned round
 pub unfair : (r b : Bool) → r ≡ b → not r ≡ true → b ≡ false

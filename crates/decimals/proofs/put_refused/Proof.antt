@@ -1,8 +1,8 @@
 use native.Mathlib.Omega.{arith}
-use Rattle.svg.specs.laws.Drawing.{refused-put}
+use Rattle.decimals.specs.laws.Refused.{refused-put}
 use borrow.Author.Needs.{needs}
-use Rattle.svg.proofs.put_refused.Statement.{statement}
-use Rattle.svg.proofs.put_refused.Tie as tie
+use Rattle.decimals.proofs.put_refused.Statement.{statement}
+use Rattle.decimals.proofs.put_refused.Tie as tie
 
 slice-aggregate-put-text : tie.Need-slice-aggregate-put-text
 slice-aggregate-put-text c = search needs
