@@ -4,17 +4,18 @@ use mathlib.Core.Bool.{cond}
 use Prim.Native.Nat.{ℕ, _+_, _*_, _/_, _%_, _≤_, min, max}
 use lib.Dec.{eqb}
 use lib.ListN.{length}
+use Rattle.plan.specs.Limits.{most-cells, farthest}
 use Rattle.season.specs.declared.Report.{Report}
 
--- ---- the limits: "up to 1,024 plans"; per plan "256 cells, 262,143 of width or 67,108,608 of width times rows"
+-- ---- the limits: "up to 1,024 plans"; per plan "256 cells, 262,143 of width or 67,108,608 of width times rows", the first two those of every plan
 abbrev pub most-plans : ℕ
 most-plans = 1024
 
 abbrev pub cells-each : ℕ
-cells-each = 256
+cells-each = most-cells
 
 abbrev pub width-each : ℕ
-width-each = 262143
+width-each = farthest
 
 abbrev pub rows-each : ℕ
 rows-each = 256

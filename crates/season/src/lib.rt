@@ -1,6 +1,7 @@
 // THE SEASON'S FOLDER (document 02, E14): the report of some plans, the pool of two reports, and a folder's report, file by file.
 use asking::asked;
 use plan::Refusal;
+use plan::limits::FARTHEST;
 use whole::numbers::greater;
 use whole::numbers::lesser;
 ghost use mathlib.Core.Path.{_≡_};
@@ -15,7 +16,7 @@ pub const MOST_PLANS: u32 = 1024;
 // Of one plan, at most: cells, width, and width times rows.
 pub const CELLS_EACH: u32 = 256;
 
-pub const WIDTH_EACH: u32 = 262143;
+pub const WIDTH_EACH: u32 = FARTHEST;
 
 pub const AREA_EACH: u64 = 67108608;
 
