@@ -13,19 +13,19 @@ use Rattle.plan.specs.Questions.{refusal, check, check-given}
 use Rattle.plan.specs.Columns.{table-of}
 use Rattle.rules.specs.Verdict.{verdict, answer}
 use Rattle.plan.specs.laws.Tables.{length-is, count-some}
-use Rattle.checker.specs.Passes.{Sights, Sighted, found-of, all-found}
-use Rattle.checker.specs.Sees.{Looked}
+use Rattle.looking.specs.Passes.{Sights, Sighted, found-of, all-found}
+use Rattle.looking.specs.Sees.{Looked}
 use Rattle.checker.specs.Spread.{Bounds, Spread}
 use Rattle.rules.specs.Placement.{placed}
 use Rattle.checker.specs.Checked.{answered, unless}
-use Rattle.checker.specs.laws.Meaning.{found-verdict}
+use Rattle.looking.specs.laws.Meaning.{found-verdict}
 use Rattle.checker.specs.laws.Checked as laws
 use Rattle.checker.specs.declared.Checked.{Checked}
 use Rattle.checker.specs.declared.Checked.the-variants as checked
-use Rattle.checker.specs.declared.search.View.{View}
-use Rattle.checker.specs.declared.search.Found.{Found}
-use Rattle.checker.specs.declared.search.Found.the-variants.{Kept, Broken}
-use Rattle.checker.proofs.Searching.{found-broken, found-kept}
+use Rattle.looking.specs.declared.search.View.{View}
+use Rattle.looking.specs.declared.search.Found.{Found}
+use Rattle.looking.specs.declared.search.Found.the-variants.{Kept, Broken}
+use Rattle.looking.specs.laws.Found.{found-broken, found-kept}
 
 module _ (t : Columns) (fit : Fit (table-of t)) (ps : List ℤ) (al : ℕ) (s : Sights) (g : Looked (table-of t) (placed ps) s) where
   found-is : (f : Found) → f ≡ found-of (all-found s al (t .count)) → f ≡ found-of (verdict (table-of t) (placed ps) al)

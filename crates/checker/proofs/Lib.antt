@@ -1,6 +1,2 @@
-pub mod Tests
-pub mod Searching
-pub mod Looking
-pub mod Scattering
 pub mod Widening
 pub mod Judging

@@ -1,5 +1,3 @@
-pub mod Passes
-pub mod Sees
 pub mod Spread
 pub mod Checked
 pub mod laws

@@ -1,17 +1,14 @@
 // Check: "kept" with width and rows, or "broken" with the lowest rule, then the lowest a, then the lowest b; or a refusal.
-pub mod search;
-pub mod sights;
-
-use crate::search::Found;
-use crate::search::SIGHTS;
-use crate::search::search;
-use crate::search::see;
-use crate::sights::look;
 use asking::allowance_refusal;
 use asking::lent_refusal;
 use asking::near_refusal;
+use looking::search::Found;
+use looking::search::SIGHTS;
+use looking::search::see;
+use looking::sights::look;
 use plan::Columns;
 use plan::Refusal;
+use sweeping::find;
 use whole::numbers::greater;
 use whole::numbers::lesser;
 ghost use mathlib.Core.Path.{_≡_};
@@ -24,7 +21,7 @@ ghost use Rattle.plan.specs.Questions.{refusal, check, «check-given»};
 ghost use Rattle.rules.specs.Verdict.{answer};
 ghost use Rattle.rules.specs.Placement.{placed};
 ghost use Rattle.checker.specs.Checked.{«answered», «checked-of»};
-ghost use Rattle.checker.specs.Passes.{«view-in»};
+ghost use Rattle.looking.specs.Passes.{«view-in»};
 ghost use Rattle.checker.specs.Spread.{Bounds, Spread};
 
 // Kept: width and rows. Broken: rule, a and b. Refused: number and cell.
@@ -75,7 +72,7 @@ fn judge(t: Columns, positions: &[i32], allowance: u32) -> Checked
 {
     let mut sights = [0u32; SIGHTS];
     look(t, positions, &mut sights);
-    let found = search(&sights, t.count, allowance);
+    let found = find(&sights, t.count, allowance);
     if let Found::Broken(rule, a, b) = found {
         return Checked::Broken(rule, a, b);
     }

@@ -138,4 +138,4 @@ module _ (t : Columns) (fit : Fit (table-of t)) (ls : List ℕ) (links : Links (
   pub laying-ends : {c : ℕ} {k : Cols} → Laying t sizes c k → t .count ≤ c → Spans (table-of t) (at (k .firsts)) (at (k .ends)) (at (k .froms)) (at (k .tos))
   laying-ends {c} {k} h l =
       let e : c ≡ length (table-of t) = omega (arith, h .high, length-is t) in
-      spans (table-of t) (fit .sound) few z k (rw e at (h .laid))
+      spans (table-of t) (fit .sound) few z k (fit .some-cell) (rw e at (h .laid))

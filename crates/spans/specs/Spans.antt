@@ -18,8 +18,15 @@ module _ (t : Table) where
     pub placed : (f i s : ℕ) → At (children t f) i s → nth s ≡ i + 1
     pub all : (f : ℕ) → Is t f → many f ≡ length (children t f)
 
+-- the cell with the number k
+pub record Numbered (t : Table) (first : ℕ → ℕ) (k : ℕ) : Type 0 where
+  pub cell : ℕ
+  pub is : Is t cell
+  pub so : first cell ≡ k
+
 pub record Spans (t : Table) (first end from to : ℕ → ℕ) : Type 0 where
   pub some : (c : ℕ) → Is t c → first c < end c
+  pub few : (c : ℕ) → Is t c → end c ≤ length t
   pub under : (c i s : ℕ) → At (children t c) i s → (first c < first s) × (end s ≤ end c)
   pub beside : (c i u v : ℕ) → At (children t c) i u → At (children t c) (suc i) v → end u ≡ first v
   -- where the span of the sibling right before begins, and where that of the sibling right after ends; the cell's own first and end where there is none
@@ -27,6 +34,9 @@ pub record Spans (t : Table) (first end from to : ℕ → ℕ) : Type 0 where
   pub eldest : (c v : ℕ) → At (children t c) 0 v → from v ≡ first v
   pub younger : (c i u v : ℕ) → At (children t c) i u → At (children t c) (suc i) v → to u ≡ end v
   pub youngest : (c i u : ℕ) → At (children t c) i u → length (children t c) ≡ suc i → to u ≡ end u
+  -- each number of the root's span is a cell's
+  pub hit : (k : ℕ) → k < end 0 → Numbered t first k
+  pub root-first : first 0 ≡ 0
   pub root-from : from 0 ≡ first 0
   pub root-to : to 0 ≡ end 0
 

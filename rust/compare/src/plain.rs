@@ -4,7 +4,7 @@
 
 use bindings::{Drill, Ends, Outcome, Plan, Record, Refusal, Sheet, Verdict};
 
-const CELLS: usize = 256;
+pub const CELLS: usize = 256;
 const ROW: usize = 64;
 const SCRATCH: usize = 16_384;
 const LISTING: usize = 17_408;
@@ -438,24 +438,24 @@ pub fn drill(table: &[Record], answers: &[u8], list: &mut [u16]) -> Result<Drill
 
 /// A cell as Check sees it.
 #[derive(Clone, Copy, Default)]
-struct View {
-    parent: u16,
-    nth: u16,
-    middle: u16,
-    x: i32,
-    right: i32,
-    y: i32,
-    due: i32,
-    base: i32,
-    bottom: i32,
+pub struct View {
+    pub parent: u16,
+    pub nth: u16,
+    pub middle: u16,
+    pub x: i32,
+    pub right: i32,
+    pub y: i32,
+    pub due: i32,
+    pub base: i32,
+    pub bottom: i32,
     /// In preorder: its place, the end of its subtree, and the places from the previous sibling to the next one's end.
-    first: u16,
-    end: u16,
-    from: u16,
-    to: u16,
+    pub first: u16,
+    pub end: u16,
+    pub from: u16,
+    pub to: u16,
 }
 
-fn look(table: &[Record], positions: &[i32]) -> [View; CELLS] {
+pub fn look(table: &[Record], positions: &[i32]) -> [View; CELLS] {
     let n = table.len();
     let mut v = [View::default(); CELLS];
     let links = links(table);
@@ -503,20 +503,82 @@ fn passes(rule: u8, a: usize, b: usize, v: &View, w: &View, allowance: i32) -> b
     }
 }
 
-pub fn check(table: &[Record], positions: &[i32], allowance: u32) -> Result<Verdict, Refusal> {
+/// The questions that Check puts.
+pub fn ask_all(table: &[Record], positions: &[i32], allowance: u32) -> Result<(), Refusal> {
     ask_table(table, positions.len())?;
     ask_allowance(allowance)?;
-    let n = table.len();
-    ask_positions(positions, n)?;
-    let v = look(table, positions);
-    let v = &v[..n];
+    ask_positions(positions, table.len())
+}
+
+/// Each rule in turn at each pair in turn.
+pub fn search(v: &[View], allowance: i32) -> Option<Verdict> {
+    let n = v.len();
     for rule in 1..=5 {
         for a in 0..n {
             for b in 0..n {
-                if !passes(rule, a, b, &v[a], &v[b], allowance as i32) {
-                    return Ok(Verdict::Broken { rule, a: a as u16, b: b as u16 });
+                if !passes(rule, a, b, &v[a], &v[b], allowance) {
+                    return Some(Verdict::Broken { rule, a: a as u16, b: b as u16 });
                 }
             }
+        }
+    }
+    None
+}
+
+/// Rows from one to before another, which must be free at x, are taken to before v.
+fn fill(rows: &mut [i32; 256], from: i32, to: i32, x: i32, v: i32) -> bool {
+    for r in from..to {
+        if rows[r as usize] > x {
+            return false;
+        }
+        rows[r as usize] = v;
+    }
+    true
+}
+
+/// All five rules at once: each cell with its parent and with the sibling right before it, and a sweep of the cells in preorder over the rows.
+pub fn decided(v: &[View], allowance: i32) -> bool {
+    let n = v.len();
+    let (mut order, mut high, mut low) = ([0u16; CELLS], [0i32; CELLS], [0i32; CELLS]);
+    for (c, w) in v.iter().enumerate() {
+        if w.y != w.due || (c == 0 && w.x != 0) {
+            return false;
+        }
+        order[w.first as usize] = c as u16;
+        (high[c], low[c]) = (w.right, w.x);
+    }
+    for c in (1..n).rev() {
+        let f = v[c].parent as usize;
+        high[f] = high[f].max(high[c]);
+        low[f] = low[f].min(low[c]);
+    }
+    let mut rows = [i32::MIN; 256];
+    for c in order[..n].iter().map(|c| *c as usize) {
+        let w = &v[c];
+        let u = order[w.from as usize] as usize;
+        if u != c && (high[u] >= w.x || v[u].x >= low[c] || high[u] + 1 > low[c] + allowance) {
+            return false;
+        }
+        if !fill(&mut rows, w.y, w.base + 1, w.x, w.right + 1) {
+            return false;
+        }
+        if c > 0 {
+            let f = &v[w.parent as usize];
+            if w.nth == f.middle && (w.x != f.x || !fill(&mut rows, w.bottom + 1, f.bottom + 1, w.x, w.x + 1)) {
+                return false;
+            }
+        }
+    }
+    true
+}
+
+pub fn check(table: &[Record], positions: &[i32], allowance: u32) -> Result<Verdict, Refusal> {
+    ask_all(table, positions, allowance)?;
+    let v = look(table, positions);
+    let v = &v[..table.len()];
+    if !decided(v, allowance as i32) {
+        if let Some(broken) = search(v, allowance as i32) {
+            return Ok(broken);
         }
     }
     let least = v.iter().map(|c| c.x).min().unwrap();

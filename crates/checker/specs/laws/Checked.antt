@@ -26,11 +26,11 @@ use Rattle.rules.specs.Verdict.{verdict, answer}
 use Rattle.rules.specs.laws.Verdict.{kept-keeps, fine-answer}
 use Rattle.rules.specs.laws.Extents.{width-le, width-ge, rows-plan}
 use Rattle.checker.specs.declared.Checked.the-variants.{Kept, Broken}
-use Rattle.checker.specs.Passes.{Sights}
+use Rattle.looking.specs.Passes.{Sights}
 use Rattle.checker.specs.Checked.{answered}
-use Rattle.checker.specs.Sees.{Lifts, Looked}
+use Rattle.looking.specs.Sees.{Lifts, Looked}
 use Rattle.checker.specs.Spread.{Bounds, Spread}
-use Rattle.checker.specs.laws.Meaning.{right-lift, bottom-lift}
+use Rattle.looking.specs.laws.Meaning.{right-lift, bottom-lift}
 
 -- what holds where no question refuses
 pub record Accepted (t : Table) (al : ℕ) (ps : List ℤ) : Type 0 where

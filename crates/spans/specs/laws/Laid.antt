@@ -4,7 +4,7 @@ use mathlib.Core.Logic.{_≢_}
 use mathlib.Core.List.{List, [], _∷_}
 use Prim.Native.Nat.{ℕ, zero, suc, _+_, _≤_, _<_}
 use native.Mathlib.Omega.{arith}
-use native.Mathlib.Decide.{ℕ-discrete}
+use native.Mathlib.Decide.{ℕ-discrete, decLt}
 use lib.ListN.{length, length-set}
 use lib.Seq.{getD-set-same, getD-set-other}
 use lib.Dec.{T}
@@ -15,7 +15,7 @@ use Rattle.plan.specs.laws.Sort.{Ordered, before-once}
 use Rattle.plan.specs.Plan.{Table, Is, Sound, parent, rank, children}
 use Rattle.plan.specs.laws.Plan.{child-read, child-show, children-ordered}
 use Rattle.plan.specs.laws.Paths.{child-less}
-use Rattle.spans.specs.Spans.{at, Sized, Spans}
+use Rattle.spans.specs.Spans.{at, Sized, Numbered, Spans}
 use Rattle.spans.specs.Shared.{Cols, Long, next-size, share, spread, spread-at}
 
 -- the same numbers at x
@@ -104,6 +104,23 @@ module _ (size : ℕ → ℕ) where
   row-inside c b a [] r i s h = absurd h
   row-inside c b a (x ∷ l) r zero s h = rw h (omega (arith, r .first-is), omega (arith, r .end-is))
   row-inside c b a (x ∷ l) r (suc i) s h = let k = row-inside c a (a + size x) l (r .rest) i s h in (omega arith, omega arith)
+
+  -- the cell of a row whose span has k
+  record Holds (c : Cols) (l : List ℕ) (k : ℕ) : Type 0 where
+    i : ℕ
+    s : ℕ
+    place : At l i s
+    low : at (c .firsts) s ≤ k
+    high : k < at (c .ends) s
+
+  row-find : (c : Cols) (b a : ℕ) (l : List ℕ) → Row c b a l → (k : ℕ) → a ≤ k → k < a + total size l → Holds c l k
+  unfolding total
+  row-find c b a [] r k p q = absurd (omega arith)
+  row-find c b a (x ∷ l) r k p q = go (decLt k (a + size x)) (row-find c a (a + size x) l (r .rest) k)
+    where
+      go : Dec (k < a + size x) → (a + size x ≤ k → k < a + size x + total size l → Holds c l k) → Holds c (x ∷ l) k
+      go (yes d) f = record { i = 0; s = x; place = refl; low = omega (arith, r .first-is); high = omega (arith, r .end-is) }
+      go (no d) f = let h = f (omega arith) (omega arith) in record { i = suc (h .i); s = h .s; place = h .place; low = h .low; high = h .high }
 
   record Met (c : Cols) (u v : ℕ) : Type 0 where
     meets : at (c .ends) u ≡ at (c .firsts) v
@@ -227,15 +244,18 @@ module _ (t : Table) (sound : Sound t) (few : length t ≤ most-cells) {size : �
         }
 
   -- ---- in the end
-  pub spans : (c : Cols) → Laid t size (length t) c → Spans t (at (c .firsts)) (at (c .ends)) (at (c .froms)) (at (c .tos))
-  spans c h = record {
+  pub spans : (c : Cols) → Is t 0 → Laid t size (length t) c → Spans t (at (c .firsts)) (at (c .ends)) (at (c .froms)) (at (c .tos))
+  spans c o h = record {
     some = some;
+    few = few-end;
     under = λ f i s a. under f i s a;
     beside = λ f i u v a b. met f i u v a b .meets;
     elder = λ f i u v a b. met f i u v a b .from-is;
     eldest = λ f v a. row-first size c (at (c .firsts) f + 1) (children t f) (row f 0 v a) v a;
     younger = λ f i u v a b. met f i u v a b .to-is;
     youngest = λ f i u a e. row-last size c (at (c .firsts) f + 1) (at (c .firsts) f + 1) (children t f) (row f i u a) i u a e;
+    hit = λ k l. hit (length t) 0 (omega arith) o k (omega (arith, h .root-first)) l;
+    root-first = h .root-first;
     root-from = h .root-from ∙ sym (h .root-first);
     root-to = h .root-to ∙ sym (h .root-end);
   }
@@ -251,6 +271,21 @@ module _ (t : Table) (sound : Sound t) (few : length t ≤ most-cells) {size : �
       whole (suc m) i =
           let (q, a) = child-show t (parent t (suc m)) (suc m) (record { low = omega arith; is = i; of = refl }) in
           row-whole size c _ _ (children t (parent t (suc m))) (row (parent t (suc m)) q (suc m) a) q (suc m) a
+
+      hit : (d x : ℕ) → length t ≤ x + d → Is t x → (k : ℕ) → at (c .firsts) x ≤ k → k < at (c .ends) x → Numbered t (at (c .firsts)) k
+      hit zero x f i k p q = absurd (omega arith)
+      hit (suc d) x f i k p q = go (ℕ-discrete (at (c .firsts) x) k) (hit d)
+        where
+          go : Dec (at (c .firsts) x ≡ k) → ((x : ℕ) → length t ≤ x + d → Is t x → (k : ℕ) → at (c .firsts) x ≤ k → k < at (c .ends) x → Numbered t (at (c .firsts)) k) → Numbered t (at (c .firsts)) k
+          go (yes e) r = record { cell = x; is = i; so = e }
+          go (no e) r =
+              let w = row-find size c (at (c .firsts) x + 1) (at (c .firsts) x + 1) (children t x) (h .rows x i i) k (omega arith) (omega (arith, whole x i, z .parts x i)) in
+              let (l, j) = child-less t sound x (w .i) (w .s) (w .place) in
+              r (w .s) (omega arith) j k (w .low) (w .high)
+
+      few-end : (x : ℕ) → Is t x → at (c .ends) x ≤ length t
+      few-end zero i = omega (arith, whole zero i, h .room zero i tt)
+      few-end (suc m) i = omega (arith, whole (suc m) i, h .room (suc m) i (omega (arith, sound (suc m) (omega arith) i)))
 
       some : (x : ℕ) → Is t x → at (c .firsts) x < at (c .ends) x
       some x i = omega (arith, whole x i, z .parts x i)

@@ -67,6 +67,12 @@ module _ (t : Table) (sound : Sound t) {first end from to : ℕ → ℕ} (sp : S
       back : T (within t c a) → (first c ≤ first a) × (first a < end c)
       back k = let n = inside c a j k in (n .low, omega (arith, n .high, sp .some a j))
 
+  -- no two cells begin at one number
+  pub first-once : (a b : ℕ) → Is t a → Is t b → first a ≡ first b → a ≡ b
+  first-once a b i j e =
+      let w : T (within t a b) = says-within a b i j .read (both (says-le (first a) (first b)) (says-lt (first b) (end a)) .show (omega arith, omega (arith, sp .some a i))) in
+      elim (inside a b j w .strict) [ inl q ↦ sym q | inr m ↦ absurd (omega arith) ]
+
   -- ---- earlier
   pub earlier-is : (a b : ℕ) → Is t a → Is t b → leb (end a) (first b) ≡ earlier t a b
   earlier-is a b i j = same-test (that-is (says-le (end a) (first b)) (λ h. go h (kin t sound a b i j)) (earlier-apart a b i j)) (says-earlier t a b)

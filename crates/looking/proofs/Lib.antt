@@ -1,0 +1,4 @@
+pub mod Tests
+pub mod Searching
+pub mod Looking
+pub mod Scattering

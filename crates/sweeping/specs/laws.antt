@@ -1,0 +1,4 @@
+pub mod Exact
+pub mod Kept
+pub mod Needed
+pub mod Ready
