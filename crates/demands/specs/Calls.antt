@@ -3,13 +3,13 @@
 -- contract is one of those, so what is said of them is said of what the call answers and leaves in the lent buffers. Assumes nothing.
 use mathlib.Core.Path.{_≡_, refl}
 use mathlib.Core.List.{List, [], _∷_, _++_, map}
-use mathlib.Core.Logic.{_↔_}
-use Prim.Native.Nat.{ℕ, _+_, _*_, _-_, _/_, _%_, _^_, _≤_, _<_}
+use mathlib.Core.Logic.{_↔_, _⊎_}
+use Prim.Native.Nat.{ℕ, suc, _+_, _*_, _-_, _/_, _%_, _^_, _≤_, _<_}
 use lib.ListN.{length, getD, take, drop, replicate}
 use lib.IntN.{ℤ, pos, _+ℤ_, _-ℤ_}
 use lib.Signed.{_≤ℤ_, _<ℤ_}
 use Rattle.plan.specs.Limits.{most-cells, scratch-size, most-file, most-allowance, lines-size}
-use Rattle.plan.specs.Plan.{Table, Is}
+use Rattle.plan.specs.Plan.{Table, Is, parent, W, D}
 use Rattle.plan.specs.Records.{cells-of}
 use Rattle.plan.specs.Questions.{Call, Given, layout, check, ends, list, frame, none, sequence, refusal, layout-given, check-given, ends-given, list-given, frame-given, drill, drill-given}
 use Rattle.plan.specs.declared.Record.{Record}
@@ -24,7 +24,7 @@ use Rattle.least.specs.Alike.{Alike, Twins}
 use Rattle.least.specs.NoLess.{NoLess}
 use Rattle.least.specs.Frame.{Least}
 use Rattle.least.specs.Worked.{sheets}
-use Rattle.planfile.specs.Format.{trailer-of, records-of}
+use Rattle.planfile.specs.Format.{trailer-of, entry, records-of}
 use Rattle.planfile.specs.Reading.{label-refusal}
 use Rattle.layout.specs.Laid.{Lays}
 use Rattle.layout.specs.laws.Promised as promised
@@ -47,7 +47,9 @@ use Rattle.checker.specs.Checked.{checked-of}
 use Rattle.checker.specs.declared.Checked.the-variants.{Kept, Broken}
 use Rattle.checker.specs.declared.Checked.the-variants as checked
 use Rattle.ends.specs.Ended.{ended-of}
+use Rattle.ends.specs.Nearest.{Nearest}
 use Rattle.ends.specs.declared.Ended.the-variants as ended
+use Rattle.listing.specs.Printed.{refused-line}
 use Rattle.printing.specs.Printing.{Lists}
 use Rattle.printing.specs.declared.Listed.{Listed}
 use Rattle.printing.specs.declared.Listed.the-variants as listed
@@ -77,16 +79,18 @@ use Rattle.engine.specs.declared.ReadAnswer.{ReadAnswer}
 use Rattle.engine.specs.declared.ReadAnswer.the-variants.{Plan, Refused}
 use Rattle.engine.specs.Read.{read-refusal, Reads}
 use Rattle.engine.specs.Label.{label-of}
-use Rattle.demands.specs.Outcomes.{Gives, Judged, Listing}
+use Rattle.demands.specs.Outcomes.{Gives, PlacedTwin, Judged, Listing, printed-sheet, told}
 use Rattle.content.specs.Content.{content, letters-of}
 use Rattle.content.specs.Clean.{copy, copy-refusal}
 use Rattle.copying.specs.Copied.{Copies}
 use Rattle.copying.specs.declared.Copied.{Copied}
 use Rattle.copying.specs.declared.Copied.the-variants as copied
+use Rattle.demands.specs.laws.Between as between
 use Rattle.demands.specs.laws.Check as checking
 use Rattle.demands.specs.laws.Copy as copying
 use Rattle.demands.specs.laws.Layout as laying
 use Rattle.demands.specs.laws.List as listing
+use Rattle.demands.specs.laws.Prints as printing
 use Rattle.demands.specs.laws.ReadThen as then
 use Rattle.demands.specs.laws.Demand as demand
 use Rattle.demands.specs.laws.Report as reporting
@@ -121,6 +125,8 @@ use Rattle.finishing.specs.declared.Stepped.{Stepped}
 use Rattle.finishing.specs.declared.Stepped.the-variants as stepped
 use Rattle.finishing.specs.declared.Reached.{Reached as ReachAnswer}
 use Rattle.finishing.specs.declared.Reached.the-variants as reached
+use Rattle.finishing.specs.After.{After}
+use Rattle.finishing.specs.laws.After as after
 use Rattle.finishing.specs.laws.Promised as finishing
 use Rattle.demands.specs.laws.Making as making
 
@@ -132,6 +138,13 @@ first-no = first.first-no
 -- There is none exactly where there is no "no".
 pub no-no : (call : Call) (g : Given) → (refusal call g ≡ none) ↔ YesSteps call g sequence
 no-no = first.no-no
+
+-- Nothing lies between a result and a refusal: a refusal of number 0 is none, so that of every call either what it gives or what it refuses is said below, and never both.
+pub number-none : (call : Call) (g : Given) → refusal call g .number ≡ 0 → refusal call g ≡ none
+number-none = between.number-none
+
+pub none-or-refused : (call : Call) (g : Given) → (refusal call g ≡ none) ⊎ (¬ (refusal call g .number ≡ 0))
+none-or-refused = between.none-or-refused
 
 -- A refusal is answered by its number and cell, and leaves the lent buffers as they were.
 pub read-refuses : (f : List ℕ) (t t′ : List Record) (r : ReadAnswer) → Reads f t t′ r → ¬ (read-refusal f (length t) .number ≡ 0)
@@ -147,7 +160,7 @@ pub list-refuses : (f out out′ : List ℕ) (r : Listed) → Lists f out out′
     → (r ≡ listed.Refused (refusal list (list-given (length out)) .number) (refusal list (list-given (length out)) .cell)) × (out′ ≡ out)
 list-refuses = listing.unchanged
 
--- (Check and Ends are lent nothing to write; nor is Label, whose second call returns the refusal itself, by its contract.)
+-- (Check and Ends are lent nothing to write; nor is Label, whose second call returns the refusal itself, by its contract: its first then gives no byte.)
 pub check-refuses : (t : Table) (al : ℕ) (ps : List ℤ) → ¬ (refusal check (check-given t al ps) .number ≡ 0)
     → checked-of t ps al ≡ checked.Refused (refusal check (check-given t al ps) .number) (refusal check (check-given t al ps) .cell)
 check-refuses = checking.check-refused
@@ -155,6 +168,9 @@ check-refuses = checking.check-refused
 pub ends-refuses : (t : Table) (ps : List ℤ) (c : ℕ) → ¬ (refusal ends (ends-given t ps c) .number ≡ 0)
     → ended-of t ps c ≡ ended.Refused (refusal ends (ends-given t ps c) .number) (refusal ends (ends-given t ps c) .cell)
 ends-refuses = checking.ends-refused
+
+pub label-refuses : (f : List ℕ) (c : ℕ) → ¬ (label-refusal f c .number ≡ 0) → label-of f c ≡ []
+label-refuses = then.label-refuses
 
 -- ==== WHERE NO QUESTION REFUSES
 -- Read gives n and the allowance, and the file's records in the first n of the table, the rest as they were.
@@ -176,6 +192,23 @@ pub check-decides : (t : Table) (al : ℕ) (ps : List ℤ) → refusal check (ch
     → ((w h : ℕ) → (checked-of t ps al ≡ Kept w h) ↔ Judged t (placed ps) al w h) × ((r a b : ℕ) → (checked-of t ps al ≡ Broken r a b) ↔ Breaks t (placed ps) al r a b)
 check-decides t al ps z = (checking.kept-iff t al ps z, checking.broken-iff t al ps z)
 
+-- So one of the two is answered, and never a refusal: some width and rows exactly where S1 to S5 are kept, some rule and pair exactly where they are not.
+pub check-total : (t : Table) (al : ℕ) (ps : List ℤ) → refusal check (check-given t al ps) ≡ none
+    → (((w : ℕ) × (h : ℕ) × (checked-of t ps al ≡ Kept w h)) ↔ Keeps t (placed ps) al)
+    × (((r : ℕ) × (a : ℕ) × (b : ℕ) × (checked-of t ps al ≡ Broken r a b)) ↔ (¬ (Keeps t (placed ps) al)))
+    × ((k c : ℕ) → ¬ (checked-of t ps al ≡ checked.Refused k c))
+check-total t al ps z = (checking.keeps-iff t al ps z, checking.breaks-iff t al ps z, checking.no-refusal t al ps z)
+
+-- Ends gives two points: on the parent's box below, and on the cell's above, each at the nearer whole number to half the width, a tie going to the even one (document 02, E3).
+pub ends-gives : (t : Table) (ps : List ℤ) (c : ℕ) → refusal ends (ends-given t ps c) ≡ none
+    → (h : ℕ) × (h′ : ℕ) × Nearest (W t (parent t c)) h × Nearest (W t c) h′
+    × (ended-of t ps c ≡ ended.Joined (placed ps .x (parent t c) +ℤ pos h) (placed ps .y (parent t c) +ℤ pos (D t (parent t c))) (placed ps .x c +ℤ pos h′) (placed ps .y c))
+ends-gives = checking.ends-given-as
+
+-- Label gives the bytes of the file that the cell's record says.
+pub label-gives : (f : List ℕ) (c : ℕ) → label-refusal f c ≡ none → label-of f c ≡ take (entry f c .«label_length») (drop (entry f c .«label_start») f)
+label-gives = then.label-gives
+
 -- ---- one call after another
 -- What Read gives, Label refuses for no cell of it; the label is the part of the file that the cell's record says.
 pub read-then-label : (f : List ℕ) (t t′ : List Record) (n al : ℕ) → Reads f t t′ (Plan n al) → (c : ℕ) → c < n → (d : Record)
@@ -186,6 +219,18 @@ read-then-label = then.then-label
 pub read-then-layout : (f : List ℕ) (t t′ : List Record) (n al : ℕ) → Reads f t t′ (Plan n al) → (s p : ℕ) → scratch-size ≤ s → 2 * n ≤ p
     → refusal layout (layout-given (cells-of (take n t′)) al s p) ≡ none
 read-then-layout = then.then-layout
+
+-- What List prints of a file that Read accepts: the count and the allowance that Read gives, the width, the rows and the positions that Layout gives of the table read, each cell's width and depth of that table, and Label's bytes.
+pub list-prints : (f : List ℕ) (t t′ : List Record) (n al : ℕ) → Reads f t t′ (Plan n al) → (s s′ : List ℕ) (ps ps′ : List ℤ) (w h : ℕ) → Lays (cells-of (take n t′)) al s s′ ps ps′ (Sheet w h)
+    → (out out′ : List ℕ) (r : Listed) → Lists f out out′ r → refusal list (list-given (length out)) ≡ none
+    → (r ≡ listed.Text (length (printed-sheet (cells-of (take n t′)) n al w h (placed ps′) (label-of f))))
+    × (out′ ≡ printed-sheet (cells-of (take n t′)) n al w h (placed ps′) (label-of f) ++ drop (length (printed-sheet (cells-of (take n t′)) n al w h (placed ps′) (label-of f))) out)
+list-prints = printing.prints
+
+-- Of a file that Read refuses, into a table of 256 records or more: one line, with Read's number and cell.
+pub list-prints-refusal : (f : List ℕ) (t t′ : List Record) (k c : ℕ) → Reads f t t′ (Refused k c) → most-cells ≤ length t → (out out′ : List ℕ) (r : Listed) → Lists f out out′ r → refusal list (list-given (length out)) ≡ none
+    → (r ≡ listed.Text (length (refused-line k c))) × (out′ ≡ refused-line k c ++ drop (length (refused-line k c)) out)
+list-prints-refusal = printing.prints-refusal
 
 -- ==== DEMANDS 2 AND 3, of what Layout writes
 module _ (t : Table) (al : ℕ) (s s′ : List ℕ) (ps ps′ : List ℤ) (w h : ℕ) (l : Lays t al s s′ ps ps′ (Sheet w h)) where
@@ -210,6 +255,17 @@ pub layout-alike : (t u : Table) (al : ℕ) (s s′ v v′ : List ℕ) (ps ps′
     → (a b : ℕ) → Is t a → Is u b → Alike t u (a ∷ []) (b ∷ []) → (c d : ℕ) → Twins t u (a ∷ []) (b ∷ []) c d
     → (placed ps′ .x c -ℤ placed ps′ .x a ≡ placed qs′ .x d -ℤ placed qs′ .x b) × (placed ps′ .y c -ℤ placed ps′ .y a ≡ placed qs′ .y d -ℤ placed qs′ .y b)
 layout-alike = laying.alike-written
+
+-- No cell is left out: every cell of the one subtree has exactly one twin in the other, in the same place of its own subtree and as far from its top, both ways.
+pub layout-alike-whole : (t u : Table) (al : ℕ) (s s′ v v′ : List ℕ) (ps ps′ qs qs′ : List ℤ) (w h y k : ℕ) → Lays t al s s′ ps ps′ (Sheet w h) → Lays u al v v′ qs qs′ (Sheet y k)
+    → (a b : ℕ) → Is t a → Is u b → Alike t u (a ∷ []) (b ∷ [])
+    → ((c : ℕ) → Is t c → T (within t a c) → PlacedTwin t u (placed ps′) (placed qs′) a b c) × ((d : ℕ) → Is u d → T (within u b d) → PlacedTwin u t (placed qs′) (placed ps′) b a d)
+layout-alike-whole = laying.alike-whole-written
+
+-- Two Layouts of one table: at the larger allowance the sheet is no wider and has the same rows, no subtree reaches further left or right in what was written, and no neighbouring siblings stand further apart (document 02, E2).
+pub layout-wider : (t : Table) (al al′ : ℕ) → al ≤ al′ → (s s′ v v′ : List ℕ) (ps ps′ qs qs′ : List ℤ) (w h w′ h′ : ℕ)
+    → Lays t al s s′ ps ps′ (Sheet w h) → Lays t al′ v v′ qs qs′ (Sheet w′ h′) → (w′ ≤ w) × (h′ ≡ h) × NoLess t (placed qs′) (placed ps′)
+layout-wider = laying.wider-written
 
 -- ==== THE WORKED SHEETS ◆A to ◆J, five more, and nine with choices, lent to Check with its questions: it answers what documents 01 and 02 have.
 pub worked : map called sheets ≡ map due sheets
@@ -339,6 +395,13 @@ join-first-no = grafts.join-first-no
 pub join-no-no : (room : ℕ) (t u : Table) (c : ℕ) → (join-refusal room t u c ≡ none) ↔ YesAll room t u c join-sequence
 join-no-no = grafts.join-no-no
 
+-- As of the other calls, nothing lies between.
+pub join-number-none : (room : ℕ) (t u : Table) (c : ℕ) → join-refusal room t u c .number ≡ 0 → join-refusal room t u c ≡ none
+join-number-none = between.join-number-none
+
+pub join-none-or-refused : (room : ℕ) (t u : Table) (c : ℕ) → (join-refusal room t u c ≡ none) ⊎ (¬ (join-refusal room t u c .number ≡ 0))
+join-none-or-refused = between.join-none-or-refused
+
 module _ (t u : List Record) (c : ℕ) (o o′ : List Record) (r : JoinAnswer) (g : Joins t u c o o′ r) where
   -- A refusal is answered by its number and cell, and leaves the table as it was.
   pub join-refuses : ¬ (join-refusal (length o) (cells-of t) (cells-of u) c .number ≡ 0)
@@ -452,6 +515,39 @@ module _ (t : Table) (al : ℕ) (c : Run t al) where
   pub steps-done : c .answers (length t) ≡ stepped.Done
   steps-done = finishing.done-then t al c
 
+-- The same of any calls after a start, whatever positions each step is lent and whichever refused or idle steps come between: after k steps that answered a cell,
+module _ (t : Table) (al k : ℕ) (xs ms : List ℕ) (a : After t al k xs ms) where
+  -- the scratches hold what these k steps made, of at most as many as there are cells,
+  pub after-holds : Holds t al k xs ms
+  after-holds = after.after-holds t al a
+
+  -- the cells that they answered are the first k of the order of finishing, all of it after n steps: each cell once (`finished-once`),
+  pub after-told : told a ≡ take k (postorder t)
+  after-told = making.after-told t al a
+
+  -- a step that answers a cell answers number k of that order,
+  pub after-cell : (xs′ ms′ : List ℕ) (ps ps′ : List ℤ) (x : ℕ) → Steps t al xs xs′ ms ms′ ps ps′ (stepped.Cell x) → (k < length t) × (x ≡ getD (postorder t) k 0)
+  after-cell xs′ ms′ ps ps′ x = making.after-cell t al k xs xs′ ms ms′ ps ps′ x a
+
+  -- and of the next step, where no question refuses it:
+  module _ (xs′ ms′ : List ℕ) (ps ps′ : List ℤ) (r : Stepped) (g : Steps t al xs xs′ ms ms′ ps ps′ r) (z : step-no t al (length xs) (length ms) (length ps) .number ≡ 0) where
+    -- it answers cell number k of the order of finishing, and is one more; after the last it says "done";
+    pub after-answers : k < length t → r ≡ stepped.Cell (getD (postorder t) k 0)
+    after-answers = after.next-answers t al k xs xs′ ms ms′ ps ps′ r a g z
+
+    pub after-goes-on : k < length t → After t al (suc k) xs′ ms′
+    after-goes-on = after.next-goes-on t al k xs xs′ ms ms′ ps ps′ r a g z
+
+    pub after-done : k ≡ length t → r ≡ stepped.Done
+    after-done = after.next-done t al k xs xs′ ms ms′ ps ps′ r a g z
+
+    -- the last that finishes a cell writes the positions of the complete sheet, as Layout does, into those it is lent; no other writes any.
+    pub after-writes : suc k ≡ length t → ps′ ≡ written ps (sheet t al) (length t)
+    after-writes = after.next-writes t al k xs xs′ ms ms′ ps ps′ r a g z
+
+    pub after-waits : ¬ (suc k ≡ length t) → ps′ ≡ ps
+    after-waits = after.next-waits t al k xs xs′ ms ms′ ps ps′ r a g z
+
 -- The order of finishing, of a table that keeps the questions: each cell once, children before their parent, and each sibling's whole subtree before the next's.
 module _ (t : Table) (fit : Fit t) where
   pub finished-once : (i j : ℕ) → i < length t → j < length t → getD (postorder t) i 0 ≡ getD (postorder t) j 0 → i ≡ j
@@ -462,6 +558,16 @@ module _ (t : Table) (fit : Fit t) where
 
   pub siblings-first : (i j : ℕ) → i < length t → j < length t → Earlier t (getD (postorder t) i 0) (getD (postorder t) j 0) → i < j
   siblings-first = finishing.siblings-first t fit
+
+-- A reading that another question than 20 refuses is answered by that number and cell, whatever the scratches hold.
+pub reach-refuses : (t : Table) (al : ℕ) (xs ms : List ℕ) (c : ℕ) (r : ReachAnswer) → Reaches t al xs ms c r → ¬ (reach-no t al (length xs) (length ms) (cells t) c .number ≡ 0)
+    → r ≡ reached.Refused (reach-no t al (length xs) (length ms) (cells t) c .number) (reach-no t al (length xs) (length ms) (cells t) c .cell)
+reach-refuses t al xs ms c r g = g .refuses
+
+-- A reading that no question but 20 refuses is refused, if at all, by 20 with the cell, whatever the scratches hold.
+pub reach-only-20 : (t : Table) (al : ℕ) (xs ms : List ℕ) (c : ℕ) (r : ReachAnswer) → Reaches t al xs ms c r → reach-no t al (length xs) (length ms) (cells t) c .number ≡ 0
+    → (n a : ℕ) → r ≡ reached.Refused n a → (n ≡ 20) × (a ≡ c)
+reach-only-20 t al xs ms c r g = g .says
 
 -- A reading of the cell c, where no question but 20 refuses, after k steps: the reach of the complete sheet if the cell is among the first k of the order, and else 20 with the cell.
 module _ (t : Table) (al : ℕ) (xs ms : List ℕ) (c : ℕ) (r : ReachAnswer) (g : Reaches t al xs ms c r) (z : reach-no t al (length xs) (length ms) (cells t) c .number ≡ 0) (k : ℕ) (h : Holds t al k xs ms) where
@@ -496,9 +602,13 @@ module _ (f : List ℕ) (t t′ : List Record) (s s′ : List ℕ) (ps ps′ : L
     pub report-passes : T (sound (report (figure-of f ∷ [])))
     report-passes = reporting.passes-22 f t t′ s s′ ps ps′ r g z
 
--- With long enough buffers a file gets Read's refusal.
-pub report-as-read : (f : List ℕ) (room s p : ℕ) → most-cells ≤ room → scratch-size ≤ s → 2 * trailer-of f .count ≤ p → report-refusal f room s p ≡ read-refusal f room
-report-as-read = reporting.as-read
+-- With long enough buffers a file gets Read's refusal: 512 positions always suffice,
+pub report-as-read : (f : List ℕ) (room s p : ℕ) → most-cells ≤ room → scratch-size ≤ s → 2 * most-cells ≤ p → report-refusal f room s p ≡ read-refusal f room
+report-as-read = reporting.as-read-always
+
+-- and so do twice as many as the file's own count, where that is fewer.
+pub report-as-read-fewer : (f : List ℕ) (room s p : ℕ) → most-cells ≤ room → scratch-size ≤ s → 2 * trailer-of f .count ≤ p → report-refusal f room s p ≡ read-refusal f room
+report-as-read-fewer = reporting.as-read
 
 -- A plan that Report does not refuse is within the limits per plan, so that 22 refuses neither its report nor, up to 1,024 plans, a pool of such (`pool-joins`, `report-sound`, in season's Promised).
 pub report-real : (f : List ℕ) (room s p : ℕ) → report-refusal f room s p ≡ none → Plans (figure-of f ∷ [])

@@ -7,3 +7,5 @@ pub mod Report
 pub mod WorkedCalls
 pub mod Copy
 pub mod Making
+pub mod Between
+pub mod Prints

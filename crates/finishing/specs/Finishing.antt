@@ -95,3 +95,5 @@ pub record Reaches (t : Table) (al : ℕ) (xs ms : List ℕ) (c : ℕ) (r : Reac
       → r ≡ reached.Refused (reach-no t al (length xs) (length ms) (cells t) c .number) (reach-no t al (length xs) (length ms) (cells t) c .cell)
   -- a sheet that is being made: the first k cells of the order are finished
   pub reads : (k : ℕ) → Holds t al k xs ms → r ≡ reached-of t al c (reach-no t al (length xs) (length ms) (take k (postorder t)) c)
+  -- no question but 20 refuses, and anything: a refusal is 20 with the cell
+  pub says : reach-no t al (length xs) (length ms) (cells t) c .number ≡ 0 → (n a : ℕ) → r ≡ reached.Refused n a → (n ≡ 20) × (a ≡ c)

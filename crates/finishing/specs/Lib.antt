@@ -4,4 +4,5 @@ pub mod Finishing
 pub mod Order
 pub mod Guard
 pub mod Run
+pub mod After
 pub mod laws

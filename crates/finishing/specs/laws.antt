@@ -9,3 +9,4 @@ pub mod Guard
 pub mod Taking
 pub mod Stepping
 pub mod Promised
+pub mod After

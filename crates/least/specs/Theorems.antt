@@ -9,17 +9,18 @@ use lib.ListN.{length}
 use lib.Dec.{T}
 use lib.IntN.{ℤ, _-ℤ_}
 use lib.Signed.{_≤ℤ_}
-use Rattle.plan.specs.Plan.{Table, Is, Sound, next}
+use Rattle.plan.specs.Plan.{Table, Is, Sound, within, next}
 use Rattle.plan.specs.Questions.{layout, check, none, refusal, layout-given, check-given}
 use Rattle.rules.specs.Placement.{Placement, placed, Agree, width, rows, left-extent, right-extent}
 use Rattle.rules.specs.Rules.{Keeps}
 use Rattle.rules.specs.Search.{Verdict}
 use Rattle.rules.specs.Verdict.{verdict, Exact, answer, fine}
 use Rattle.contours.specs.Sheet.{sheet}
-use Rattle.least.specs.Alike.{Alike, Twins}
+use Rattle.least.specs.Alike.{Alike, Twins, Twin}
 use Rattle.least.specs.Worked.{sheets, computed}
 use Rattle.least.specs.NoLess.{NoLess}
 use Rattle.least.specs.laws.Theorems as laws
+use Rattle.least.specs.laws.Twins as twins
 
 module _ (t : Table) (some-cell : 1 ≤ length t) (sound : Sound t) (al : ℕ) where
   -- 1. Our sheet keeps S1 to S5.
@@ -71,3 +72,11 @@ wider-allowance = laws.wider-allowance
 pub alike-extents : (t u : Table) → Sound t → Sound u → (al a b : ℕ) → Is t a → Is u b → Alike t u (a ∷ []) (b ∷ [])
     → (left-extent t (sheet t al) a ≡ left-extent u (sheet u al) b) × (right-extent t (sheet t al) a ≡ right-extent u (sheet u al) b)
 alike-extents = laws.alike-extents
+
+-- 11. Of two such subtrees every cell of the one has exactly one twin in the other, both ways; a twin's twin is the cell itself.
+pub alike-whole : (t u : Table) → Sound t → Sound u → (a b : ℕ) → Is t a → Is u b → Alike t u (a ∷ []) (b ∷ [])
+    → ((c : ℕ) → Is t c → T (within t a c) → Twin t u a b c) × ((d : ℕ) → Is u d → T (within u b d) → Twin u t b a d)
+alike-whole = twins.whole
+
+pub twins-back : (t u : Table) (a b c d : ℕ) → Twins t u (a ∷ []) (b ∷ []) c d → Twins u t (b ∷ []) (a ∷ []) d c
+twins-back t u a b c d = twins.twins-turned

@@ -17,5 +17,6 @@ pub mod Reached
 pub mod Refusals
 pub mod Rim
 pub mod Theorems
+pub mod Twins
 pub mod Wider
 pub mod Worked

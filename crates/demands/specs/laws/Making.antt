@@ -3,7 +3,11 @@ use mathlib.Core.Path.{_≡_, refl, ap, sym, _∙_}
 use mathlib.Core.List.{List}
 use mathlib.Core.Bool.{Bool, true, false}
 use Prim.Native.Nat.{ℕ, _<_}
-use lib.ListN.{length, take}
+use native.Mathlib.Omega.{arith}
+use native.Mathlib.Decide.{decLt, ℕ-discrete}
+use lib.ListN.{length, getD, take}
+use lib.Seq.{take-suc}
+use lib.IntN.{ℤ}
 use lib.Dec.{T, ltb}
 use borrow.Author.Tests.{eq-eqb, ne-eqb}
 use Rattle.whole.specs.Whole.{plus}
@@ -19,15 +23,18 @@ use Rattle.contours.specs.Sheet.{sheet}
 use Rattle.joining.specs.Joining.{memory-of}
 use Rattle.finishing.specs.Postorder.{postorder}
 use Rattle.finishing.specs.Made.{cleared, lent-as}
-use Rattle.finishing.specs.Finishing.{start-no, reach-no, started-of, started-scratches, Starts, Holds, reached-of, Reaches}
+use Rattle.finishing.specs.Finishing.{start-no, step-no, reach-no, started-of, started-scratches, Starts, Holds, Steps, reached-of, Reaches}
 use Rattle.finishing.specs.Run.{Run}
 use Rattle.finishing.specs.laws.Stepping.{step-asks}
-use Rattle.finishing.specs.laws.Promised.{finished-by, answers-are}
+use Rattle.finishing.specs.After.{After}
+use Rattle.finishing.specs.laws.After.{after-holds, next-answers, next-done}
+use Rattle.finishing.specs.laws.Promised.{size, finished-by, answers-are}
 use Rattle.finishing.specs.declared.Started.{Started}
 use Rattle.finishing.specs.declared.Started.the-variants as started
-use Rattle.finishing.specs.declared.Stepped.the-variants.{Cell}
+use Rattle.finishing.specs.declared.Stepped.the-variants.{Cell, Done, Refused}
 use Rattle.finishing.specs.declared.Reached.{Reached}
 use Rattle.finishing.specs.declared.Reached.the-variants as reached
+use Rattle.demands.specs.Outcomes.{told}
 
 -- ---- a start
 module _ (t : Table) (al : ℕ) (xs xs′ ms ms′ : List ℕ) (r : Started) (g : Starts t al xs xs′ ms ms′ r) where
@@ -87,3 +94,38 @@ stepped-once t al c x h =
     let fit : Fit t = step-asks t al (c .scratch 0) (c .second 0) (c .positions 0) refl (c .accepted 0) .0 in
     let (i, l, e) = finished-by t fit x h in
     (i, l, answers-are t al c i l ∙ ap Cell e)
+
+-- ---- a step that answered a cell
+cell-not : (x n c : ℕ) → Cell x ≡ Refused n c → ⊥
+cell-not x n c e = let w : _≡_ {A = ℕ} 0 1 = cc in omega arith
+
+cell-not-done : (x : ℕ) → Cell x ≡ Done → ⊥
+cell-not-done x e = let w : _≡_ {A = ℕ} 0 1 = cc in omega arith
+
+cell-passed : (t : Table) (al : ℕ) (xs xs′ ms ms′ : List ℕ) (ps ps′ : List ℤ) (x : ℕ) → Steps t al xs xs′ ms ms′ ps ps′ (Cell x) → step-no t al (length xs) (length ms) (length ps) .number ≡ 0
+cell-passed t al xs xs′ ms ms′ ps ps′ x g = go (ℕ-discrete (step-no t al (length xs) (length ms) (length ps) .number) 0)
+  where
+    go : Dec (step-no t al (length xs) (length ms) (length ps) .number ≡ 0) → step-no t al (length xs) (length ms) (length ps) .number ≡ 0
+    go (yes z) = z
+    go (no z) = absurd (cell-not x _ _ (g .refuses z .0))
+
+cells-same : (x y : ℕ) → Cell x ≡ Cell y → x ≡ y
+cells-same x y e = cc
+
+pub after-cell : (t : Table) (al k : ℕ) (xs xs′ ms ms′ : List ℕ) (ps ps′ : List ℤ) (x : ℕ) → After t al k xs ms → Steps t al xs xs′ ms ms′ ps ps′ (Cell x) → (k < length t) × (x ≡ getD (postorder t) k 0)
+after-cell t al k xs xs′ ms ms′ ps ps′ x a g = go (cell-passed t al xs xs′ ms ms′ ps ps′ x g) (decLt k (length t))
+  where
+    go : step-no t al (length xs) (length ms) (length ps) .number ≡ 0 → Dec (k < length t) → (k < length t) × (x ≡ getD (postorder t) k 0)
+    go z (yes l) = (l, cells-same x _ (next-answers t al k xs xs′ ms ms′ ps ps′ (Cell x) a g z l))
+    go z (no l) = absurd (cell-not-done x (next-done t al k xs xs′ ms ms′ ps ps′ (Cell x) a g z (omega (arith, after-holds t al a .few))))
+
+-- all that was answered so far
+pub after-told : (t : Table) (al : ℕ) {k : ℕ} {xs ms : List ℕ} (a : After t al k xs ms) → told a ≡ take k (postorder t)
+unfolding told
+after-told t al (After.began s) = refl
+after-told t al (After.stepped {k = k} {c = c} {xs = xs} {xs′ = xs′} {ms = ms} {ms′ = ms′} {ps = ps} {ps′ = ps′} a g) =
+    let (l, e) = after-cell t al k xs xs′ ms ms′ ps ps′ c a g in
+    let fit : Fit t = step-asks t al xs ms ps refl (cell-passed t al xs xs′ ms ms′ ps ps′ c g) .0 in
+    rw (after-told t al a, e) (sym (take-suc (postorder t) k 0 (omega (arith, size t fit))))
+after-told t al (After.refused a g) = after-told t al a
+after-told t al (After.done a g) = after-told t al a

@@ -4,18 +4,21 @@ use mathlib.Core.List.{List, [], _∷_}
 use mathlib.Core.Bool.{_&&_}
 use Prim.Native.Nat.{ℕ, _*_, _≤_}
 use native.Mathlib.Omega.{arith}
+use native.Mathlib.Decide.{ℕ-discrete}
 use borrow.Author.Tests.{ne-eqb, le-leb}
 use lib.Dec.{T, leb}
 use lib.IntN.{ℤ}
 use lib.ListN.{length}
 use Rattle.plan.specs.Limits.{most-cells, scratch-size}
 use Rattle.plan.specs.Questions.{none, asked, or-else, layout, refusal, layout-given}
+use Rattle.plan.specs.laws.Questions.{first-some}
 use Rattle.plan.specs.laws.Kept.{asked-true, none-first, or-assoc}
 use Rattle.plan.specs.declared.Record.{Record}
 use Rattle.plan.specs.declared.Refusal.{Refusal}
 use Rattle.planfile.specs.Format.{trailer-of}
 use Rattle.planfile.specs.FileSteps.{formed-refusal, header-refusal, body-refusal, file-refusal}
 use Rattle.planfile.specs.laws.File as Law
+use Rattle.planfile.specs.laws.Examined.{formed-read}
 use Rattle.planfile.specs.laws.ReadThen.{read-then-layout}
 use Rattle.layout.specs.Laid.{laid-of, positions-after, scratch-after, Lays}
 use Rattle.layout.specs.declared.Laid.the-variants.{Sheet}
@@ -39,6 +42,20 @@ as-read f room s p h k l =
     let ours : report-refusal f room s p ≡ file-refusal f = refusal-is f room s p ∙ rw (a, b) (none-first _ ∙ ap (or-else (formed-refusal f)) (none-first _) ∙ sym (or-assoc (formed-refusal f) _ (body-refusal f))) in
     let theirs : read-refusal f room ≡ file-refusal f = Law.read-refusal f room ∙ rw c (none-first (file-refusal f)) in
     ours ∙ sym theirs
+
+-- and 512 positions are always enough: a file whose count is larger gets its refusal before they are asked for
+pub as-read-always : (f : List ℕ) (room s p : ℕ) → most-cells ≤ room → scratch-size ≤ s → 2 * most-cells ≤ p → report-refusal f room s p ≡ read-refusal f room
+unfolding file-refusal header-refusal
+as-read-always f room s p h k l = go (ℕ-discrete (formed-refusal f .number) 0)
+  where
+    go : Dec (formed-refusal f .number ≡ 0) → report-refusal f room s p ≡ read-refusal f room
+    go (yes z) = as-read f room s p h k (omega (arith, formed-read f z .full .few))
+    go (no z) =
+        let a : asked 1 (leb most-cells room && leb scratch-size s) 0 ≡ none = rw (le-leb most-cells room h, le-leb scratch-size s k) (asked-true 0 0) in
+        let c : asked 1 (leb most-cells room) 0 ≡ none = rw (le-leb most-cells room h) (asked-true 0 0) in
+        let ours : report-refusal f room s p ≡ formed-refusal f = refusal-is f room s p ∙ rw a (none-first _ ∙ first-some (formed-refusal f) _ z) in
+        let theirs : read-refusal f room ≡ formed-refusal f = Law.read-refusal f room ∙ rw c (none-first (file-refusal f) ∙ or-assoc (formed-refusal f) _ (body-refusal f) ∙ first-some (formed-refusal f) _ z) in
+        ours ∙ sym theirs
 
 -- a plan that Report does not refuse is within the limits per plan
 pub real : (f : List ℕ) (room s p : ℕ) → report-refusal f room s p ≡ none → Plans (figure-of f ∷ [])

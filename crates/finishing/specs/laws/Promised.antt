@@ -97,7 +97,7 @@ module _ (t : Table) (fit : Fit t) where
 drop-front : (n : ℕ) (us vs : List ℕ) → length us ≡ n → drop n (us ++ vs) ≡ vs
 drop-front n us vs e = subst (λ (i : ℕ). drop i (us ++ vs) ≡ vs) e (drop-append-seam us vs)
 
-holds-made : (t : Table) (al k : ℕ) (xs xs′ ms ms′ : List ℕ) → k ≤ length t → memory-of xs′ ms′ ≡ lent-as (made t al k) xs ms → Holds t al k xs′ ms′
+pub holds-made : (t : Table) (al k : ℕ) (xs xs′ ms ms′ : List ℕ) → k ≤ length t → memory-of xs′ ms′ ≡ lent-as (made t al k) xs ms → Holds t al k xs′ ms′
 holds-made t al k xs xs′ ms ms′ l e =
     let ex : drop scratch-size xs′ ≡ drop scratch-size xs = ap (λ (m : Memory). drop scratch-size (m .rows)) e ∙ drop-front scratch-size (made t al k .rows) (drop scratch-size xs) (made-long t al k .rows) in
     let em : drop second-size ms′ ≡ drop second-size ms = ap (λ (m : Memory). drop second-size (m .marks)) e ∙ drop-front second-size (made t al k .marks) (drop second-size ms) (made-long t al k .marks) in

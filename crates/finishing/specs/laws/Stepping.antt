@@ -221,6 +221,7 @@ module _ (t : Table) (al : ℕ) (xs ms : List ℕ) (c : ℕ) {r : Refusal} (e : 
   refused-all s z h = record {
     refuses = λ _. ap (λ (x : Refusal). reached.Refused (x .number) (x .cell)) (sym (h (cells t)));
     reads = λ k g. rw (h (take k (postorder t)), ne-eqb (s .number) 0 z);
+    says = λ y. absurd (z (ap (λ (x : Refusal). x .number) (sym (h (cells t))) ∙ y));
   }
 
   pub reach-refused : ¬ (r .number ≡ 0) → Reaches t al xs ms c (reached.Refused (r .number) (r .cell))
@@ -270,9 +271,15 @@ module _ (t : Table) (al : ℕ) (xs ms : List ℕ) (c : ℕ) {r : Refusal} (e : 
       unfolding read
       read-is k h = rw (count-held k h, only-20 (take k (postorder t))) (sides k h (mem c (take k (postorder t))) refl)
 
+      -- whatever was read: a refusal is 20 with the cell
+      read-says : (b : Bool) (m k : ℕ) (n a : ℕ) → cond b (reached.Sides m k) (reached.Refused 20 c) ≡ reached.Refused n a → (n ≡ 20) × (a ≡ c)
+      read-says true m k n a q = let w : _≡_ {A = ℕ} 0 1 = cc in absurd (omega arith)
+      read-says false m k n a q = (cc, cc)
+
       pub reach-read : {a : Reached} → a ≡ read t xs ms c → Reaches t al xs ms c a
       reach-read q =
           record {
             refuses = λ y. absurd (y (ap (λ (x : Refusal). x .number) (only-20 (cells t)) ∙ never (mem c (cells t)) (cells-mem t c l)));
             reads = λ k h. q ∙ read-is k h;
+            says = λ y n a w. unfold read in read-says (mem c (take (getD xs count-at 0) (postorder t))) (mark ms c 1) (mark ms c 2) n a (sym q ∙ w);
           }

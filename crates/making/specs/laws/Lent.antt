@@ -69,6 +69,7 @@ reaches-crowded al xs ms c d u v p q g =
     record {
       refuses = λ _. said ∙ ap (λ (r : Refusal). reached.Refused (r .number) (r .cell)) (sym (reach-crowded al (length xs) (length ms) (cells v) c v q));
       reads = λ k h. said ∙ rw (reach-crowded al (length xs) (length ms) (take k (postorder v)) c v q, ne-eqb (r .number) 0 (crowded-refuses _));
+      says = λ z. absurd (crowded-refuses _ (ap (λ (r : Refusal). r .number) (sym (reach-crowded al (length xs) (length ms) (cells v) c v q)) ∙ z));
     }
 
 module _ (t : List Record) (r : Columns) (e : r ≡ lent-columns t) where
