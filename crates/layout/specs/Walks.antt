@@ -19,8 +19,8 @@ module _ (t : Table) (al s p : ℕ) (unrefused : refusal layout (layout-given t 
   abbrev b : Chart
   b = chart-of t al
 
-  -- at every turn the numbers up to the count are the open cells from the root down, each the parent of the next, at most 32
-  pub open-cells : (n : ℕ) (cells : List ℕ) (count : ℕ) → stack-of cells count ≡ run b n (begin b m) .stack → OpenCells t cells count
+  -- at every turn the numbers up to the count are exactly the open cells, from the root down, each the parent of the next, at most 32
+  pub open-cells : (n : ℕ) (cells : List ℕ) (count : ℕ) → stack-of cells count ≡ run b n (begin b m) .stack → OpenCells t b m n cells count
   open-cells = laws.open-cells t al s p unrefused m
 
   -- the walk ends, and then every cell was opened exactly once, in preorder, siblings in order

@@ -22,15 +22,3 @@ Falls ls (suc d) k n = 0 < n → (k < 32) × (4 * n + 4 ≤ length ls) × (n < m
 -- the state in which the latest of them is closed
 abbrev pub down : List ℕ → List ℕ → ℕ → Memory → State
 down ls cs n m = record { stack = fallen ls 32 n cs; next = 0; memory = m }
-
--- ---- a cell with no children stays out of the chain
-unfoldable pub first-of : List ℕ → ℕ → ℕ
-first-of ls zero = 0
-first-of ls (suc n) = link ls (suc n) 0
-
-abbrev pub with-leaf : ℕ → List ℕ → List ℕ
-with-leaf zero cs = cs
-with-leaf (suc n) cs = suc n ∷ cs
-
-pub record Linked (ls : List ℕ) (n : ℕ) : Type 0 where
-  pub room : 0 < n → 4 * n + 4 ≤ length ls

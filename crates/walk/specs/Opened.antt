@@ -5,7 +5,7 @@ use Prim.Native.Nat.{ℕ, zero, suc, _≤_, _<_}
 use lib.ListN.{getD}
 use Rattle.plan.specs.Lists.{At}
 use Rattle.plan.specs.Plan.{Table, Is, children, Child}
-use Rattle.joining.specs.Joining.{Memory}
+use Rattle.joining.specs.Joining.{Memory, memory-of}
 use Rattle.links.specs.Links.{link}
 use Rattle.walk.specs.Machine.{Chart, State, step}
 use Rattle.walk.specs.Turns.{stack-of, state-of}
@@ -37,12 +37,35 @@ visits b (suc n) st = visits b n st ++ opening (run b n st .next)
 abbrev pub opened : Chart → Memory → ℕ → List ℕ
 opened b m n = 0 ∷ visits b n (begin b m)
 
--- ---- E5: "the numbers up to the count are the open cells from the root down, each the father of the next"
+-- the cell that a step closes, where it closes one: no child is next, and this is the one that it finishes (`step-at`)
+abbrev pub closing : ℕ → List ℕ → List ℕ
+closing (suc s) cs = []
+closing zero [] = []
+closing zero (c ∷ cs) = c ∷ []
+
+-- the cells closed in the first n steps, in order
+unfoldable pub closings : Chart → ℕ → State → List ℕ
+closings b zero st = []
+closings b (suc n) st = closings b n st ++ closing (run b n st .next) (run b n st .stack)
+
+abbrev pub closed-by : Chart → Memory → ℕ → List ℕ
+closed-by b m n = closings b n (begin b m)
+
+-- the cell x is open after n steps: it was opened, and it is not yet closed
+pub record StillOpen (b : Chart) (m : Memory) (n x : ℕ) : Type 0 where
+  pub place : ℕ
+  pub was-opened : At (opened b m n) place x
+  pub not-closed : (i : ℕ) → At (closed-by b m n) i x → ⊥
+
+-- ---- E5: "the numbers up to the count are the open cells from the root down, each the father of the next", after n steps from the memory m
 -- (`Child t f c`: c is a cell of the table below the root, and f is its parent)
-pub record OpenCells (t : Table) (cells : List ℕ) (count : ℕ) : Type 0 where
+pub record OpenCells (t : Table) (b : Chart) (m : Memory) (n : ℕ) (cells : List ℕ) (count : ℕ) : Type 0 where
   pub few : count ≤ 32
   pub root : 0 < count → getD cells 0 0 ≡ 0
   pub each : (i : ℕ) → suc i < count → Child t (getD cells i 0) (getD cells (suc i) 0)
+  -- each of them is open, and every open cell is one of them
+  pub only : (i : ℕ) → i < count → StillOpen b m n (getD cells i 0)
+  pub every : (x : ℕ) → StillOpen b m n x → (i : ℕ) × (i < count) × (getD cells i 0 ≡ x)
 
 -- ---- E5: "every cell is opened exactly once, brothers in order"
 -- a number has one place at most
@@ -58,12 +81,30 @@ pub record EachOnce (t : Table) (l : List ℕ) : Type 0 where
 abbrev pub InOrder : Table → List ℕ → Type 0
 InOrder t l = (f i j p q a b : ℕ) → Is t f → At (children t f) i p → At (children t f) j q → i < j → At l a p → At l b q → a < b
 
--- ---- what the loop of `walk` keeps (the invariant in proofs/walk): the chain and the child to open next are the machine's after some steps, and the
--- numbers up to the count are the open cells
+-- ---- what the chain of the code is at every turn: it and the child to open next are the machine's after some steps from the memory m, and the numbers up to
+-- the count are the open cells
 pub record Visiting (b : Chart) (m : Memory) (cells : List ℕ) (count next : ℕ) (xs ms : List ℕ) : Type 0 where
   pub turns : ℕ
   pub there : state-of cells count next xs ms ≡ run b turns (begin b m)
-  pub open-now : (t : Table) → Suits t b → OpenCells t cells count
+  pub open-now : (t : Table) → Suits t b → OpenCells t b m turns cells count
+
+-- ---- E5, in the contracts of `begin`, `descend` and `turn`
+-- `begin` hands out where the walk begins, whatever the memory and the other columns
+abbrev pub Begins : List ℕ → List ℕ → ℕ → ℕ → Type 0
+Begins ls cells count next = (b : Chart) (xs ms : List ℕ) → b .links ≡ ls → Visiting b (memory-of xs ms) cells count next xs ms
+
+-- the chain that `descend` is given is that of a walk, and so is the one that it hands back, with no child next
+abbrev pub Descends : List ℕ → List ℕ → ℕ → ℕ → List ℕ → ℕ → Type 0
+Descends ls cells count next cells′ count′ = (b : Chart) (m : Memory) (xs ms : List ℕ) → b .links ≡ ls → Visiting b m cells count next xs ms → Visiting b m cells′ count′ 0 xs ms
+
+-- `turn` is given the chain of a walk, wherever that began,
+pub record Underway (b : Chart) (cells : List ℕ) (count next : ℕ) (xs ms : List ℕ) : Type 0 where
+  pub from : Memory
+  pub visiting : Visiting b from cells count next xs ms
+
+-- and hands back the chain of the same walk
+abbrev pub Onward : Chart → (cells : List ℕ) (count next : ℕ) (xs ms cells′ : List ℕ) (count′ next′ : ℕ) (xs′ ms′ : List ℕ) → Type 0
+Onward b cells count next xs ms cells′ count′ next′ xs′ ms′ = (m : Memory) → Visiting b m cells count next xs ms → Visiting b m cells′ count′ next′ xs′ ms′
 
 -- ---- what the contract of `walk` says of its steps, from the memory m to m′, for every table that the chart suits
 pub record Visited (b : Chart) (m m′ : Memory) : Type 0 where
@@ -72,7 +113,7 @@ pub record Visited (b : Chart) (m m′ : Memory) : Type 0 where
   pub closed : run b turns (begin b m) .stack ≡ []
   pub leaves : run b turns (begin b m) .memory ≡ m′
   -- after every number of steps the numbers that show the stack are the open cells
-  pub open-cells : (t : Table) → Suits t b → (n : ℕ) (cells : List ℕ) (count : ℕ) → stack-of cells count ≡ run b n (begin b m) .stack → OpenCells t cells count
+  pub open-cells : (t : Table) → Suits t b → (n : ℕ) (cells : List ℕ) (count : ℕ) → stack-of cells count ≡ run b n (begin b m) .stack → OpenCells t b m n cells count
   -- the cells in the order in which they are opened are the tree's preorder, each cell of the table exactly once, siblings in order
   pub in-order : (t : Table) → Suits t b → opened b m turns ≡ preorder t 0
   pub once : (t : Table) → Suits t b → EachOnce t (opened b m turns)

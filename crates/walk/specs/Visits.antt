@@ -1,5 +1,5 @@
 -- CHANGE REQUEST E5, the promise: of a table that no question refuses (`Fit`), walked along its links, from any memory. What the words mean is in Opened and
--- Preorder, the machine in Machine; that the code runs this machine is the contract of `walk` (`Visited`) and its loop's invariant (`Visiting`). Assumes nothing.
+-- Preorder, the machine in Machine; that the code runs this machine is the contract of `walk` (`Visited`), and of its own chain those of `begin` and `turn` (`Visiting`). Assumes nothing.
 use mathlib.Core.Path.{_≡_}
 use mathlib.Core.List.{List, [], _∷_}
 use Prim.Native.Nat.{ℕ}
@@ -18,9 +18,9 @@ pub preorder-is : (t : Table) (fit : Fit t) (c : ℕ) → preorder t c ≡ c ∷
 preorder-is = laws.preorder-is
 
 module _ (t : Table) (fit : Fit t) (b : Chart) (links : Links t (b .links)) (m : Memory) where
-  -- after any number of steps, the numbers of an array up to a count that show the stack are the open cells from the root down, each the parent of the
-  -- next, 32 at most
-  pub open-cells : (n : ℕ) (cells : List ℕ) (count : ℕ) → stack-of cells count ≡ run b n (begin b m) .stack → OpenCells t cells count
+  -- after any number of steps, the numbers of an array up to a count that show the stack are exactly the cells opened and not yet closed, from the root
+  -- down, each the parent of the next, 32 at most
+  pub open-cells : (n : ℕ) (cells : List ℕ) (count : ℕ) → stack-of cells count ≡ run b n (begin b m) .stack → OpenCells t b m n cells count
   open-cells = laws.open-cells t fit b links m
 
   -- the walk ends: after some number of steps no cell is open

@@ -16,10 +16,10 @@ ghost use mathlib.Core.List.{[], _∷_};
 ghost use Rattle.links.specs.Links.{link};
 ghost use Rattle.joining.specs.Joining.{«memory-of», finished};
 ghost use Rattle.walk.specs.Walked.{Walking, Walked};
-ghost use Rattle.walk.specs.Opened.{Visited};
+ghost use Rattle.walk.specs.Opened.{Visited, Begins, Descends, Underway, Onward};
 ghost use Rattle.walk.specs.Machine.{Finishing, Rooting, root-closed, chart, step, Closing, closed, Turning};
 ghost use Rattle.walk.specs.Turns.{stack-of, state-of};
-ghost use Rattle.walk.specs.Falls.{Falls, fallen, down, first-of, with-leaf, Linked};
+ghost use Rattle.walk.specs.Falls.{Falls, fallen, down};
 
 pub fn number(s: &[u8], i: usize) -> usize
     requires { ⌜ i < length (now s) ⌝ }
@@ -162,43 +162,30 @@ fn shut(
     link_of(links, c, 1)
 }
 
-// The first child, 0 where there is none.
-fn first_of(links: &[u16], n: usize) -> usize
-    requires { ⌜ Linked (now links) n ⌝ }
-    ensures { λ r. ⌜ r ≡ first-of (now (links .entry)) n ⌝ }
+// The child `next` is opened, and its first child, and so on, down to a cell with no children. Each of them is put into the chain:
+// its numbers up to the new count are then exactly the open cells, with none next.
+fn descend(links: &[u16], cells: &mut [u16; 32], count: usize, next: usize) -> usize
+    requires { ⌜ length (now cells) ≡ 32 ⌝ }
+    requires { ⌜ Falls (now links) 32 count next ⌝ }
+    ensures { λ r. ⌜ stack-of (now (cells .exit)) r ≡ fallen (now (links .entry)) 32 next (stack-of (now (cells .entry)) count) ⌝ }
+    ensures { λ r. ⌜ count ≤ r ⌝ }
+    ensures { λ r. ⌜ Descends (now (links .entry)) (now (cells .entry)) count next (now (cells .exit)) r ⌝ }
 {
-    if n == 0 {
-        return 0;
-    }
-    link_of(links, n, 0)
-}
-
-// The child `next` is opened, and its first child, and so on, down to a cell with no children, which is not put into the chain.
-fn descend(links: &[u16], chain: Chain, next: usize) -> Turned
-    requires { ⌜ Falls (now links) 32 (chain .count) next ⌝ }
-    ensures { λ r. ⌜ with-leaf (r .next) (stack-of (r .open_cells .cells) (r .open_cells .count)) ≡ fallen (now (links .entry)) 32 next (stack-of (chain .cells) (chain .count)) ⌝ }
-    ensures { λ r. ⌜ chain .count ≤ r .open_cells .count ⌝ }
-{
-    let mut c = chain;
+    let mut k = count;
     let mut n = next;
-    let mut m = first_of(links, next);
-    while 0 < m {
-        let k = c.count;
-        c.cells[k] = n as u16;
-        c.count = k + 1;
-        n = m;
-        m = first_of(links, n);
+    while 0 < n {
+        cells[k] = n as u16;
+        k += 1;
+        n = link_of(links, n, 0);
     }
-    Turned {
-        open_cells: c,
-        next: n,
-    }
+    k
 }
 
-// Before the first turn: the root is open, and its first child is next.
+// Before the first turn: the root is open, and its first child is next. Of every chart with these links, and every memory, this is where its walk begins.
 pub fn begin(links: &[u16]) -> Turned
     requires { ⌜ 4 ≤ length (now links) ⌝ }
     ensures { λ r. ⌜ (stack-of (r .open_cells .cells) (r .open_cells .count) ≡ 0 ∷ []) × (r .next ≡ link (now (links .entry)) 0 0) ⌝ }
+    ensures { λ r. ⌜ Begins (now (links .entry)) (r .open_cells .cells) (r .open_cells .count) (r .next) ⌝ }
 {
     let root = Chain {
         cells: [0u16; 32],
@@ -211,6 +198,7 @@ pub fn begin(links: &[u16]) -> Turned
 }
 
 // One turn: the child `next`, if there is one, is opened and so on down; then the latest open cell is closed. The chain travels by value.
+// It is given a chain whose numbers up to the count are exactly the open cells (`Underway`), and hands such a one back (`Onward`).
 pub fn turn(
     links: &[u16],
     widths: &[u16],
@@ -225,30 +213,12 @@ pub fn turn(
     requires { ⌜ 0 < chain .count ⌝ }
     requires { ⌜ Falls (now links) 32 (chain .count) next ⌝ }
     requires { ⌜ Turning (chart (now links) (now widths) (now depths) (now tops) allowance) (down (now links) (stack-of (chain .cells) (chain .count)) next (memory-of (now rows) (now marks))) ⌝ }
+    requires { ⌜ Underway (chart (now links) (now widths) (now depths) (now tops) allowance) (chain .cells) (chain .count) next (now rows) (now marks) ⌝ }
     ensures { λ r. ⌜ state-of (r .open_cells .cells) (r .open_cells .count) (r .next) (now (rows .exit)) (now (marks .exit)) ≡ step (chart (now (links .entry)) (now (widths .entry)) (now (depths .entry)) (now (tops .entry)) allowance) (down (now (links .entry)) (stack-of (chain .cells) (chain .count)) next (memory-of (now (rows .entry)) (now (marks .entry)))) ⌝ }
+    ensures { λ r. ⌜ Onward (chart (now (links .entry)) (now (widths .entry)) (now (depths .entry)) (now (tops .entry)) allowance) (chain .cells) (chain .count) next (now (rows .entry)) (now (marks .entry)) (r .open_cells .cells) (r .open_cells .count) (r .next) (now (rows .exit)) (now (marks .exit)) ⌝ }
 {
-    let d = descend(links, chain, next);
-    let leaf = d.next;
-    let mut c = d.open_cells;
-    let level = c.count - 1;
-    if 0 < leaf {
-        close(
-            links,
-            widths,
-            depths,
-            tops,
-            allowance,
-            level,
-            open_at(&c.cells, level),
-            leaf,
-            rows,
-            marks,
-        );
-        return Turned {
-            open_cells: c,
-            next: link_of(links, leaf, 1),
-        };
-    }
+    let mut c = chain;
+    let level = descend(links, &mut c.cells, chain.count, next) - 1;
     c.count = level;
     let n = shut(
         links,
@@ -269,7 +239,7 @@ pub fn turn(
 
 // The walk of the tree below cell 0: a loop in which the chain of open cells travels from turn to turn.
 // `Visited`: at every turn its numbers up to the count are the open cells from the root down, and the cells are opened in preorder, each once
-// (specs/Visits: `open-cells`, `opened-in-order`, `opened-once`). The loop keeps `Visiting`, of the chain itself.
+// (specs/Visits: `open-cells`, `opened-in-order`, `opened-once`). Of the chain itself `begin` and `turn` say it (`Visiting`), and the loop keeps it.
 pub fn walk<'a>(
     links: &[u16],
     widths: &'a [u16],

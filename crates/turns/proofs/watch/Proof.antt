@@ -2,10 +2,12 @@ use borrow.Author.Needs.{needs}
 use Rattle.walk.specs.Falls.{Falls, fallen}
 use Rattle.walk.specs.laws.Falls.{Fell, fall}
 use Rattle.walk.specs.laws.Walked.{Keeps, keeps-start, keeps-turning, keeps-turn, keeps-less}
+use Rattle.walk.specs.Opened.{Visiting}
 use Rattle.walk.specs.Turns.{state-of}
 use Rattle.walk.specs.laws.Turns.{stack-of-length}
 use Rattle.walk.specs.Machine.{Chart, chart, State}
 use Rattle.walk.specs.laws.Machine.{most-turns, turns}
+use Rattle.joining.specs.Joining.{memory-of}
 use lib.ListN.{length}
 use mathlib.Core.Path.{_≡_, refl, _∙_}
 use Prim.Native.Nat.{_<_}
@@ -14,7 +16,7 @@ use Rattle.turns.proofs.watch.Statement.{statement}
 use Rattle.turns.proofs.watch.Tie as tie
 
 abbrev Inv-loop : tie.InvT-loop
-Inv-loop links widths depths tops allowance rows₀ marks₀ at₀ t10 rows marks at = Keeps (chart links widths depths tops allowance) rows₀ (state-of (at .open_cells .cells) (at .open_cells .count) (at .next) rows marks) × (length rows ≡ length rows₀) × (length marks ≡ length marks₀)
+Inv-loop links widths depths tops allowance rows₀ marks₀ at₀ t10 rows marks at = Keeps (chart links widths depths tops allowance) rows₀ (state-of (at .open_cells .cells) (at .open_cells .count) (at .next) rows marks) × Visiting (chart links widths depths tops allowance) (memory-of rows₀ marks₀) (at .open_cells .cells) (at .open_cells .count) (at .next) rows marks × (length rows ≡ length rows₀) × (length marks ≡ length marks₀)
 
 abbrev μ-loop : tie.MeasureT-loop
 μ-loop links widths depths tops allowance rows₀ marks₀ at₀ t10 rows marks at = turns (chart links widths depths tops allowance) most-turns (state-of (at .open_cells .cells) (at .open_cells .count) (at .next) rows marks)
@@ -43,8 +45,8 @@ begin-requires c κs = omega (arith, c .before .before .before .before .before .
 loop-holds : tie.Need-loop-holds Inv-loop μ-loop
 loop-holds c =
     let s = c .before .before .before .before .before .before .before in
-    let (e, n) = c .begin .ensures in
-    (keeps-start (board s) (s .args .rows .now) (s .args .marks .now) (s .pre) _ _ _ e n, refl, refl)
+    let (e, n) = c .begin .ensures .0 in
+    (keeps-start (board s) (s .args .rows .now) (s .args .marks .now) (s .pre) _ _ _ e n, c .begin .ensures .1 (board s) (s .args .rows .now) (s .args .marks .now) refl, refl, refl)
 
 print-turn-requires : tie.Need-print-turn-requires Inv-loop μ-loop
 print-turn-requires c κs = search needs
@@ -54,20 +56,20 @@ turn-requires c κs =
     let l = c .before .before .before .before .before .before .loop in
     let s = c .before .before .before .before .before .before .before .before .before .before .before .before .before .before in
     let (f, g) = falls (c .before .before .before .before .before .before) (c .before .before .before .before .if1 .taken) in
-    (c .before .before .before .before .if1 .taken, (rw (stack-of-length (l .at .open_cells .cells) (l .at .open_cells .count)) at g, keeps-turning (board s) (s .args .rows .now) _ (f .keeps) (f .some)))
+    (c .before .before .before .before .if1 .taken, (rw (stack-of-length (l .at .open_cells .cells) (l .at .open_cells .count)) at g, (keeps-turning (board s) (s .args .rows .now) _ (f .keeps) (f .some), record { from = _; visiting = l .inv .1 })))
 
 loop-less : tie.Need-loop-less Inv-loop μ-loop
 loop-less c =
     let s = c .before .before .before .before .before .before .before .before .before .before .before .before .before .before .before .before .before .before .before in
     let (f, g) = falls (c .before .before .before .before .before .before .before .before .before .before .before) (c .before .before .before .before .before .before .before .before .before .if1 .taken) in
-    omega (arith, f .fewer, keeps-less (board s) (s .args .rows .now) _ (f .keeps) (f .some) _ (c .before .before .before .before .turn .ensures))
+    omega (arith, f .fewer, keeps-less (board s) (s .args .rows .now) _ (f .keeps) (f .some) _ (c .before .before .before .before .turn .ensures .0))
 
 loop-again : tie.Need-loop-again Inv-loop μ-loop
 loop-again c =
     let s = c .before .before .before .before .before .before .before .before .before .before .before .before .before .before .before .before .before .before .before in
     let (f, g) = falls (c .before .before .before .before .before .before .before .before .before .before .before) (c .before .before .before .before .before .before .before .before .before .if1 .taken) in
     let t = c .before .before .before .before .turn in
-    (keeps-turn (board s) (s .args .rows .now) _ (f .keeps) (f .some) _ (t .ensures), t .kept .1 .1 .1 .1 .1 .1 .1 .0 ∙ c .before .before .before .before .before .before .before .before .before .before .before .loop .inv .1, t .kept .1 .1 .1 .1 .1 .1 .1 .1 .0 ∙ c .before .before .before .before .before .before .before .before .before .before .before .loop .inv .2)
+    (keeps-turn (board s) (s .args .rows .now) _ (f .keeps) (f .some) _ (t .ensures .0), t .ensures .1 _ (c .before .before .before .before .before .before .before .before .before .before .before .loop .inv .1), t .kept .1 .1 .1 .1 .1 .1 .1 .0 ∙ c .before .before .before .before .before .before .before .before .before .before .before .loop .inv .2, t .kept .1 .1 .1 .1 .1 .1 .1 .1 .0 ∙ c .before .before .before .before .before .before .before .before .before .before .before .loop .inv .3)
 
 slice-aggregate-word : tie.Need-slice-aggregate-word Inv-loop μ-loop
 slice-aggregate-word c = search needs
@@ -76,10 +78,10 @@ word-requires : tie.Need-word-requires Inv-loop μ-loop
 word-requires c κs = search needs
 
 same-length : tie.Need-same-length Inv-loop μ-loop
-same-length c = c .before .before .before .before .loop .inv .1
+same-length c = c .before .before .before .before .loop .inv .2
 
 same-length-2 : tie.Need-same-length-2 Inv-loop μ-loop
-same-length-2 c = c .before .before .before .before .loop .inv .2
+same-length-2 c = c .before .before .before .before .loop .inv .3
 
 returns : tie.Need-returns Inv-loop μ-loop
 returns c = search needs

@@ -1,53 +1,50 @@
-use Rattle.walk.specs.Falls.{fallen, first-of}
-use Rattle.walk.specs.laws.Falls.{Falling, falling-room, falling-on, falling-linked, falling-leaf, first-child}
+use Rattle.walk.specs.Falls.{fallen}
+use Rattle.walk.specs.laws.Falls.{Falling, falling-room, falling-on, falling-done, visiting-down}
 use Rattle.walk.specs.Turns.{stack-of}
 use lib.ListN.{length, length-set}
 use native.Mathlib.Omega.{arith}
 use Prim.Native.Nat.{_-_, _≤_}
 use mathlib.Core.Path.{_≡_, refl}
-use borrow.Author.Needs.{needs}
 use Rattle.walk.proofs.descend.Statement.{statement}
 use Rattle.walk.proofs.descend.Tie as tie
 
 abbrev Inv-loop : tie.InvT-loop
-Inv-loop links next c₀ n₀ m₀ c n m = Falling links (c .count) n (stack-of (c .cells) (c .count)) (fallen links 32 next (stack-of (c₀ .cells) (c₀ .count))) × (length (c .cells) ≡ 32) × (m ≡ first-of links n) × (c₀ .count ≤ c .count)
+Inv-loop links cells₀ count next k₀ n₀ cells k n = Falling links k n (stack-of cells k) (fallen links 32 next (stack-of cells₀ count)) × (length cells ≡ 32) × (count ≤ k)
 
 abbrev μ-loop : tie.MeasureT-loop
-μ-loop links next c₀ n₀ m₀ c n m = 32 - c .count
-
-first-of-requires : tie.Need-first-of-requires Inv-loop μ-loop
-first-of-requires c κs = record { room = λ l. c .before .pre l .1 }
+μ-loop links cells₀ count next k₀ n₀ cells k n = 32 - k
 
 loop-holds : tie.Need-loop-holds Inv-loop μ-loop
-loop-holds c = (record { left = 32; falls = c .before .before .pre; same = refl }, search needs, c .first-of .ensures, omega arith)
+loop-holds c = (record { left = 32; falls = c .before .pre .1; same = refl }, c .before .pre .0, omega arith)
 
-cast-c : tie.Need-cast-c Inv-loop μ-loop
-cast-c c = omega (arith, falling-room (c .before .loop .inv .0) (first-child _ (c .before .loop .n) (c .before .loop .inv .2) (c .loop-test .taken) .0))
+cast-cells : tie.Need-cast-cells Inv-loop μ-loop
+cast-cells c = omega (arith, falling-room (c .before .loop .inv .0) (c .loop-test .taken))
 
-mul-c : tie.Need-mul-c Inv-loop μ-loop
-mul-c c = omega (arith, falling-room (c .before .loop .inv .0) (first-child _ (c .before .loop .n) (c .before .loop .inv .2) (c .loop-test .taken) .0))
+mul-cells : tie.Need-mul-cells Inv-loop μ-loop
+mul-cells c = omega (arith, falling-room (c .before .loop .inv .0) (c .loop-test .taken))
 
-element-write-c : tie.Need-element-write-c Inv-loop μ-loop
-element-write-c c = omega (arith, falling-room (c .before .loop .inv .0) (first-child _ (c .before .loop .n) (c .before .loop .inv .2) (c .loop-test .taken) .0))
+element-write-cells : tie.Need-element-write-cells Inv-loop μ-loop
+element-write-cells c = omega (arith, falling-room (c .before .loop .inv .0) (c .loop-test .taken))
 
-add-c : tie.Need-add-c Inv-loop μ-loop
-add-c c = omega (arith, falling-room (c .before .loop .inv .0) (first-child _ (c .before .loop .n) (c .before .loop .inv .2) (c .loop-test .taken) .0))
+add-k : tie.Need-add-k Inv-loop μ-loop
+add-k c = omega (arith, falling-room (c .before .loop .inv .0) (c .loop-test .taken))
 
-first-of-requires-2 : tie.Need-first-of-requires-2 Inv-loop μ-loop
-first-of-requires-2 c κs =
-    let f = first-child _ (c .before .loop .n) (c .before .loop .inv .2) (c .loop-test .taken) in
-    falling-linked (falling-on (c .before .before .before .before .args .links .now) (c .before .loop .c .count) (c .before .loop .n) (c .before .loop .c .cells) _ (c .before .loop .inv .0) (f .0) (c .before .loop .inv .1) (f .1))
+link-of-requires : tie.Need-link-of-requires Inv-loop μ-loop
+link-of-requires c κs = (falling-room (c .before .loop .inv .0) (c .loop-test .taken) .1, omega arith)
 
 loop-less : tie.Need-loop-less Inv-loop μ-loop
-loop-less c = omega (arith, falling-room (c .before .before .loop .inv .0) (first-child _ (c .before .before .loop .n) (c .before .before .loop .inv .2) (c .before .loop-test .taken) .0))
+loop-less c = omega (arith, falling-room (c .before .before .loop .inv .0) (c .before .loop-test .taken))
 
 loop-again : tie.Need-loop-again Inv-loop μ-loop
 loop-again c =
-    let f = first-child _ (c .before .before .loop .n) (c .before .before .loop .inv .2) (c .before .loop-test .taken) in
-    (falling-on (c .before .before .before .before .before .args .links .now) (c .before .before .loop .c .count) (c .before .before .loop .n) (c .before .before .loop .c .cells) _ (c .before .before .loop .inv .0) (f .0) (c .before .before .loop .inv .1) (f .1), simp length-set (c .before .before .loop .inv .1), c .first-of2 .ensures, omega (arith, c .before .before .loop .inv .3))
+    let l = c .before .before .loop in
+    (falling-on (c .before .before .before .before .args .links .now) (l .k) (l .n) (l .cells) _ (l .inv .0) (c .before .loop-test .taken) (l .inv .1) (c .link-of .ensures), simp length-set (l .inv .1), omega (arith, l .inv .2))
 
 returns : tie.Need-returns Inv-loop μ-loop
-returns c = (falling-leaf (c .before .loop .inv .0) (c .before .loop .inv .2) (omega (arith, c .loop-test .left)), c .before .loop .inv .3)
+returns c =
+    let l = c .before .loop in
+    let e = falling-done (l .inv .0) (omega (arith, c .loop-test .left)) in
+    (e, (l .inv .2, λ b m xs ms q v. visiting-down b m (rw q (c .before .before .before .pre .1)) v (l .cells) (l .k) (rw q e)))
 
 pub descend-spec : {M : Type 1} → statement M
 descend-spec =
@@ -55,13 +52,12 @@ descend-spec =
     (tie.spec
     Inv-loop
     μ-loop
-    first-of-requires
     loop-holds
-    cast-c
-    mul-c
-    element-write-c
-    add-c
-    first-of-requires-2
+    cast-cells
+    mul-cells
+    element-write-cells
+    add-k
+    link-of-requires
     loop-less
     loop-again
     returns)

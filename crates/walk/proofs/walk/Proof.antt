@@ -1,7 +1,7 @@
 use Rattle.walk.specs.Falls.{Falls, fallen}
-use Rattle.walk.specs.laws.Falls.{Fell, fall, visiting-fall}
+use Rattle.walk.specs.laws.Falls.{Fell, fall}
 use Rattle.walk.specs.Opened.{Visiting}
-use Rattle.walk.specs.laws.Visits.{visiting-start, visited}
+use Rattle.walk.specs.laws.Visits.{visited}
 use Rattle.walk.specs.laws.Walked.{Keeps, keeps-start, keeps-turning, keeps-turn, keeps-less, keeps-end}
 use Rattle.walk.specs.Turns.{state-of}
 use Rattle.walk.specs.laws.Turns.{stack-of-length}
@@ -45,24 +45,24 @@ begin-requires c κs = omega (arith, c .before .before .before .before .before .
 loop-holds : tie.Need-loop-holds Inv-loop μ-loop
 loop-holds c =
     let s = c .before .before .before .before .before .before .before in
-    let (e, n) = c .begin .ensures in
-    (keeps-start (board s) (s .args .rows .now) (s .args .marks .now) (s .pre) _ _ _ e n, visiting-start (board s) _ _ _ _ _ e n, refl, refl)
+    let (e, n) = c .begin .ensures .0 in
+    (keeps-start (board s) (s .args .rows .now) (s .args .marks .now) (s .pre) _ _ _ e n, c .begin .ensures .1 (board s) (s .args .rows .now) (s .args .marks .now) refl, refl, refl)
 
 turn-requires : tie.Need-turn-requires Inv-loop μ-loop
 turn-requires c κs =
     let l = c .before .before .before .before .before .loop in
     let (f, g) = falls (c .before .before .before .before .before) (c .before .before .before .if1 .taken) in
-    (c .before .before .before .if1 .taken, (rw (stack-of-length (l .at .open_cells .cells) (l .at .open_cells .count)) at g, keeps-turning (board (c .before .before .before .before .before .before .before .before .before .before .before .before .before)) (c .before .before .before .before .before .before .before .before .before .before .before .before .before .args .rows .now) _ (f .keeps) (f .some)))
+    (c .before .before .before .if1 .taken, (rw (stack-of-length (l .at .open_cells .cells) (l .at .open_cells .count)) at g, (keeps-turning (board (c .before .before .before .before .before .before .before .before .before .before .before .before .before)) (c .before .before .before .before .before .before .before .before .before .before .before .before .before .args .rows .now) _ (f .keeps) (f .some), record { from = _; visiting = l .inv .1 })))
 
 loop-less : tie.Need-loop-less Inv-loop μ-loop
 loop-less c =
     let (f, g) = falls (c .before .before .before .before .before .before .before .before .before .before) (c .before .before .before .before .before .before .before .before .if1 .taken) in
-    omega (arith, f .fewer, keeps-less (board (c .before .before .before .before .before .before .before .before .before .before .before .before .before .before .before .before .before .before)) (c .before .before .before .before .before .before .before .before .before .before .before .before .before .before .before .before .before .before .args .rows .now) _ (f .keeps) (f .some) _ (c .before .before .before .before .turn .ensures))
+    omega (arith, f .fewer, keeps-less (board (c .before .before .before .before .before .before .before .before .before .before .before .before .before .before .before .before .before .before)) (c .before .before .before .before .before .before .before .before .before .before .before .before .before .before .before .before .before .before .args .rows .now) _ (f .keeps) (f .some) _ (c .before .before .before .before .turn .ensures .0))
 
 loop-again : tie.Need-loop-again Inv-loop μ-loop
 loop-again c =
     let (f, g) = falls (c .before .before .before .before .before .before .before .before .before .before) (c .before .before .before .before .before .before .before .before .if1 .taken) in
-    (keeps-turn (board (c .before .before .before .before .before .before .before .before .before .before .before .before .before .before .before .before .before .before)) (c .before .before .before .before .before .before .before .before .before .before .before .before .before .before .before .before .before .before .args .rows .now) _ (f .keeps) (f .some) _ (c .before .before .before .before .turn .ensures), visiting-fall (board (c .before .before .before .before .before .before .before .before .before .before .before .before .before .before .before .before .before .before)) _ (c .before .before .before .before .before .before .before .before .before .before .before .before .before .before .before .before .before .before .args .rows .now) _ (c .before .before .before .before .before .before .before .before .before .before .loop .inv .1) f (c .before .before .before .before .turn .ensures), c .before .before .before .before .turn .kept .1 .1 .1 .1 .1 .1 .1 .0 ∙ c .before .before .before .before .before .before .before .before .before .before .loop .inv .2, c .before .before .before .before .turn .kept .1 .1 .1 .1 .1 .1 .1 .1 .0 ∙ c .before .before .before .before .before .before .before .before .before .before .loop .inv .3)
+    (keeps-turn (board (c .before .before .before .before .before .before .before .before .before .before .before .before .before .before .before .before .before .before)) (c .before .before .before .before .before .before .before .before .before .before .before .before .before .before .before .before .before .before .args .rows .now) _ (f .keeps) (f .some) _ (c .before .before .before .before .turn .ensures .0), c .before .before .before .before .turn .ensures .1 _ (c .before .before .before .before .before .before .before .before .before .before .loop .inv .1), c .before .before .before .before .turn .kept .1 .1 .1 .1 .1 .1 .1 .0 ∙ c .before .before .before .before .before .before .before .before .before .before .loop .inv .2, c .before .before .before .before .turn .kept .1 .1 .1 .1 .1 .1 .1 .1 .0 ∙ c .before .before .before .before .before .before .before .before .before .before .loop .inv .3)
 
 same-length : tie.Need-same-length Inv-loop μ-loop
 same-length c = c .before .before .loop .inv .2

@@ -16,12 +16,12 @@ use Rattle.plan.specs.Fit.{Fit}
 use Rattle.contours.specs.laws.Forest.{Forest, none, tree, Grown, grown, forest}
 use Rattle.joining.specs.Joining.{Memory, memory-of}
 use Rattle.links.specs.Links.{Links, link}
-use Rattle.walk.specs.Machine.{Chart, State, step}
+use Rattle.walk.specs.Machine.{Chart, State, step, step-at}
 use Rattle.walk.specs.Turns.{stack-of, state-of}
 use Rattle.walk.specs.laws.Turns.{stack-of-length}
 use Rattle.walk.specs.laws.Tree.{Tail, tail-all, tail-head, tail-next, tail-first, sum, below-most, out-later}
 use Rattle.walk.specs.Preorder.{in-turn, preorder-to, preorder}
-use Rattle.walk.specs.Opened.{begin, run, opening, visits, opened, OpenCells, Once, EachOnce, InOrder, Visiting, Visited}
+use Rattle.walk.specs.Opened.{begin, run, opening, visits, opened, closing, closings, closed-by, StillOpen, OpenCells, Once, EachOnce, InOrder, Visiting, Visited}
 
 -- ---- where the walk is: the stack and the next child, whatever the memory
 record Spot : Type 0 where
@@ -179,26 +179,6 @@ module _ (t : Table) (fit : Fit t) (b : Chart) (links : Links t (b .links)) (m :
   chained-from n =
       subst (λ (p : Spot). Chained t (p .stack)) (sym (run-moves b n (begin b m)))
       (placed-moves t fit (b .links) links n (forget (begin b m)) (placed-begin t fit (b .links) links) .chained)
-
-  pub open-cells : (n : ℕ) (cells : List ℕ) (count : ℕ) → stack-of cells count ≡ from n .stack → OpenCells t cells count
-  open-cells n cells count e =
-      record {
-        few = omega (arith, stack-of-length cells count, chained-few t fit (b .links) links (stack-of cells count) held);
-        root = λ l. stack-root t cells count l held;
-        each = λ i l. stack-each t cells count i l held;
-      }
-    where
-      held : Chained t (stack-of cells count)
-      held = rw e (chained-from n)
-
-module _ (b : Chart) (m : Memory) where
-  pub visiting : (cells : List ℕ) (count next : ℕ) (xs ms : List ℕ) (n : ℕ) → state-of cells count next xs ms ≡ run b n (begin b m) → Visiting b m cells count next xs ms
-  visiting cells count next xs ms n e =
-      record { turns = n; there = e; open-now = λ t su. open-cells t (su .fit) b (su .links) m n cells count (ap (λ (st : State). st .stack) e) }
-
-pub visiting-start : (b : Chart) (cells : List ℕ) (count n : ℕ) (xs ms : List ℕ) → stack-of cells count ≡ 0 ∷ [] → n ≡ link (b .links) 0 0 → Visiting b (memory-of xs ms) cells count n xs ms
-unfolding run
-visiting-start b cells count n xs ms e en = visiting b (memory-of xs ms) cells count n xs ms 0 (λ i. record { stack = e i; next = en i; memory = memory-of xs ms })
 
 -- ---- OPENED ONCE
 -- the cells of a forest, each before its children
@@ -527,6 +507,167 @@ module _ (t : Table) (fit : Fit t) (b : Chart) (links : Links t (b .links)) (m :
 
   pub siblings-in-order : InOrder t (opened b m n)
   siblings-in-order = subst (λ (l : List ℕ). InOrder t l) (sym (opened-in-order t fit b links m n e)) (preorder-siblings t fit)
+
+-- ---- OPEN CELLS: opened and not yet closed
+-- how often x stands in the list
+abbrev hit-of : {x y : ℕ} → Dec (x ≡ y) → ℕ
+hit-of (yes e) = 1
+hit-of (no e) = 0
+
+hit : ℕ → ℕ → ℕ
+hit x y = hit-of (ℕ-discrete x y)
+
+times : ℕ → List ℕ → ℕ
+times x [] = 0
+times x (y ∷ l) = hit x y + times x l
+
+hit-same : (x y : ℕ) → x ≡ y → hit x y ≡ 1
+unfolding hit
+hit-same x y e = go (ℕ-discrete x y)
+  where
+    go : (d : Dec (x ≡ y)) → hit-of d ≡ 1
+    go (yes q) = refl
+    go (no q) = absurd (q e)
+
+hit-read : (x y : ℕ) → 0 < hit x y → x ≡ y
+unfolding hit
+hit-read x y = go (ℕ-discrete x y)
+  where
+    go : (d : Dec (x ≡ y)) → 0 < hit-of d → x ≡ y
+    go (yes q) l = q
+    go (no q) l = absurd (omega arith)
+
+hit-most : (x y : ℕ) → hit x y ≤ 1
+unfolding hit
+hit-most x y = go (ℕ-discrete x y)
+  where
+    go : (d : Dec (x ≡ y)) → hit-of d ≤ 1
+    go (yes q) = omega arith
+    go (no q) = omega arith
+
+times-append : (x : ℕ) (l k : List ℕ) → times x (l ++ k) ≡ times x l + times x k
+unfolding times
+times-append x [] k = omega arith
+times-append x (y ∷ l) k = omega (arith, times-append x l k)
+
+at-times : (x : ℕ) (l : List ℕ) (i : ℕ) → At l i x → 0 < times x l
+unfolding times
+at-times x [] i a = absurd a
+at-times x (y ∷ l) zero a = omega (arith, hit-same x y a)
+at-times x (y ∷ l) (suc i) a = omega (arith, at-times x l i a)
+
+times-at : (x : ℕ) (l : List ℕ) → 0 < times x l → (i : ℕ) × At l i x
+unfolding times
+times-at x [] h = absurd (omega arith)
+times-at x (y ∷ l) h = go (ℕ-discrete (hit x y) 0) (times-at x l)
+  where
+    go : Dec (hit x y ≡ 0) → (0 < times x l → (i : ℕ) × At l i x) → (i : ℕ) × At (y ∷ l) i x
+    go (yes z) ih = let r = ih (omega arith) in (suc (r .0), r .1)
+    go (no z) ih = (0, hit-read x y (omega arith))
+
+times-once : (x : ℕ) (l : List ℕ) → Once l → times x l ≤ 1
+unfolding times
+times-once x [] o = omega arith
+times-once x (y ∷ l) o = go (ℕ-discrete (hit x y) 0) (ℕ-discrete (times x l) 0) (times-once x l (λ i j z a b. omega (arith, o (suc i) (suc j) z a b)))
+  where
+    go : Dec (hit x y ≡ 0) → Dec (times x l ≡ 0) → times x l ≤ 1 → hit x y + times x l ≤ 1
+    go (yes z) d ih = omega arith
+    go (no z) (yes w) ih = omega (arith, hit-most x y)
+    go (no z) (no w) ih = let r = times-at x l (omega arith) in absurd (omega (arith, o 0 (suc (r .0)) x (hit-read x y (omega arith)) (r .1)))
+
+-- what the numbers up to the count hold
+module _ (cells : List ℕ) where
+  shown-times : (k i : ℕ) → i < k → 0 < times (getD cells i 0) (stack-of cells k)
+  unfolding stack-of times
+  shown-times zero i l = absurd (omega arith)
+  shown-times (suc k) i l = go (ℕ-discrete i k) (shown-times k i)
+    where
+      go : Dec (i ≡ k) → (i < k → 0 < times (getD cells i 0) (stack-of cells k)) → 0 < hit (getD cells i 0) (getD cells k 0) + times (getD cells i 0) (stack-of cells k)
+      go (yes e) ih = omega (arith, hit-same (getD cells i 0) (getD cells k 0) (ap (λ (j : ℕ). getD cells j 0) e))
+      go (no e) ih = omega (arith, ih (omega arith))
+
+  times-shown : (x k : ℕ) → 0 < times x (stack-of cells k) → (i : ℕ) × (i < k) × (getD cells i 0 ≡ x)
+  unfolding stack-of times
+  times-shown x zero h = absurd (omega arith)
+  times-shown x (suc k) h = go (ℕ-discrete (hit x (getD cells k 0)) 0) (times-shown x k)
+    where
+      go : Dec (hit x (getD cells k 0) ≡ 0) → (0 < times x (stack-of cells k) → (i : ℕ) × (i < k) × (getD cells i 0 ≡ x)) → (i : ℕ) × (i < suc k) × (getD cells i 0 ≡ x)
+      go (yes z) ih = let r = ih (omega arith) in (r .0, omega (arith, r .1), r .2)
+      go (no z) ih = (k, omega arith, sym (hit-read x (getD cells k 0) (omega arith)))
+
+-- every cell that was opened is on the stack or closed, as often as it was opened: each step keeps it
+module _ (b : Chart) (m : Memory) (x : ℕ) where
+  balance-step : (n : ℕ) (cs : List ℕ) (w : Memory) → times x (step-at b n cs w .stack) + times x (closing n cs) ≡ times x cs + times x (opening n)
+  unfolding times
+  balance-step (suc s) cs w = omega arith
+  balance-step zero [] w = omega arith
+  balance-step zero (c ∷ []) w = omega arith
+  balance-step zero (c ∷ f ∷ fs) w = omega arith
+
+  balance : (n : ℕ) → times x (opened b m n) ≡ times x (run b n (begin b m) .stack) + times x (closed-by b m n)
+  unfolding run visits closings step times
+  balance zero = omega arith
+  balance (suc n) =
+      let st = run b n (begin b m) in
+      let e = balance-step (st .next) (st .stack) (st .memory) in
+      let o = times-append x (visits b n (begin b m)) (opening (st .next)) in
+      let s = times-append x (closings b n (begin b m)) (closing (st .next) (st .stack)) in
+      omega (arith, balance n)
+
+module _ (t : Table) (fit : Fit t) (b : Chart) (links : Links t (b .links)) (m : Memory) where
+  -- what is opened after n steps is the beginning of the preorder: so no cell is opened twice
+  opened-most : (n x : ℕ) → times x (opened b m n) ≤ 1
+  unfolding times
+  opened-most n x =
+      let all = all-turns t fit b links m in
+      let rest = seen (b .links) all (moves (b .links) n (forget (begin b m))) in
+      let q : n + all ≡ all + n = omega arith in
+      let whole : visits b n (begin b m) ++ rest ≡ visits b all (begin b m) =
+      ap (λ (l : List ℕ). l ++ rest) (visits-seen b n (begin b m)) ∙ sym (seen-add (b .links) n all (forget (begin b m))) ∙ sym (visits-seen b (n + all) (begin b m)) ∙ ap (λ (k : ℕ). visits b k (begin b m)) q
+      ∙ idle t fit b links m all n (ends-closed t fit b links m) in
+      let p = ap (times x) (ap (λ (l : List ℕ). 0 ∷ l) whole ∙ all-opened t fit b links m) in
+      let a = times-append x (visits b n (begin b m)) rest in
+      omega (arith, times-once x (preorder t 0) (preorder-once t fit .once))
+
+  module _ (n : ℕ) (cells : List ℕ) (count : ℕ) (e : stack-of cells count ≡ run b n (begin b m) .stack) where
+    count-is : (x : ℕ) → times x (opened b m n) ≡ times x (stack-of cells count) + times x (closed-by b m n)
+    count-is x = rw e (balance b m x n)
+
+    still-open : (i : ℕ) → i < count → StillOpen b m n (getD cells i 0)
+    still-open i l =
+        let x = getD cells i 0 in
+        let s = shown-times cells count i l in
+        let p = times-at x (opened b m n) (omega (arith, count-is x)) in
+        record { place = p .0; was-opened = p .1; not-closed = λ j a. omega (arith, count-is x, opened-most n x, at-times x (closed-by b m n) j a) }
+
+    every-open : (x : ℕ) → StillOpen b m n x → (i : ℕ) × (i < count) × (getD cells i 0 ≡ x)
+    every-open x o = go (ℕ-discrete (times x (closed-by b m n)) 0)
+      where
+        go : Dec (times x (closed-by b m n) ≡ 0) → (i : ℕ) × (i < count) × (getD cells i 0 ≡ x)
+        go (yes z) = times-shown cells x count (omega (arith, count-is x, at-times x (opened b m n) (o .place) (o .was-opened)))
+        go (no z) = let r = times-at x (closed-by b m n) (omega arith) in absurd (o .not-closed (r .0) (r .1))
+
+    pub open-cells : OpenCells t b m n cells count
+    open-cells =
+        record {
+          few = omega (arith, stack-of-length cells count, chained-few t fit (b .links) links (stack-of cells count) held);
+          root = λ l. stack-root t cells count l held;
+          each = λ i l. stack-each t cells count i l held;
+          only = still-open;
+          every = every-open;
+        }
+      where
+        held : Chained t (stack-of cells count)
+        held = rw e (chained-from t fit b links m n)
+
+module _ (b : Chart) (m : Memory) where
+  pub visiting : (cells : List ℕ) (count next : ℕ) (xs ms : List ℕ) (n : ℕ) → state-of cells count next xs ms ≡ run b n (begin b m) → Visiting b m cells count next xs ms
+  visiting cells count next xs ms n e =
+      record { turns = n; there = e; open-now = λ t su. open-cells t (su .fit) b (su .links) m n cells count (ap (λ (st : State). st .stack) e) }
+
+pub visiting-start : (b : Chart) (cells : List ℕ) (count n : ℕ) (xs ms : List ℕ) → stack-of cells count ≡ 0 ∷ [] → n ≡ link (b .links) 0 0 → Visiting b (memory-of xs ms) cells count n xs ms
+unfolding run
+visiting-start b cells count n xs ms e en = visiting b (memory-of xs ms) cells count n xs ms 0 (λ i. record { stack = e i; next = en i; memory = memory-of xs ms })
 
 -- ---- the contract of walk
 pub visited : (b : Chart) (m : Memory) {cells : List ℕ} {count next : ℕ} {xs ms : List ℕ} → Visiting b m cells count next xs ms → count ≡ 0 → Visited b m (memory-of xs ms)
