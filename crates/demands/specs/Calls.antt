@@ -146,6 +146,13 @@ number-none = between.number-none
 pub none-or-refused : (call : Call) (g : Given) → (refusal call g ≡ none) ⊎ (¬ (refusal call g .number ≡ 0))
 none-or-refused = between.none-or-refused
 
+-- The same of Label and Copy, whose refusals have names of their own (Join's is below: its sequence is its own).
+pub label-none-or-refused : (f : List ℕ) (c : ℕ) → (label-refusal f c ≡ none) ⊎ (¬ (label-refusal f c .number ≡ 0))
+label-none-or-refused = between.label-none-or-refused
+
+pub copy-none-or-refused : (rs : List Record) (letters : List ℕ) (al room : ℕ) → (copy-refusal rs letters al room ≡ none) ⊎ (¬ (copy-refusal rs letters al room .number ≡ 0))
+copy-none-or-refused = between.copy-none-or-refused
+
 -- A refusal is answered by its number and cell, and leaves the lent buffers as they were.
 pub read-refuses : (f : List ℕ) (t t′ : List Record) (r : ReadAnswer) → Reads f t t′ r → ¬ (read-refusal f (length t) .number ≡ 0)
     → (r ≡ Refused (read-refusal f (length t) .number) (read-refusal f (length t) .cell)) × (t′ ≡ t)

@@ -10,6 +10,9 @@ use Rattle.plan.specs.laws.Questions.{both-none}
 use Rattle.plan.specs.laws.Kept.{none-first}
 use Rattle.plan.specs.declared.Refusal.{Refusal}
 use Rattle.least.specs.laws.Refusals.{step-read, step-show, steps-read, steps-show}
+use Rattle.plan.specs.declared.Record.{Record}
+use Rattle.planfile.specs.Reading.{label-refusal}
+use Rattle.content.specs.Clean.{copy-refusal}
 use Rattle.graft.specs.Sequence.{Asks, of, join-sequence, join-given, ask-one, ask-all, join-refusal}
 
 pub number-none : (call : Call) (g : Given) → refusal call g .number ≡ 0 → refusal call g ≡ none
@@ -42,3 +45,11 @@ none-or-refused call g = either-of (refusal call g) (number-none call g)
 
 pub join-none-or-refused : (room : ℕ) (t u : Table) (c : ℕ) → (join-refusal room t u c ≡ none) ⊎ (¬ (join-refusal room t u c .number ≡ 0))
 join-none-or-refused room t u c = either-of (join-refusal room t u c) (join-number-none room t u c)
+
+pub label-none-or-refused : (f : List ℕ) (c : ℕ) → (label-refusal f c ≡ none) ⊎ (¬ (label-refusal f c .number ≡ 0))
+unfolding label-refusal
+label-none-or-refused f c = none-or-refused _ _
+
+pub copy-none-or-refused : (rs : List Record) (letters : List ℕ) (al room : ℕ) → (copy-refusal rs letters al room ≡ none) ⊎ (¬ (copy-refusal rs letters al room .number ≡ 0))
+unfolding copy-refusal
+copy-none-or-refused rs letters al room = none-or-refused _ _
