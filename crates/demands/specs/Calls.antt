@@ -274,7 +274,8 @@ pub layout-wider : (t : Table) (al al′ : ℕ) → al ≤ al′ → (s s′ v v
     → Lays t al s s′ ps ps′ (Sheet w h) → Lays t al′ v v′ qs qs′ (Sheet w′ h′) → (w′ ≤ w) × (h′ ≡ h) × NoLess t (placed qs′) (placed ps′)
 layout-wider = laying.wider-written
 
--- ==== THE WORKED SHEETS ◆A to ◆J, five more, and nine with choices, lent to Check with its questions: it answers what documents 01 and 02 have.
+-- ==== THE WORKED SHEETS ◆A to ◆J, five more, nine with choices (E6) and ten whose ranks decide the order of siblings (E13), lent to Check with its questions:
+-- it answers what documents 01 and 02 have.
 pub worked : map called sheets ≡ map due sheets
 worked = worked-calls.worked-calls
 

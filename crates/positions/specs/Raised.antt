@@ -9,7 +9,7 @@ use Rattle.plan.specs.Plan.{Table}
 use Rattle.plan.specs.Fit.{Fit}
 use Rattle.marks.specs.Marks.{Marked}
 
--- n natural numbers, each an x from −65,535 to 65,535 moved up by 65,535
+-- n natural numbers, each an x from −262,143 to 262,143 moved up by 262,143
 pub record Raised (xs : List ℕ) (n : ℕ) (x : ℕ → ℤ) : Type 0 where
   pub each : (c : ℕ) → c < n → pos (getD xs c 0) ≡ x c +ℤ pos farthest
   pub high : (c : ℕ) → c < n → getD xs c 0 ≤ 2 * farthest

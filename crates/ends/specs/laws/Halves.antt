@@ -1,4 +1,4 @@
--- Laws of the definitions in specs/Nearest.antt. Assumes nothing.
+-- Half a width is the nearest whole number, and no other number is: the proofs behind specs/Halves.antt. Nothing that a reader must believe stands here. Assumes nothing.
 use mathlib.Core.Path.{_≡_, refl}
 use mathlib.Core.List.{map}
 use Prim.Native.Nat.{ℕ, _+_, _/_, _%_, _≤_}

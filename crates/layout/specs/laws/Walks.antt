@@ -1,4 +1,4 @@
--- Laws of the definitions in specs/TableChart.antt. Assumes nothing.
+-- A chart of the columns of a table suits it, and what crate walk proves is then true of it: the proofs behind specs/Walks.antt. Nothing that a reader must believe stands here. Assumes nothing.
 use mathlib.Core.Path.{_≡_, refl, _∙_, sym, ap}
 use mathlib.Core.List.{List, [], _∷_, _++_}
 use Prim.Native.Nat.{ℕ, zero, suc, _+_, _*_, _<_}

@@ -1,4 +1,4 @@
--- Laws of the definitions in specs/Demanded.antt. Assumes nothing.
+-- What "refuses nothing" says, question by question, of Layout and of Check: the proofs behind specs/Asked.antt. Nothing that a reader must believe stands here. Assumes nothing.
 use mathlib.Core.Path.{_≡_, refl}
 use mathlib.Core.List.{List, [], _∷_}
 use mathlib.Core.Bool.{Bool, true, false}

@@ -1,4 +1,4 @@
--- Laws of the definitions in specs/Vertical.antt. Assumes nothing.
+-- 000's Bd2, Bd3, Bd4 and Bd6 from S1 to S5: the proofs behind specs/Constraints.antt. Nothing that a reader must believe stands here. Assumes nothing.
 use Prim.Native.Nat.{ℕ, suc, _+_, _≤_, _<_}
 use mathlib.Core.Path.{_≡_, refl, sym, ap}
 use mathlib.Core.Logic.{_⊎_, inl, inr}

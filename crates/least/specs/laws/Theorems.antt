@@ -1,4 +1,4 @@
--- Laws of the definitions in specs/NoLess.antt. Assumes nothing.
+-- The proofs behind specs/Theorems.antt: of theorems 1 to 10, under their names and numbers (of the eleventh: laws/Twins). Nothing that a reader must believe stands here. Assumes nothing.
 use Prim.Native.Nat.{ℕ, _≤_}
 use mathlib.Core.List.{List, [], _∷_, map}
 use mathlib.Core.Path.{_≡_, sym, ap, _∙_}
@@ -91,7 +91,8 @@ sheet-accepted t al scratch ps e h =
       answer-same t (placed ps) (sheet t al) h (f .some-cell) (f .sound) al ∙ fine-answer t (sheet t al) al k,
     )
 
--- 8. The worked sheets ◆A to ◆J come out as document 01 has them, and so do five more, which S3 and S5 decide, and nine with choices (E6).
+-- 8. The worked sheets ◆A to ◆J come out as document 01 has them, and so do five more, which S3 and S5 decide,
+-- nine with choices (E6) and ten whose ranks decide the order of siblings (E13).
 pub worked : map computed sheets ≡ sheets
 worked = computes
 

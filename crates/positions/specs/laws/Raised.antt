@@ -29,7 +29,7 @@ use Rattle.positions.specs.Raised.{Raised, Raising}
 abbrev pub child-at : (ms xs : List ℕ) (c f : ℕ) → ℕ
 child-at ms xs c f = getD xs f 0 + mark ms c 3 - mark ms f 0
 
--- a parent at X, less 65,535, and its child o − m to the right
+-- a parent at X, less 262,143, and its child o − m to the right
 moved : (X o m : ℕ) (xf xc : ℤ) → pos X ≡ xf +ℤ pos farthest → xc ≡ (pos o -ℤ pos m) +ℤ xf → Inside xc → X ≤ 2 * farthest → o ≤ farthest
     → (m ≤ X + o) × (X + o ≤ 3 * farthest) × (pos (X + o - m) ≡ xc +ℤ pos farthest) × (X + o - m ≤ 2 * farthest)
 moved X o m xf xc p e i h n =
