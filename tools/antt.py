@@ -296,6 +296,11 @@ def rt_functions(text):
         i += 1
 
 
+def contract(head):
+    """of a function's head what stands from its requires or ensures on"""
+    return head[min([head.find(w) for w in ('requires', 'ensures') if w in head] or [len(head)]):]
+
+
 def load(root):
     files = {}
     for p in antt_files(root):
@@ -387,6 +392,18 @@ class Graph:
                     todo.append(r)
         return seen
 
+    def function_roots(self, functions):
+        """what the contracts of these (crate, function) name"""
+        roots = set()
+        for p in rt_files(self.root):
+            crate = os.path.relpath(p, os.path.join(self.root, 'crates')).split('/')[0]
+            text = open(p).read()
+            sc = self.scope([l.strip() for l in text.split('\n') if l.startswith('ghost use ')])
+            for name, _, head in rt_functions(text):
+                if (crate, name) in functions:
+                    roots |= self.refs(contract(head), sc)
+        return roots
+
     def contract_roots(self, crates=None):
         roots = set()
         for p in rt_files(self.root):
@@ -399,8 +416,7 @@ class Graph:
             for name, public, head in rt_functions(text):
                 if crates and not public:
                     continue
-                i = min([head.find(w) for w in ('requires', 'ensures') if w in head] or [len(head)])
-                roots |= self.refs(head[i:], sc)
+                roots |= self.refs(contract(head), sc)
             if not crates:
                 roots |= set(sc[0].values())
             for m in re.findall(r'invariant[^\n]*\{([^}]*)\}', text):

@@ -8,19 +8,31 @@
 A file directly under a crate's specs/ holds definitions, and statements whose proof is one line (a name of specs/laws/, or a computation). What a
 reader must believe is each definition that is reached from what a user relies on: the contracts of `engine` and `capi`, and the statements. Reached
 means named there, or named in a definition that is reached. The walk's statements (E5) are listed apart: they reach the machine, which nothing else does.
+Listed apart too is what is reached only from the contracts of the functions that the programs (crates with a src/main.rt, the tests aside) call.
 Lines are those of the file without comments, blank lines and `use` lines.
 """
 import os
 import re
 import sys
 sys.path.insert(0, os.path.dirname(os.path.abspath(__file__)))
-from antt import Graph, indent, strip_comment
+from antt import Graph, indent, rt_files, strip_comment
 
 ROOT = os.path.dirname(os.path.dirname(os.path.abspath(__file__)))
 PAGE = os.path.join(ROOT, 'docs', 'PROOF.md')
 OPEN, CLOSE = '<!-- made by tools/believed.py -->', '<!-- end of what tools/believed.py made -->'
 ENTRIES = {'engine', 'capi'}
 WALK = {'Visits', 'Walks'}             # the files of E5's statements
+
+
+def called(root):
+    """(crate, function) of every function that a program calls, its own ones among them"""
+    calls = set()
+    for p in rt_files(root):
+        crate = os.path.relpath(p, os.path.join(root, 'crates')).split('/')[0]
+        if os.path.exists(os.path.join(root, 'crates', crate, 'src', 'main.rt')) and not crate.endswith('_tests'):
+            text = open(p).read()
+            calls |= set(re.findall(r'\b(\w+)::(?:\w+::)*(\w+)', text)) | {(crate, f) for f in re.findall(r'\bfn (\w+)', text)}
+    return calls
 
 
 def lines(f):
@@ -54,15 +66,18 @@ def main():
             (walk if key[1] in WALK else stated).add(d)
     first = g.closure(g.contract_roots(ENTRIES) | stated)
     second = g.closure(walk) - first
-    rest = g.closure(g.contract_roots()) - first - second
+    third = g.closure(g.function_roots(called(ROOT))) - first - second
+    rest = g.closure(g.contract_roots()) - first - second - third
 
     def files(found):
         return sorted({d.key for d in found if d.is_def or d in stated or d in walk})
 
-    misplaced = [f'{k[0]}/specs/laws/{k[1][5:]}.antt' for k in files(first | second) if k[1].startswith('laws.')]
+    misplaced = [f'{k[0]}/specs/laws/{k[1][5:]}.antt' for k in files(first | second | third) if k[1].startswith('laws.')]
     main_, more = [k for k in files(first) if k in plain], []
     more = [k for k in files(second) if k in plain and k not in main_]
-    inner = [k for k in sorted(plain) if k not in main_ and k not in more]
+    printed = [k for k in files(third) if k in plain and k not in main_ and k not in more]
+    inner = [k for k in files(rest) if k in plain and k not in main_ and k not in more and k not in printed]
+    free = [k for k in sorted(plain) if k not in main_ and k not in more and k not in printed and k not in inner]
 
     def table(keys):
         out = ['| crate | file under its specs/ | lines | what it is |', '|---|---|---|---|']
@@ -73,11 +88,18 @@ def main():
 
     text = [OPEN, 'For the calls and the demands:', ''] + table(main_)
     text += ['', 'And for the walk, turn by turn (E5):', ''] + table(more)
-    names = {}
-    for c, m in inner:
-        names.setdefault(c, []).append(m)
-    text += ['', 'The other files directly under specs/ are named only by contracts of functions inside, which nobody outside relies on: '
-             + '; '.join(f'`{c}` {", ".join(ms)}' for c, ms in sorted(names.items())) + '.', CLOSE]
+
+    def listed(keys):
+        names = {}
+        for c, m in keys:
+            names.setdefault(c, []).append(m)
+        return '; '.join(f'`{c}` {", ".join(ms)}' for c, ms in sorted(names.items())) + '.'
+
+    text += ['', 'And for the programs, by the contracts of the functions that they call (what a program itself reads and writes is tested):', ''] + table(printed)
+    text += ['', 'These files directly under specs/ are named only by contracts of functions inside, which neither a caller nor a program calls: ' + listed(inner)]
+    if free:
+        text += ['', 'And these by no contract and no statement, only by what is proved: ' + listed(free)]
+    text += [CLOSE]
     made = '\n'.join(text)
     if '--write' in sys.argv or '--check' in sys.argv:
         page = open(PAGE).read()
