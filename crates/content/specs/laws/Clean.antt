@@ -4,12 +4,13 @@ use mathlib.Core.List.{List, [], _∷_, _++_, map}
 use mathlib.Core.Bool.{Bool, true, false, cond}
 use Prim.Native.Nat.{ℕ, suc, _+_, _-_, _*_, _/_, _%_}
 use native.Mathlib.Omega.{arith}
-use native.Mathlib.Nat.{div-add-mod'}
+use native.Mathlib.Nat.{div-add-mod', mul-suc}
 use lib.Dec.{T, eqb, leb, eqb→eq}
 use lib.ListN.{length, getD, take, drop, length-append}
 use lib.Seq.{getD-append-add, take-append-seam, drop-at}
 use Rattle.plan.specs.Limits.{old-width, trailer-size}
 use Rattle.plan.specs.Forms.{form-of, record-size}
+use Rattle.plan.specs.laws.Form.{no-records}
 use Rattle.plan.specs.Lists.{from}
 use Rattle.plan.specs.Plan.{Cell}
 use Rattle.plan.specs.Records.{bare, cells-of}
@@ -90,11 +91,6 @@ unfolding Ranked
 record-here Old g pre l r at q e z = old-here g pre l r at q e z
 record-here Wide g pre l r at q e z = wide-here g pre l r at q e
 
-size-more : (form : Form) (begin k n : ℕ) → begin + record-size form * k ≡ n → begin + record-size form * suc k ≡ n + record-size form
-unfolding record-size
-size-more Old begin k n e = omega arith
-size-more Wide begin k n e = omega arith
-
 unfoldable pub AllRanked : Form → List Record → Type 0
 AllRanked form [] = T true
 AllRanked form (r ∷ rs) = Ranked form r × AllRanked form rs
@@ -108,24 +104,14 @@ entries-here form g pre l (r ∷ rs) begin k e q z =
     let w : g ≡ pre ++ (record-bytes form r ++ (records-bytes form rs ++ l)) = e ∙ ap (λ (x : List ℕ). pre ++ x) (append-assoc (record-bytes form r) (records-bytes form rs) l) in
     let h : record-at form g (begin + record-size form * k) ≡ r = record-here form g pre (records-bytes form rs ++ l) r _ q w (z .0) in
     let on : g ≡ (pre ++ record-bytes form r) ++ (records-bytes form rs ++ l) = w ∙ sym (append-assoc pre (record-bytes form r) (records-bytes form rs ++ l)) in
-    let n : begin + record-size form * suc k ≡ length (pre ++ record-bytes form r) = size-more form begin k _ q ∙ rw (length-append pre (record-bytes form r), record-length form r) refl in
+    let n : begin + record-size form * suc k ≡ length (pre ++ record-bytes form r) = omega (arith, q, mul-suc (record-size form) k, length-append pre (record-bytes form r), record-length form r) in
     cc (h, entries-here form g (pre ++ record-bytes form r) l rs begin (suc k) on n (z .1))
 
 -- ---- lengths
-size-suc : (form : Form) (n : ℕ) → record-size form * suc n ≡ record-size form + record-size form * n
-unfolding record-size
-size-suc Old n = omega arith
-size-suc Wide n = omega arith
-
-size-zero : (form : Form) → record-size form * 0 ≡ 0
-unfolding record-size
-size-zero Old = refl
-size-zero Wide = refl
-
 pub records-bytes-length : (form : Form) (rs : List Record) → length (records-bytes form rs) ≡ record-size form * length rs
 unfolding records-bytes
-records-bytes-length form [] = sym (size-zero form)
-records-bytes-length form (r ∷ rs) = length-append (record-bytes form r) (records-bytes form rs) ∙ rw (record-length form r, records-bytes-length form rs) (sym (size-suc form (length rs)))
+records-bytes-length form [] = sym (no-records (record-size form))
+records-bytes-length form (r ∷ rs) = length-append (record-bytes form r) (records-bytes form rs) ∙ rw (record-length form r, records-bytes-length form rs) (omega (arith, mul-suc (record-size form) (length rs)))
 
 pub entries-length : (s : ℕ) (is : List Item) → length (entries s is) ≡ length is
 unfolding entries
@@ -228,7 +214,7 @@ module _ (c : Content) where
       rw n (at (form-of (trailer-of g .mark)) clean-form b)
     where
       at : (form′ : Form) → form′ ≡ form → trailer-of g .begin ≡ length (labels (c .items)) → map (λ k. record-at form′ g (trailer-of g .begin + record-size form′ * k)) (from 0 (length rs)) ≡ rs
-      at form′ e b = rw e (entries-here form g (labels (c .items)) end rs (trailer-of g .begin) 0 (unfold clean in refl) (omega (arith, size-zero form)) (form-ranked 0 (c .items)))
+      at form′ e b = rw e (entries-here form g (labels (c .items)) end rs (trailer-of g .begin) 0 (unfold clean in refl) (omega (arith, no-records (record-size form))) (form-ranked 0 (c .items)))
 
   pub clean-letters : letters-of (clean c) ≡ labels (c .items)
   unfolding letters-of

@@ -8,6 +8,7 @@ use lib.ListN.{length, take, length-map}
 use lib.Seq.{length-take-le}
 use Rattle.plan.specs.Limits.{between, most-cells, most-label, most-allowance, least-file, most-file, wide-size, trailer-size}
 use Rattle.plan.specs.Forms.{marked, record-size}
+use Rattle.plan.specs.laws.Form.{sizes, record-inside, records-short}
 use Rattle.plan.specs.Lists.{from}
 use Rattle.plan.specs.Plan.{Table}
 use Rattle.plan.specs.Records.{bare, cells-of}
@@ -41,9 +42,7 @@ mark-known Old = tt
 mark-known Wide = tt
 
 size-bounds : (form : Form) (n : ℕ) → 1 ≤ n → (8 ≤ record-size form * n) × (record-size form * n ≤ wide-size * n)
-unfolding record-size
-size-bounds Old n h = (omega arith, omega arith)
-size-bounds Wide n h = (omega arith, omega arith)
+size-bounds form n h = (omega (arith, sizes form .0, record-inside (record-size form) 0 n h), records-short (record-size form) n (sizes form .1))
 
 -- ---- Read accepts whatever the writer writes
 module _ (rs : List Record) (letters : List ℕ) (al : ℕ) (e : copy-steps rs letters al .number ≡ 0) where

@@ -3,6 +3,7 @@ use mathlib.Core.Path.{_≡_, refl, sym, ap, _∙_}
 use mathlib.Core.List.{List, [], _∷_, _++_}
 use mathlib.Core.Bool.{Bool, true, false, _&&_, cond}
 use Prim.Native.Nat.{ℕ, zero, suc, _+_, _*_, _≤_, _<_}
+use native.Mathlib.Nat.{le-trans}
 use native.Mathlib.Numerals.{add-one}
 use native.Mathlib.Omega.{arith}
 use native.Mathlib.Decide.{ℕ-discrete}
@@ -11,7 +12,7 @@ use lib.ListN.{length, take, drop, getD, set, length-append, length-drop}
 use lib.Seq.{sets, take-suc, length-sets, getD-drop, length-take-le}
 use Rattle.plan.specs.Limits.{most-cells, most-label, old-width}
 use Rattle.plan.specs.Forms.{record-size}
-use Rattle.plan.specs.laws.Form.{next-record, no-records}
+use Rattle.plan.specs.laws.Form.{sizes, no-records, next-record, record-inside, records-short}
 use Rattle.plan.specs.laws.Steps.{and-left, and-right}
 use Rattle.plan.specs.declared.forms.Form.{Form}
 use Rattle.plan.specs.declared.forms.Form.the-variants.{Old, Wide}
@@ -108,9 +109,7 @@ unfolding sum-to
 sum-none ls = refl
 
 size-small : (form : Form) (c : ℕ) → c < most-cells → record-size form * c + record-size form ≤ 10 * 256
-unfolding record-size
-size-small Old c h = omega arith
-size-small Wide c h = omega arith
+size-small form c h = le-trans (record-inside (record-size form) c most-cells h) (records-short (record-size form) most-cells (sizes form .1))
 
 pub record Rowed (form : Form) (ps ks ws ds qs ls a b : List ℕ) (i c at start : ℕ) : Type 0 where
   pub put : Put a i (records-to form ps ks ws ds qs ls c) b at
@@ -120,7 +119,7 @@ pub record Rowed (form : Form) (ps ks ws ds qs ls a b : List ℕ) (i c at start 
 
 pub rowed-start : (form : Form) (ps ks ws ds qs ls a : List ℕ) (i : ℕ) → Rowed form ps ks ws ds qs ls a a i 0 i 0
 rowed-start form ps ks ws ds qs ls a i =
-    record { put = rw (records-none form ps ks ws ds qs ls) (put-start a i); place = omega (arith, no-records form); start-is = sym (sum-none ls); low = omega arith }
+    record { put = rw (records-none form ps ks ws ds qs ls) (put-start a i); place = omega (arith, no-records (record-size form)); start-is = sym (sum-none ls); low = omega arith }
 
 module _ (form : Form) (ps ks ws ds qs ls a b : List ℕ) (n i c at start : ℕ) (r : Rows form ws ls n) (h : c < n) (k : Rowed form ps ks ws ds qs ls a b i c at start) where
   pub rowed-room : i + 10 * 256 ≤ length a → Holds form (getD ws c 0) × (start < 65536) × (at + record-size form ≤ length b)
@@ -133,7 +132,7 @@ module _ (form : Form) (ps ks ws ds qs ls a b : List ℕ) (n i c at start : ℕ)
       let p : Put b at (record-bytes form (row-from ps ks ws ds qs ls c (sum-to ls c))) d next = rw (k .start-is) at q in
       record {
         put = rw (records-more form ps ks ws ds qs ls c) (then (k .put) p);
-        place = omega (arith, q .place, record-length form (row-from ps ks ws ds qs ls c start), next-record form c, k .place);
+        place = omega (arith, q .place, record-length form (row-from ps ks ws ds qs ls c start), next-record (record-size form) c, k .place);
         start-is = rw (e, sum-more ls c) (ap (λ x. x + getD ls c 0) (k .start-is));
         low = omega (arith, r .short c h, k .low);
       }

@@ -14,7 +14,7 @@ use Rattle.plan.specs.Lists.{from}
 use Rattle.plan.specs.Records.{bare, cells-of}
 use Rattle.plan.specs.Columns.{table, table-of}
 use Rattle.plan.specs.laws.Columns.{length-from}
-use Rattle.plan.specs.laws.Form.{records-short}
+use Rattle.plan.specs.laws.Form.{sizes, records-short}
 use Rattle.plan.specs.Questions.{asked, at-each, every}
 use Rattle.plan.specs.Steps.{tree-refusal}
 use Rattle.plan.specs.laws.Questions.{both-none, asked-yes, each-none}
@@ -199,7 +199,7 @@ module _ (l : Lettered) (letters : List ℕ) where
         let a = records-bytes-length form (entries 0 (map item (from 0 n))) in
         let b : length (entries 0 (map item (from 0 n))) ≡ n = entries-count in
         let e : length (records-to form ps ks ws ds qs ls n) ≡ record-size form * n = ap length (sym (records-are form n (omega arith))) ∙ a ∙ ap (λ (x : ℕ). record-size form * x) b in
-        omega (arith, e, records-short form n)
+        omega (arith, e, records-short (record-size form) n (sizes form .1))
       where
         entries-count : length (entries 0 (map item (from 0 n))) ≡ n
         entries-count = entries-length 0 (map item (from 0 n)) ∙ length-from item 0 n

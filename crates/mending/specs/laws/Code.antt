@@ -110,7 +110,7 @@ unfolding mend-record
 record-mended form at x b r e u v = v ∙ rw (u, e) refl
 
 pub place-room : (form : Form) (begin c n size : ℕ) → c < n → n ≤ most-cells → begin + record-size form * n ≤ size → (c < most-cells) × (begin + record-size form * c + record-size form ≤ size)
-place-room form begin c n size l h r = (omega arith, omega (arith, record-inside form c n l))
+place-room form begin c n size l h r = (omega arith, omega (arith, record-inside (record-size form) c n l))
 
 module _ (form : Form) (begin : ℕ) (f b : List ℕ) where
   abbrev each : ℕ → Record

@@ -127,7 +127,7 @@ seen f c l = go (framed f) refl
 
 -- its record stands in the file
 inside : (f : List ℕ) (c : ℕ) → Seen f c → place f c + record-size (form f) ≤ length f
-inside f c s = omega (arith, full f (s .frame) .exact, record-inside (form f) c (trailer-of f .count) (s .is))
+inside f c s = omega (arith, full f (s .frame) .exact, record-inside (record-size (form f)) c (trailer-of f .count) (s .is))
 
 -- ---- an accepted file: 2 to 4 and every record pass
 pub record Accepted (f : List ℕ) : Type 0 where

@@ -2,7 +2,9 @@
 use mathlib.Core.Path.{_≡_}
 use Prim.Native.Nat.{ℕ, _+_, _*_, _≤_, _<_}
 use native.Mathlib.Omega.{arith}
-use Rattle.plan.specs.Limits.{most-width, wide-size}
+use native.Mathlib.Numerals.{add-one}
+use native.Mathlib.Nat.{mul-zero, mul-suc, mul-le-mul-left, mul-le-mul-right}
+use Rattle.plan.specs.Limits.{most-width, old-size, wide-size}
 use Rattle.plan.specs.declared.forms.Form.{Form}
 use Rattle.plan.specs.declared.forms.Form.the-variants.{Old, Wide}
 use Rattle.plan.specs.Forms.{record-size, widest}
@@ -13,23 +15,21 @@ unfolding widest
 widest-low Old = omega arith
 widest-low Wide = omega arith
 
--- ---- n records, one after the other
-pub records-short : (form : Form) (n : ℕ) → record-size form * n ≤ wide-size * n
+-- no record is shorter than one of the old form, none longer than one of the wide form
+pub sizes : (form : Form) → (old-size ≤ record-size form) × (record-size form ≤ wide-size)
 unfolding record-size
-records-short Old n = omega arith
-records-short Wide n = omega arith
+sizes Old = (omega arith, omega arith)
+sizes Wide = (omega arith, omega arith)
 
-pub no-records : (form : Form) → record-size form * 0 ≡ 0
-unfolding record-size
-no-records Old = omega arith
-no-records Wide = omega arith
+-- ---- n records of one size, one after the other, whatever the size (document 02, E7: "proved over the record size")
+pub no-records : (size : ℕ) → size * 0 ≡ 0
+no-records = mul-zero
 
-pub next-record : (form : Form) (c : ℕ) → record-size form * (c + 1) ≡ record-size form * c + record-size form
-unfolding record-size
-next-record Old c = omega arith
-next-record Wide c = omega arith
+pub next-record : (size c : ℕ) → size * (c + 1) ≡ size * c + size
+next-record size c = rw add-one (mul-suc size c)
 
-pub record-inside : (form : Form) (c n : ℕ) → c < n → record-size form * c + record-size form ≤ record-size form * n
-unfolding record-size
-record-inside Old c n h = omega arith
-record-inside Wide c n h = omega arith
+pub record-inside : (size c n : ℕ) → c < n → size * c + size ≤ size * n
+record-inside size c n h = rw (mul-suc size c) at (mul-le-mul-left size h)
+
+pub records-short : (size n : ℕ) → size ≤ wide-size → size * n ≤ wide-size * n
+records-short size n h = mul-le-mul-right n h

@@ -6,10 +6,8 @@ use native.Mathlib.Omega.{arith}
 use native.Mathlib.Numerals.{add-one}
 use lib.ListN.{length, getD, set, replicate}
 use Rattle.plan.specs.Limits.{trailer-size, most-cells}
-use Rattle.plan.specs.Forms.{record-size}
 use Rattle.plan.specs.laws.Form.{no-records, next-record}
 use Rattle.plan.specs.declared.Record.{Record}
-use Rattle.plan.specs.declared.forms.Form.{Form}
 use Rattle.plan.specs.declared.forms.Form.the-variants.{Old, Wide}
 use Rattle.planfile.specs.Fields.{pair, number-at, parent-place, kind-place, width-place, depth-place, length-place, rank-place, start-place, begin-place, count-place, allowance-place, mark-place}
 use Rattle.planfile.specs.Format.{record-at, trailer-of}
@@ -57,28 +55,28 @@ pub column-more : (f : ℕ → ℕ) (n : ℕ) → column f (n + 1) ≡ set (colu
 unfolding column
 column-more f n = rw add-one
 
--- the columns of the first c records from begin on; the next record stands at `at`
-pub record Filled (form : Form) (f : List ℕ) (begin c at : ℕ) (ps ks ws ds qs ls ss : List ℕ) : Type 0 where
-  pub next-at : at ≡ begin + record-size form * c
-  pub parents : ps ≡ column (λ c. record-at form f (begin + record-size form * c) .parent) c
-  pub kinds : ks ≡ column (λ c. record-at form f (begin + record-size form * c) .kind) c
-  pub widths : ws ≡ column (λ c. record-at form f (begin + record-size form * c) .width) c
-  pub depths : ds ≡ column (λ c. record-at form f (begin + record-size form * c) .depth) c
-  pub ranks : qs ≡ column (λ c. record-at form f (begin + record-size form * c) .rank) c
-  pub lengths : ls ≡ column (λ c. record-at form f (begin + record-size form * c) .«label_length») c
-  pub starts : ss ≡ column (λ c. record-at form f (begin + record-size form * c) .«label_start») c
+-- the columns of the first c records of a size from begin on, `rec` being the record at a place; the next record stands at `at`
+pub record Filled (size : ℕ) (rec : ℕ → Record) (begin c at : ℕ) (ps ks ws ds qs ls ss : List ℕ) : Type 0 where
+  pub next-at : at ≡ begin + size * c
+  pub parents : ps ≡ column (λ c. rec (begin + size * c) .parent) c
+  pub kinds : ks ≡ column (λ c. rec (begin + size * c) .kind) c
+  pub widths : ws ≡ column (λ c. rec (begin + size * c) .width) c
+  pub depths : ds ≡ column (λ c. rec (begin + size * c) .depth) c
+  pub ranks : qs ≡ column (λ c. rec (begin + size * c) .rank) c
+  pub lengths : ls ≡ column (λ c. rec (begin + size * c) .«label_length») c
+  pub starts : ss ≡ column (λ c. rec (begin + size * c) .«label_start») c
 
-pub filled-none : (form : Form) (f : List ℕ) (begin : ℕ) → Filled form f begin 0 begin (replicate most-cells 0) (replicate most-cells 0) (replicate most-cells 0) (replicate most-cells 0) (replicate most-cells 0) (replicate most-cells 0) (replicate most-cells 0)
+pub filled-none : (size : ℕ) (rec : ℕ → Record) (begin : ℕ) → Filled size rec begin 0 begin (replicate most-cells 0) (replicate most-cells 0) (replicate most-cells 0) (replicate most-cells 0) (replicate most-cells 0) (replicate most-cells 0) (replicate most-cells 0)
 unfolding column
-filled-none form f begin = record { next-at = omega (arith, no-records form); parents = refl; kinds = refl; widths = refl; depths = refl; ranks = refl; lengths = refl; starts = refl }
+filled-none size rec begin = record { next-at = omega (arith, no-records size); parents = refl; kinds = refl; widths = refl; depths = refl; ranks = refl; lengths = refl; starts = refl }
 
-module _ (form : Form) (f : List ℕ) (begin c at : ℕ) (ps ks ws ds qs ls ss : List ℕ) (h : Filled form f begin c at ps ks ws ds qs ls ss) where
-  pub filled-more : (r : Record) (next : ℕ) → r ≡ record-at form f at → next ≡ at + record-size form
-      → Filled form f begin (c + 1) next (set ps c (r .parent)) (set ks c (r .kind)) (set ws c (r .width)) (set ds c (r .depth)) (set qs c (r .rank)) (set ls c (r .«label_length»)) (set ss c (r .«label_start»))
+module _ (size : ℕ) (rec : ℕ → Record) (begin c at : ℕ) (ps ks ws ds qs ls ss : List ℕ) (h : Filled size rec begin c at ps ks ws ds qs ls ss) where
+  pub filled-more : (r : Record) (next : ℕ) → r ≡ rec at → next ≡ at + size
+      → Filled size rec begin (c + 1) next (set ps c (r .parent)) (set ks c (r .kind)) (set ws c (r .width)) (set ds c (r .depth)) (set qs c (r .rank)) (set ls c (r .«label_length»)) (set ss c (r .«label_start»))
   filled-more r next e n =
-      let q : r ≡ record-at form f (begin + record-size form * c) = e ∙ ap (record-at form f) (h .next-at) in
+      let q : r ≡ rec (begin + size * c) = e ∙ ap rec (h .next-at) in
       record {
-        next-at = omega (arith, h .next-at, next-record form c);
+        next-at = omega (arith, h .next-at, next-record size c);
         parents = one (λ r. r .parent) ps (h .parents) q;
         kinds = one (λ r. r .kind) ks (h .kinds) q;
         widths = one (λ r. r .width) ws (h .widths) q;
@@ -88,12 +86,11 @@ module _ (form : Form) (f : List ℕ) (begin c at : ℕ) (ps ks ws ds qs ls ss :
         starts = one (λ r. r .«label_start») ss (h .starts) q;
       }
     where
-      one : (g : Record → ℕ) (xs : List ℕ) → xs ≡ column (λ c. g (record-at form f (begin + record-size form * c))) c → r ≡ record-at form f (begin + record-size form * c)
-          → set xs c (g r) ≡ column (λ c. g (record-at form f (begin + record-size form * c))) (c + 1)
-      one g xs e q = sym (column-more (λ c. g (record-at form f (begin + record-size form * c))) c ∙ cc)
+      one : (g : Record → ℕ) (xs : List ℕ) → xs ≡ column (λ c. g (rec (begin + size * c))) c → r ≡ rec (begin + size * c) → set xs c (g r) ≡ column (λ c. g (rec (begin + size * c))) (c + 1)
+      one g xs e q = sym (column-more (λ c. g (rec (begin + size * c))) c ∙ cc)
 
   pub filled-all : (al n : ℕ) → c ≡ n
       → _≡_ {A = Reading} (record { refusal = none; allowance = al; columns = record { count = n; parent = ps; kind = ks; width = ws; depth = ds; rank = qs }; «label_length» = ls; «label_start» = ss })
-      (columns-of none al n (λ c. record-at form f (begin + record-size form * c)))
+      (columns-of none al n (λ c. rec (begin + size * c)))
   unfolding columns-of
   filled-all al n e = rw (← e, h .parents, h .kinds, h .widths, h .depths, h .ranks, h .lengths, h .starts)

@@ -128,7 +128,7 @@ module _ (f : List ℕ) (c : ℕ) (r : Refusal) (e : r ≡ label-refusal f c) (z
     record-there =
         let h = labelled .headed .full in
         let i = labelled .is in
-        rw q (omega (arith, h .few), omega (arith, h .exact, forms.record-inside (form f) c (trailer-of f .count) i))
+        rw q (omega (arith, h .few), omega (arith, h .exact, forms.record-inside (record-size (form f)) c (trailer-of f .count) i))
 
     pub record-is : record-at (form-of (t .mark)) f (t .begin + record-size (form-of (t .mark)) * c) ≡ entry f c
     unfolding entry

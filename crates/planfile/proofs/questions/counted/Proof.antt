@@ -1,4 +1,4 @@
-use Rattle.plan.specs.laws.Form.{records-short}
+use Rattle.plan.specs.laws.Form.{sizes, records-short}
 use borrow.Author.Tests.{lt-leb, le-leb}
 use native.Mathlib.Omega.{arith}
 use borrow.Author.Needs.{needs}
@@ -15,13 +15,13 @@ record-size-requires : tie.Need-record-size-requires
 record-size-requires c κs = search needs
 
 mul-result : tie.Need-mul-result
-mul-result c = rw (c .record-size .ensures) (omega (arith, records-short (c .before .before .before .args .form) (c .before .before .before .args .n), c .before .if2 .left))
+mul-result c = rw (c .record-size .ensures) (omega (arith, records-short _ (c .before .before .before .args .n) (sizes (c .before .before .before .args .form) .1), c .before .if2 .left))
 
 add-result : tie.Need-add-result
-add-result c = rw (c .record-size .ensures) (omega (arith, records-short (c .before .before .before .args .form) (c .before .before .before .args .n), c .before .if2 .left, c .before .before .before .pre))
+add-result c = rw (c .record-size .ensures) (omega (arith, records-short _ (c .before .before .before .args .n) (sizes (c .before .before .before .args .form) .1), c .before .if2 .left, c .before .before .before .pre))
 
 add-result-2 : tie.Need-add-result-2
-add-result-2 c = rw (c .record-size .ensures) (omega (arith, records-short (c .before .before .before .args .form) (c .before .before .before .args .n), c .before .if2 .left, c .before .before .before .pre))
+add-result-2 c = rw (c .record-size .ensures) (omega (arith, records-short _ (c .before .before .before .args .n) (sizes (c .before .before .before .args .form) .1), c .before .if2 .left, c .before .before .before .pre))
 
 returns-3 : tie.Need-returns-3
 returns-3 c = rw (le-leb _ _ (c .before .before .if1 .left), le-leb _ _ (c .before .if2 .left), c .record-size .ensures)

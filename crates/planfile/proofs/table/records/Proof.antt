@@ -1,5 +1,7 @@
 use Rattle.planfile.specs.laws.Format.{Filled, filled-none, filled-more, filled-all}
+use Rattle.plan.specs.Forms.{record-size}
 use Rattle.plan.specs.laws.Form.{record-inside}
+use Rattle.planfile.specs.Format.{record-at}
 use native.Mathlib.Omega.{arith}
 use Prim.Native.Nat.{_≤_, _-_}
 use borrow.Author.Needs.{needs}
@@ -8,7 +10,7 @@ use Rattle.planfile.proofs.table.records.Tie as tie
 
 abbrev Inv-loop : tie.InvT-loop
 Inv-loop file form begin n allowance parent₀ kind₀ width₀ depth₀ rank₀ label-length₀ label-start₀ cursor₀ c₀ parent kind width depth rank label-length label-start cursor c =
-    (c ≤ n) × Filled form file begin c (cursor .at) parent kind width depth rank label-length label-start
+    (c ≤ n) × Filled (record-size form) (record-at form file) begin c (cursor .at) parent kind width depth rank label-length label-start
 
 abbrev μ-loop : tie.MeasureT-loop
 μ-loop file form begin n allowance parent₀ kind₀ width₀ depth₀ rank₀ label-length₀ label-start₀ cursor₀ c₀ parent kind width depth rank label-length label-start cursor c =
@@ -18,7 +20,7 @@ loop-holds : tie.Need-loop-holds Inv-loop μ-loop
 loop-holds c = (omega arith, filled-none _ _ _)
 
 entry-requires : tie.Need-entry-requires Inv-loop μ-loop
-entry-requires c κs = omega (arith, c .before .loop .inv .1 .next-at, record-inside (c .before .before .before .args .form) (c .before .loop .c) (c .before .before .before .args .n) (c .loop-test .taken), c .before .before .before .pre .1)
+entry-requires c κs = omega (arith, c .before .loop .inv .1 .next-at, record-inside (record-size (c .before .before .before .args .form)) (c .before .loop .c) (c .before .before .before .args .n) (c .loop-test .taken), c .before .before .before .pre .1)
 
 mul-parent : tie.Need-mul-parent Inv-loop μ-loop
 mul-parent c = search needs
