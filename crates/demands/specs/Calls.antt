@@ -1,5 +1,5 @@
 -- THE THREE DEMANDS AT THE CALLS: statements only; each proof is one name. A reader needs the definitions of crate plan (sequence, puts, holds), of crate
--- rules (placement, S1 to S5, verdict), `sheet`, what each call answers (Reads, Lays, checked-of, ended-of, label-of and label-refusal, Lists, Frames, Copies, Mends, Strips, Joins, Drills with the moves of crate moves, Starts, Steps, Reaches, Reports) and Outcomes. Every call's
+-- rules (placement, S1 to S5, verdict), `sheet`, what each call answers (Reads, Lays, checked-of, ended-of, Labels, label-of and label-refusal, Lists, Frames, Copies, Mends, Strips, Joins, Drills with the moves of crate moves, Starts, Steps, Reaches, Reports) and Outcomes. Every call's
 -- contract is one of those, so what is said of them is said of what the call answers and leaves in the lent buffers. Assumes nothing.
 use mathlib.Core.Path.{_≡_, refl}
 use mathlib.Core.List.{List, [], _∷_, _++_, map}
@@ -7,6 +7,7 @@ use mathlib.Core.Logic.{_↔_, _⊎_}
 use Prim.Native.Nat.{ℕ, suc, _+_, _*_, _-_, _/_, _%_, _^_, _≤_, _<_}
 use lib.ListN.{length, getD, take, drop, replicate}
 use lib.IntN.{ℤ, pos, _+ℤ_, _-ℤ_}
+use denote.Ref.{RefT}
 use lib.Signed.{_≤ℤ_, _<ℤ_}
 use Rattle.plan.specs.Limits.{most-cells, scratch-size, most-file, most-allowance, lines-size}
 use Rattle.plan.specs.Plan.{Table, Is, parent, W, D}
@@ -26,6 +27,7 @@ use Rattle.least.specs.Frame.{Least}
 use Rattle.least.specs.Worked.{sheets}
 use Rattle.planfile.specs.Format.{trailer-of, entry, records-of}
 use Rattle.planfile.specs.Reading.{label-refusal}
+use Rattle.planfile.specs.laws.Place as placing
 use Rattle.layout.specs.Laid.{Lays}
 use Rattle.layout.specs.laws.Promised as promised
 use Rattle.layout.specs.declared.Laid.{Laid}
@@ -78,7 +80,7 @@ use Rattle.reporting.specs.Reporting.{file-table, figure-of, report-refusal, Re
 use Rattle.engine.specs.declared.ReadAnswer.{ReadAnswer}
 use Rattle.engine.specs.declared.ReadAnswer.the-variants.{Plan, Refused}
 use Rattle.engine.specs.Read.{read-refusal, Reads}
-use Rattle.engine.specs.Label.{label-of}
+use Rattle.engine.specs.Label.{label-of, Labels}
 use Rattle.demands.specs.Outcomes.{Gives, PlacedTwin, Judged, Listing, printed-sheet, told}
 use Rattle.content.specs.Content.{content, letters-of}
 use Rattle.content.specs.Clean.{copy, copy-refusal}
@@ -176,8 +178,10 @@ pub ends-refuses : (t : Table) (ps : List ℤ) (c : ℕ) → ¬ (refusal ends (e
     → ended-of t ps c ≡ ended.Refused (refusal ends (ends-given t ps c) .number) (refusal ends (ends-given t ps c) .cell)
 ends-refuses = checking.ends-refused
 
-pub label-refuses : (f : List ℕ) (c : ℕ) → ¬ (label-refusal f c .number ≡ 0) → label-of f c ≡ []
-label-refuses = then.label-refuses
+-- Label's part is then the empty one at byte 0: it begins where the file does, and has no byte.
+pub label-refuses : (file : RefT (List ℕ)) (c : ℕ) (r : RefT (List ℕ)) → Labels file c r → ¬ (label-refusal (file .now) c .number ≡ 0)
+    → (r .ptr ≡ file .ptr) × (r .now ≡ [])
+label-refuses = placing.label-refused
 
 -- ==== WHERE NO QUESTION REFUSES
 -- Read gives n and the allowance, and the file's records in the first n of the table, the rest as they were.
@@ -212,9 +216,11 @@ pub ends-gives : (t : Table) (ps : List ℤ) (c : ℕ) → refusal ends (ends-gi
     × (ended-of t ps c ≡ ended.Joined (placed ps .x (parent t c) +ℤ pos h) (placed ps .y (parent t c) +ℤ pos (D t (parent t c))) (placed ps .x c +ℤ pos h′) (placed ps .y c))
 ends-gives = checking.ends-given-as
 
--- Label gives the bytes of the file that the cell's record says.
-pub label-gives : (f : List ℕ) (c : ℕ) → label-refusal f c ≡ none → label-of f c ≡ take (entry f c .«label_length») (drop (entry f c .«label_start») f)
-label-gives = then.label-gives
+-- Label gives that part of the file's own bytes: in the file's memory from the start that the cell's record says, as many bytes as it says.
+pub label-gives : (file : RefT (List ℕ)) (c : ℕ) (r : RefT (List ℕ)) → Labels file c r → label-refusal (file .now) c ≡ none
+    → (r .ptr ≡ (file .ptr .0, file .ptr .1 + entry (file .now) c .«label_start»)) × (length (r .now) ≡ entry (file .now) c .«label_length»)
+    × (r .now ≡ take (entry (file .now) c .«label_length») (drop (entry (file .now) c .«label_start») (file .now)))
+label-gives = placing.label-given
 
 -- ---- one call after another
 -- What Read gives, Label refuses for no cell of it; the label is the part of the file that the cell's record says.

@@ -29,7 +29,7 @@ ghost use Rattle.copying.specs.Copied.{Copies};
 ghost use Rattle.strips.specs.Stripped.{Strips};
 ghost use Rattle.following.specs.Drilled.{Drills};
 ghost use Rattle.engine.specs.Read.{Reads, «read-of»};
-ghost use Rattle.engine.specs.Label.{«label-of»};
+ghost use Rattle.engine.specs.Label.{Labels};
 ghost use Rattle.engine.specs.Hung.{Hangs};
 
 // The number of cells and the allowance; or the refusal's number and cell.
@@ -74,7 +74,7 @@ pub fn read(file: &[u8], table: &mut [Record]) -> ReadAnswer
 
 // Label: a cell's label, as that part of the file's own bytes; refused, the empty part at byte 0.
 pub fn label(file: &[u8], cell: usize) -> &[u8]
-    ensures { λ r. ⌜ now r ≡ label-of (now (file .entry)) cell ⌝ }
+    ensures { λ r. ⌜ Labels (file .entry) cell r ⌝ }
 {
     planfile::label(file, cell)
 }

@@ -1,9 +1,11 @@
 -- What Read and Label answer. Assumes nothing.
 use mathlib.Core.List.{List, [], _∷_}
 use mathlib.Core.Bool.{cond}
-use Prim.Native.Nat.{ℕ, zero, suc, _+_}
+use mathlib.Core.Path.{_≡_}
+use Prim.Native.Nat.{ℕ, zero, suc, _+_, _-_}
 use lib.Dec.{eqb}
-use lib.ListN.{set, replicate}
+use lib.ListN.{set, replicate, take, drop}
+use denote.Ref.{RefT}
 use Rattle.plan.specs.Limits.{most-cells}
 use Rattle.plan.specs.Questions.{to-fill, nothing, named, none, read, label, refusal}
 use Rattle.plan.specs.declared.Record.{Record}
@@ -44,3 +46,13 @@ label-part f c =
     cond (eqb (label-refusal f c .number) 0)
     (record { start = entry f c .«label_start»; end = entry f c .«label_start» + entry f c .«label_length» })
     (record { start = 0; end = 0 })
+
+-- the bytes of a part
+abbrev pub bytes-in : List ℕ → Part → List ℕ
+bytes-in f p = take (p .end - p .start) (drop (p .start) f)
+
+-- "that part of the file's own bytes": lent bytes that are a part of others, in their memory (a block, and an offset in it) from the part's start on
+pub record Subslice (whole : RefT (List ℕ)) (p : Part) (r : RefT (List ℕ)) : Type 0 where
+  pub block : r .ptr .0 ≡ whole .ptr .0
+  pub place : r .ptr .1 ≡ whole .ptr .1 + p .start
+  pub bytes : r .now ≡ bytes-in (whole .now) p

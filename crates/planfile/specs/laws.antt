@@ -3,4 +3,5 @@ pub mod Examined
 pub mod File
 pub mod Format
 pub mod Label
+pub mod Place
 pub mod ReadThen

@@ -16,9 +16,7 @@ use plan::Refusal;
 use plan::forms::form_of;
 use plan::limits::MOST_CELLS;
 ghost use mathlib.Core.Path.{_≡_};
-ghost use Prim.Native.Nat.{_-_};
-ghost use lib.ListN.{take, drop};
-ghost use Rattle.planfile.specs.Reading.{«reading-of», «label-refusal», «label-part»};
+ghost use Rattle.planfile.specs.Reading.{«reading-of», «label-refusal», «label-part», Subslice};
 
 // What the last 8 bytes of a file say.
 pub struct Trailer {
@@ -83,15 +81,14 @@ pub fn label_part(file: &[u8], cell: usize) -> Part
     let entry = cursor.entry(file, form);
     let fields = entry.fields;
     let start = fields.label_start as usize;
-    Part {
-        start,
-        end: start + (fields.label_length as usize),
-    }
+    let size = fields.label_length as usize;
+    let end = start + size;
+    Part { start, end }
 }
 
 // A cell's label, as that part of the file's own bytes; refused, the empty part at byte 0.
 pub fn label(file: &[u8], cell: usize) -> &[u8]
-    ensures { λ r. ⌜ now r ≡ take (label-part (now (file .entry)) cell .end - label-part (now (file .entry)) cell .start) (drop (label-part (now (file .entry)) cell .start) (now (file .entry))) ⌝ }
+    ensures { λ r. ⌜ Subslice (file .entry) (label-part (now (file .entry)) cell) r ⌝ }
 {
     let part = label_part(file, cell);
     let start = part.start;

@@ -2,10 +2,10 @@
 use mathlib.Core.Path.{_≡_}
 use mathlib.Core.Bool.{cond}
 use mathlib.Core.List.{List, [], _∷_, _++_, map}
-use Prim.Native.Nat.{ℕ, _-_, _*_, _≤_}
+use Prim.Native.Nat.{ℕ, _*_, _≤_}
 use lib.Dec.{eqb}
 use lib.IntN.{ℤ}
-use lib.ListN.{length, take, drop}
+use lib.ListN.{length, drop}
 use Rattle.whole.specs.Whole.{plus}
 use Rattle.plan.specs.Limits.{most-cells, listing-size}
 use Rattle.plan.specs.Lists.{from}
@@ -16,14 +16,14 @@ use Rattle.plan.specs.declared.Refusal.{Refusal}
 use Rattle.rules.specs.Placement.{Placement, placed, Agree, width, rows}
 use Rattle.contours.specs.Sheet.{sheet}
 use Rattle.planfile.specs.declared.Reading.{Reading}
-use Rattle.planfile.specs.Reading.{reading-of, label-part}
+use Rattle.planfile.specs.Reading.{reading-of, label-part, bytes-in}
 use Rattle.listing.specs.Printed.{Bytes, sheet-line, cell-line, refused-line, lines-joined}
 use Rattle.printing.specs.declared.Listed.{Listed}
 use Rattle.printing.specs.declared.Listed.the-variants.{Text, Refused}
 
 -- the bytes of a cell's label
 abbrev pub label-bytes : Bytes → (cell : ℕ) → Bytes
-label-bytes f c = take (label-part f c .end - label-part f c .start) (drop (label-part f c .start) f)
+label-bytes f c = bytes-in f (label-part f c)
 
 -- the table of a plan that is read, and our sheet for it
 abbrev pub read-table : Reading → Table

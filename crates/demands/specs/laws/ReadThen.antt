@@ -1,6 +1,6 @@
 -- Read's answer, and what Label and Layout say of what it gave. Assumes nothing.
 use mathlib.Core.Path.{_≡_, sym, _∙_}
-use mathlib.Core.List.{List, [], _++_}
+use mathlib.Core.List.{List, _++_}
 use Prim.Native.Nat.{ℕ, _+_, _-_, _*_, _≤_, _<_}
 use native.Mathlib.Nat.{zero-add}
 use native.Mathlib.Omega.{arith}
@@ -16,7 +16,7 @@ use Rattle.plan.specs.laws.Questions.{both-none}
 use Rattle.plan.specs.declared.Record.{Record}
 use Rattle.plan.specs.declared.Refusal.{Refusal}
 use Rattle.planfile.specs.Format.{trailer-of, entry, records-of}
-use Rattle.planfile.specs.Reading.{label-refusal, label-part}
+use Rattle.planfile.specs.Reading.{label-refusal}
 use Rattle.planfile.specs.FileSteps.{file-refusal}
 use Rattle.planfile.specs.laws.File as Law
 use Rattle.planfile.specs.laws.Examined.{zero-of}
@@ -82,13 +82,3 @@ module _ (f : List ℕ) (t t′ : List Record) (n al : ℕ) (l : Reads f t t′ 
 
   pub then-layout : (s p : ℕ) → scratch-size ≤ s → 2 * n ≤ p → refusal layout (layout-given (cells-of (take n t′)) al s p) ≡ none
   then-layout s p a b = rw (first-records, told .2) (file-layout f passes s p a (omega (arith, told .1)))
-
--- ---- Label alone
-pub label-gives : (f : List ℕ) (c : ℕ) → label-refusal f c ≡ none → label-of f c ≡ take (entry f c .«label_length») (drop (entry f c .«label_start») f)
-label-gives f c z =
-    let e : entry f c .«label_start» + entry f c .«label_length» - entry f c .«label_start» ≡ entry f c .«label_length» = omega arith in
-    rw (part-of-record f c z, e)
-
-pub label-refuses : (f : List ℕ) (c : ℕ) → ¬ (label-refusal f c .number ≡ 0) → label-of f c ≡ []
-unfolding label-part
-label-refuses f c z = rw (ne-eqb (label-refusal f c .number) 0 z)

@@ -1,3 +1,5 @@
+use mathlib.Core.Path.{refl}
+use native.Mathlib.Omega.{arith}
 use Rattle.planfile.specs.laws.Label.{part-inside}
 use borrow.Author.Needs.{needs}
 use Rattle.planfile.proofs.label.Statement.{statement}
@@ -16,7 +18,7 @@ part-result-end : tie.Need-part-result-end
 part-result-end c = rw (c .label-part .ensures) (part-inside (c .before .before .args .file .now) (c .before .before .args .cell) .1)
 
 returns : tie.Need-returns
-returns c = rw (c .before .label-part .ensures)
+returns c = rw (c .before .label-part .ensures) (record { block = refl; place = omega arith; bytes = refl })
 
 pub label-spec : {M : Type 1} → statement M
 label-spec =

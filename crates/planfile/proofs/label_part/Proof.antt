@@ -29,11 +29,11 @@ entry-requires c κs = rw (c .place .ensures, c .before .before .form-of .ensure
 cast-start : tie.Need-cast-start
 cast-start c = search needs
 
-cast-t11 : tie.Need-cast-t11
-cast-t11 c = search needs
+cast-size : tie.Need-cast-size
+cast-size c = search needs
 
-add-t12 : tie.Need-add-t12
-add-t12 c = search needs
+add-end : tie.Need-add-end
+add-end c = search needs
 
 returns-2 : tie.Need-returns-2
 returns-2 c = part-given (c .before .before .before .before .before .before .before .before .before .before .before .before .args .file .now) _ _ (c .before .before .before .before .before .before .before .before .before .before .label-refusal .ensures) (c .before .before .before .before .before .before .before .before .if1 .left) _ (c .before .before .before .entry .ensures .0 ∙ rw (c .before .before .before .before .place .ensures, c .before .before .before .before .before .before .form-of .ensures) (record-is (c .before .before .before .before .before .before .before .before .before .before .before .before .args .file .now) (c .before .before .before .before .before .before .before .before .before .before .before .before .args .cell) (c .before .before .before .before .before .before .before .before .before .before .label-refusal .result) (c .before .before .before .before .before .before .before .before .before .before .label-refusal .ensures) (c .before .before .before .before .before .before .before .before .if1 .left) _ (c .before .before .before .before .before .before .before .trailer .ensures)))
@@ -50,6 +50,6 @@ label-part-spec =
     place-requires
     entry-requires
     cast-start
-    cast-t11
-    add-t12
+    cast-size
+    add-end
     returns-2)

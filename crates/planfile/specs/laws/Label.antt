@@ -95,10 +95,13 @@ label-read f c z =
     let r = record-inside (form f) (trailer-of f .begin) c _ _ _ _ (entry f c .«label_length») (entry f c .«label_start») (each-none (entry-refusal f) (trailer-of f .count) records c i) in
     record { headed = h; is = i; inside-file = omega (arith, h .full .exact) }
 
+pub part-none : (f : List ℕ) (c : ℕ) → ¬ (label-refusal f c .number ≡ 0) → label-part f c ≡ record { start = 0; end = 0 }
+unfolding label-part
+part-none f c z = rw (ne-eqb (label-refusal f c .number) 0 z)
+
 module _ (f : List ℕ) (c : ℕ) (r : Refusal) (e : r ≡ label-refusal f c) where
   pub part-refused : ¬ (r .number ≡ 0) → _≡_ {A = Part} (record { start = 0; end = 0 }) (label-part f c)
-  unfolding label-part
-  part-refused z = rw (← e, ne-eqb (r .number) 0 z)
+  part-refused z = sym (part-none f c (λ q. z (zero-of _ _ (sym e) q)))
 
   pub part-given : r .number ≡ 0 → (x : Record) → x ≡ entry f c
       → _≡_ {A = Part} (record { start = x .«label_start»; end = x .«label_start» + x .«label_length» }) (label-part f c)

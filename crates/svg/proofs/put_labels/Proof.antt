@@ -37,7 +37,7 @@ label-requires : tie.Need-label-requires Inv-loop μ-loop
 label-requires c κs = search needs
 
 put-label-requires : tie.Need-put-label-requires Inv-loop μ-loop
-put-label-requires c κs = let i = c .before .before .before .before .loop .inv in (rw (c .before .label .ensures) (label-short _ _), omega (arith, c .before .before .before .before .before .before .before .pre .2, i .0, i .1, i .2, c .before .before .before .loop-test .taken))
+put-label-requires c κs = let i = c .before .before .before .before .loop .inv in (rw (c .before .label .ensures .bytes) (label-short _ _), omega (arith, c .before .before .before .before .before .before .before .pre .2, i .0, i .1, i .2, c .before .before .before .loop-test .taken))
 
 add-c : tie.Need-add-c Inv-loop μ-loop
 add-c c = search needs
@@ -49,7 +49,7 @@ loop-again : tie.Need-loop-again Inv-loop μ-loop
 loop-again c =
     let i = c .before .before .before .before .before .before .before .loop .inv in
     let h = c .before .before .before .before .before .before .loop-test .taken in
-    (omega arith, omega (arith, i .1), omega (arith, i .2, c .before .before .put-label .ensures .1), labels-put _ _ _ _ _ (i .3) (c .before .before .before .before .before .drawn .ensures) (c .before .before .before .before .label .ensures) (c .before .before .put-label .ensures .0))
+    (omega arith, omega (arith, i .1), omega (arith, i .2, c .before .before .put-label .ensures .1), labels-put _ _ _ _ _ (i .3) (c .before .before .before .before .before .drawn .ensures) (c .before .before .before .before .label .ensures .bytes) (c .before .before .put-label .ensures .0))
 
 same-length : tie.Need-same-length Inv-loop μ-loop
 same-length c = search needs
