@@ -375,7 +375,12 @@ kuzpalen_report_answer kuzpalen_report(const uint8_t *file, size_t file_len,
 /* Pool: the report of two folders together, the same whichever comes first. The mean is worked out afresh.
  * Question 22 refuses where one of the two has over KUZPALEN_PLANS plans, or per plan over 256 cells,
  * 262,143 of width or 67,108,608 of width times rows, or no plan and a figure that is not 0; then question 4
- * where both together have over KUZPALEN_PLANS plans. Cell 0 is named. */
+ * where both together have over KUZPALEN_PLANS plans. Cell 0 is named.
+ *
+ * A folder: begin with zeros, the report of no plan, and for each file that Report answers with number 0
+ * pool its report with what there is so far; a refused file is passed over. What comes out is the report of
+ * the files that Read accepts; or number 4, at which to stop, once there are more than KUZPALEN_PLANS of
+ * them (crates/demands/specs/Calls.antt: `folder-pools`, `folder-too-many`). */
 kuzpalen_report_answer kuzpalen_pool(kuzpalen_folder a, kuzpalen_folder b);
 
 #ifdef __cplusplus

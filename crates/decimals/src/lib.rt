@@ -87,7 +87,7 @@ fn scaled(x: f64) -> f64
     x * 1000.0 + 0.5
 }
 
-// The thousandths of x, to the nearest; 0 where 64 bits do not hold them.
+// The thousandths of x that are printed: the whole part of x · 1000 + 1/2; 0 where 64 bits do not hold them.
 fn thousandths(x: f64) -> u64
     ensures { λ r. ⌜ r ≡ thousandths x ⌝ }
 {

@@ -70,13 +70,15 @@ use Rattle.raster.specs.Worked as strips
 use Rattle.raster.specs.laws.Worked as strips-laws
 use Rattle.strips.specs.Stripped.{Strips}
 use Rattle.strips.specs.laws.Promised as stripping
-use Rattle.season.specs.Report.{report, Plans}
-use Rattle.season.specs.Pool.{sound, pool}
+use Rattle.season.specs.Report.{most-plans, report, Plans}
+use Rattle.season.specs.Pool.{sound, pool, folder}
 use Rattle.season.specs.Promised as season
 use Rattle.season.specs.declared.Report.{Report}
 use Rattle.season.specs.declared.Reported.{Reported}
 use Rattle.season.specs.declared.Reported.the-variants as reported
 use Rattle.reporting.specs.Reporting.{file-table, figure-of, report-refusal, Reports}
+use Rattle.reporting.specs.Folder.{accepted, Answered}
+use Rattle.reporting.specs.laws.Folder as folders
 use Rattle.engine.specs.declared.ReadAnswer.{ReadAnswer}
 use Rattle.engine.specs.declared.ReadAnswer.the-variants.{Plan, Refused}
 use Rattle.engine.specs.Read.{read-refusal, Reads}
@@ -618,16 +620,24 @@ module _ (f : List ℕ) (t t′ : List Record) (s s′ : List ℕ) (ps ps′ : L
 
 -- With long enough buffers a file gets Read's refusal: 512 positions always suffice,
 pub report-as-read : (f : List ℕ) (room s p : ℕ) → most-cells ≤ room → scratch-size ≤ s → 2 * most-cells ≤ p → report-refusal f room s p ≡ read-refusal f room
-report-as-read = reporting.as-read-always
+report-as-read = folders.as-read-always
 
 -- and so do twice as many as the file's own count, where that is fewer.
 pub report-as-read-fewer : (f : List ℕ) (room s p : ℕ) → most-cells ≤ room → scratch-size ≤ s → 2 * trailer-of f .count ≤ p → report-refusal f room s p ≡ read-refusal f room
-report-as-read-fewer = reporting.as-read
+report-as-read-fewer = folders.as-read
 
 -- A plan that Report does not refuse is within the limits per plan, so that 22 refuses neither its report nor, up to 1,024 plans, a pool of such (`pool-joins`, `report-sound`, in season's Promised).
 pub report-real : (f : List ℕ) (room s p : ℕ) → report-refusal f room s p ≡ none → Plans (figure-of f ∷ [])
-report-real = reporting.real
+report-real = folders.real
 
 -- Whichever of two reports comes first, the pool is the same.
 pub pool-turned : (a b : Report) → pool a b ≡ pool b a
 pool-turned = season.pool-turned
+
+-- Each file of a folder given to Report, with long enough buffers: the answers, pooled one after another from the report of no plan on, are the report of the files that Read accepts, up to 1,024 of them; a refused file adds nothing.
+pub folder-pools : (fs : List (List ℕ)) (rs : List Reported) → Answered fs rs → length (accepted fs) ≤ most-plans → folder rs ≡ reported.Figures (report (map figure-of (accepted fs)))
+folder-pools = folders.folder-pools
+
+-- Of more the answer is 4.
+pub folder-too-many : (fs : List (List ℕ)) (rs : List Reported) → Answered fs rs → most-plans < length (accepted fs) → folder rs ≡ reported.Refused 4 0
+folder-too-many = folders.folder-too-many

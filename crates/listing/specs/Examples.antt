@@ -2,8 +2,7 @@
 use mathlib.Core.Path.{_≡_, refl}
 use mathlib.Core.List.{[], _∷_}
 use lib.IntN.{pos, negsuc}
-use Rattle.listing.specs.Printed.{digits, decimal, signed, line, sheet-line, label-field, cell-line, refused-line}
-use Rattle.listing.specs.Printed.{bitmap-line}
+use Rattle.listing.specs.Printed.{digits, decimal, signed, line, sheet-line, label-field, cell-line, refused-line, step-line, end-line, bitmap-line}
 
 -- `0`, `10` and `65535`
 nought : decimal 0 ≡ 48 ∷ []
@@ -47,3 +46,12 @@ refusal = refl
 bitmap : bitmap-line 10 4 ≡ 80 ∷ 52 ∷ 32 ∷ 49 ∷ 48 ∷ 32 ∷ 52 ∷ 10 ∷ []
 unfolding bitmap-line line decimal digits
 bitmap = refl
+
+-- `2 A`, a recorded step, and `wrong 3 12`: 3 bytes used, 12 records (document 02, E12)
+recorded : step-line 2 (65 ∷ []) ≡ 50 ∷ 32 ∷ 65 ∷ 10 ∷ []
+unfolding step-line label-field line decimal digits
+recorded = refl
+
+ended : end-line (119 ∷ 114 ∷ 111 ∷ 110 ∷ 103 ∷ []) 3 12 ≡ 119 ∷ 114 ∷ 111 ∷ 110 ∷ 103 ∷ 32 ∷ 51 ∷ 32 ∷ 49 ∷ 50 ∷ 10 ∷ []
+unfolding end-line line decimal digits
+ended = refl

@@ -7,7 +7,11 @@ use lib.IntN.{ℤ, pos, negsuc, _-ℤ_}
 use lib.Ieee.{binary64, ofInt, add, mul}
 use lib.Ieee.Exact.{HasValue}
 use lib.ListN.{length, getD}
-use Rattle.plan.specs.Plan.{Table}
+use Rattle.whole.specs.Range.{InRange}
+use Rattle.plan.specs.Fit.{Fit}
+use Rattle.plan.specs.Limits.{farthest}
+use Rattle.plan.specs.Pages.{fair}
+use Rattle.plan.specs.Plan.{Table, Is}
 use Rattle.plan.specs.declared.Page.{Page}
 use Rattle.rules.specs.Placement.{Placement}
 use Rattle.corners.specs.Corners.{left}
@@ -15,6 +19,8 @@ use Rattle.pen.specs.declared.Stroke.the-variants.{Lift}
 use Rattle.pen.specs.Paper.{across, down}
 use Rattle.pen.specs.Strokes.{strokes}
 use Rattle.pen.specs.Orderly.{up, orderly, Lifted}
+use Rattle.pen.specs.Finite.{finite-stroke}
+use Rattle.pen.specs.laws.Finite as finite
 use Rattle.pen.specs.laws.Paper as paper
 use Rattle.pen.specs.laws.Strokes as counted
 use Rattle.pen.specs.laws.Orderly as order
@@ -44,3 +50,8 @@ exact-pos = paper.exact-pos
 
 pub exact-neg : (n : ℕ) → suc n < 2 ^ 53 → HasValue (ofInt binary64 (negsuc n)) true (suc n) 1
 exact-neg = paper.exact-neg
+
+-- each coordinate of a stroke is a number, neither a NaN nor an infinity, where the questions pass table, coordinates and page
+pub strokes-finite : (t : Table) (p : Placement) (g : Page) → Fit t → ((c : ℕ) → Is t c → InRange farthest (p .x c)) → ((c : ℕ) → Is t c → InRange farthest (p .y c)) → T (fair g)
+    → (s : ℕ) → T (finite-stroke (getD (strokes t p g) s Lift))
+strokes-finite = finite.strokes-finite

@@ -36,9 +36,12 @@ B-stroke s = getD (strokes B (placed B-positions) B-page) s Lift
 pub record Rows : Type 0 where
   -- 3 · 0.7 + 0.3: two roundings give ..32; one rounding of the whole (a fused multiply-add) would give ..33
   pub twice-rounded : plotted (pos 3) (ofBits binary64 0x3fe6_6666_6666_6666) (ofBits binary64 0x3fd3_3333_3333_3333) ≡ ofBits binary64 0x4003_3333_3333_3332
-  -- the root's box, from (0, 1) to (4, 2): x counts from −4, y from 0
-  pub first : B-stroke 0 ≡ Move (whole-number 18) (whole-number 2)
-  pub third : B-stroke 2 ≡ Line (whole-number 26) (whole-number 4)
+  -- the root's box, from (0, 1) to (4, 2), clockwise from its upper left corner and back to it: x counts from −4, y from 0
+  pub upper-left : B-stroke 0 ≡ Move (whole-number 18) (whole-number 2)
+  pub upper-right : B-stroke 1 ≡ Line (whole-number 26) (whole-number 2)
+  pub lower-right : B-stroke 2 ≡ Line (whole-number 26) (whole-number 4)
+  pub lower-left : B-stroke 3 ≡ Line (whole-number 18) (whole-number 4)
+  pub closed : B-stroke 4 ≡ Line (whole-number 18) (whole-number 2)
   pub lifts : B-stroke 5 ≡ Lift
   -- the connector to cell 1: from (0 + 2, 1 + 1) to (−4 + 2, 3)
   pub joins : B-stroke 18 ≡ Move (whole-number 22) (whole-number 4)

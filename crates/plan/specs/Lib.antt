@@ -11,4 +11,5 @@ pub mod Trees
 pub mod Fit
 pub mod Near
 pub mod Pages
+pub mod Edges
 pub mod laws

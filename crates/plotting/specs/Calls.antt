@@ -12,10 +12,14 @@ use Rattle.plan.specs.Records.{cells-of}
 use Rattle.plan.specs.declared.Page.{Page}
 use Rattle.plan.specs.declared.Record.{Record}
 use Rattle.rules.specs.Placement.{placed}
+use Rattle.pen.specs.declared.Stroke.{Stroke}
 use Rattle.pen.specs.declared.Stroke.the-variants.{Lift}
 use Rattle.pen.specs.Strokes.{strokes}
+use Rattle.pen.specs.Finite.{finite-stroke}
 use Rattle.strokes.specs.Stroked.{stroked-of}
 use Rattle.strokes.specs.declared.Stroked.the-variants.{Drawn, Refused}
+use Rattle.strokes.specs.Worked.{Rows}
+use Rattle.strokes.specs.laws.Worked as worked
 use Rattle.plotting.specs.laws.Calls as laws
 
 module _ (t : List Record) (ps : List ℤ) (g : Page) (s : ℕ) where
@@ -34,3 +38,11 @@ module _ (t : List Record) (ps : List ℤ) (g : Page) (s : ℕ) where
   -- what is not refused is on a page whose pitch is from 0.25 to 16 and whose margins are from 0 to 100, and s is the number of one of its strokes
   pub stroke-asks : refusal stroke (stroke-given cells ps g s) ≡ none → T (fair g) × (s < length (strokes cells (placed ps) g)) × (s < 9 * length t - 3)
   stroke-asks = laws.stroke-asks t ps g s
+
+  -- what is drawn has numbers for coordinates: no NaN, no infinity
+  pub stroke-finite : (d : Stroke) → stroked-of cells ps g s ≡ Drawn d → T (finite-stroke d)
+  stroke-finite = laws.stroke-finite t ps g s
+
+-- Strokes by hand, the questions included.
+pub stroke-worked : Rows
+stroke-worked = worked.worked

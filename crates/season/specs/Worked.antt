@@ -5,7 +5,7 @@ use Prim.Native.Nat.{ℕ}
 use Rattle.season.specs.declared.Report.{Report}
 use Rattle.season.specs.declared.Reported.the-variants.{Figures, Refused}
 use Rattle.season.specs.Report.{Figure, report, nothing}
-use Rattle.season.specs.Pool.{pool, folder}
+use Rattle.season.specs.Pool.{pool, folder, Files}
 
 abbrev pub A : Figure
 A = record { cells = 1; width = 5; rows = 2 }
@@ -20,6 +20,10 @@ C = record { cells = 4; width = 11; rows = 4 }
 abbrev pub made-up : (plans cells widths areas others : ℕ) → Report
 made-up p c w a o = record { plans = p; cells = c; widths = w; areas = a; least = o; greatest = o; mean = o; rest = o }
 
+-- a report of no plan that somebody made up: its other seven figures
+abbrev pub no-plan : (cells widths areas least greatest mean rest : ℕ) → Report
+no-plan c w a l g m r = record { plans = 0; cells = c; widths = w; areas = a; least = l; greatest = g; mean = m; rest = r }
+
 pub record Rows : Type 0 where
   pub three : report (A ∷ B ∷ C ∷ []) ≡ record { plans = 3; cells = 8; widths = 25; areas = 90; least = 5; greatest = 11; mean = 8; rest = 1 }
   pub two-and-one : pool (report (B ∷ C ∷ [])) (report (A ∷ [])) ≡ Figures (report (A ∷ B ∷ C ∷ []))
@@ -28,9 +32,18 @@ pub record Rows : Type 0 where
   pub widths-past : pool (made-up 1024 262144 268434433 68719214592 9) nothing ≡ Refused 22 0
   pub areas-past : pool (made-up 1024 262144 268434432 68719214593 9) nothing ≡ Refused 22 0
   pub plans-past : pool (made-up 1025 0 0 0 0) nothing ≡ Refused 22 0
-  pub no-plan : pool (made-up 1 0 0 0 0) (record { plans = 0; cells = 0; widths = 0; areas = 0; least = 0; greatest = 0; mean = 0; rest = 1 }) ≡ Refused 22 0
+  -- no plan, and one figure that is not 0: each of the seven
+  pub no-cells : pool (made-up 1 0 0 0 0) (no-plan 1 0 0 0 0 0 0) ≡ Refused 22 0
+  pub no-widths : pool (made-up 1 0 0 0 0) (no-plan 0 1 0 0 0 0 0) ≡ Refused 22 0
+  pub no-areas : pool (made-up 1 0 0 0 0) (no-plan 0 0 1 0 0 0 0) ≡ Refused 22 0
+  pub no-least : pool (made-up 1 0 0 0 0) (no-plan 0 0 0 1 0 0 0) ≡ Refused 22 0
+  pub no-greatest : pool (made-up 1 0 0 0 0) (no-plan 0 0 0 0 1 0 0) ≡ Refused 22 0
+  pub no-mean : pool (made-up 1 0 0 0 0) (no-plan 0 0 0 0 0 1 0) ≡ Refused 22 0
+  pub no-rest : pool (made-up 1 0 0 0 0) (no-plan 0 0 0 0 0 0 1) ≡ Refused 22 0
+  pub no-figure : pool (made-up 1 0 0 0 0) (no-plan 0 0 0 0 0 0 0) ≡ Figures (made-up 1 0 0 0 0)
   pub halves : pool (made-up 512 0 0 0 0) (made-up 512 0 0 0 0) ≡ Figures (made-up 1024 0 0 0 0)
   pub one-more : pool (made-up 512 0 0 0 0) (made-up 513 0 0 0 0) ≡ Refused 4 0
   pub both : pool (made-up 1024 0 0 0 0) (made-up 1025 0 0 0 0) ≡ Refused 22 0
   -- a folder of three files, of which the second is refused
   pub in-turn : folder (Figures (report (A ∷ [])) ∷ Refused 4 0 ∷ Figures (report (B ∷ [])) ∷ []) ≡ Figures (report (A ∷ B ∷ []))
+  pub files : Files (Figures (report (A ∷ [])) ∷ Refused 4 0 ∷ Figures (report (B ∷ [])) ∷ []) (A ∷ B ∷ [])

@@ -1,2 +1,3 @@
 pub mod Transcript
+pub mod Examples
 pub mod laws

@@ -44,12 +44,13 @@ module _ (x y : Float) (e : y ≡ scaled x) where
   unfolding thousandths
   not-high a b = rw (← e, a, b) refl
 
--- ---- worked: 12.3456 is `12.346`, 0.25 is `0.250`, 4194388 is `4194388.000`, −0 is `0.000`
+-- ---- worked: 12.3456 is `12.346`, 0.25 is `0.250`, −0 is `0.000`; and the double next to 0.0045, which lies below it, is `0.005`
 pub record Rows : Type 0 where
   pub rounded : millimetres (ofBits binary64 0x4028_b0f2_7bb2_fec5) ≡ 49 ∷ 50 ∷ 46 ∷ 51 ∷ 52 ∷ 54 ∷ []
   pub quarter : millimetres (ofBits binary64 0x3fd0_0000_0000_0000) ≡ 48 ∷ 46 ∷ 50 ∷ 53 ∷ 48 ∷ []
   pub nought : millimetres (ofBits binary64 0x8000_0000_0000_0000) ≡ 48 ∷ 46 ∷ 48 ∷ 48 ∷ 48 ∷ []
+  pub rounded-twice : millimetres (ofBits binary64 0x3f72_6e97_8d4f_df3b) ≡ 48 ∷ 46 ∷ 48 ∷ 48 ∷ 53 ∷ []
 
 pub rows : Rows
 unfolding millimetres thousandths scaled fixed decimal digits ofBits ofFields add mul sum round units odd size span climb trailingZeros lt toUnsigned
-rows = record { rounded = refl; quarter = refl; nought = refl }
+rows = record { rounded = refl; quarter = refl; nought = refl; rounded-twice = refl }

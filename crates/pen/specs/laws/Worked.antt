@@ -13,4 +13,4 @@ use Rattle.pen.specs.Worked.{B, B-positions, B-page, Rows}
 
 pub rows : Rows
 unfolding B B-positions B-page strokes each from cells left best placed box-strokes connector-strokes from-end-to-end joined half move line across down right base parent W D blank plotted ofInt add mul sum round units odd size span climb ofBits ofFields trailingZeros
-rows = record { twice-rounded = refl; first = refl; third = refl; lifts = refl; joins = refl; ends = refl }
+rows = record { twice-rounded = refl; upper-left = refl; upper-right = refl; lower-right = refl; lower-left = refl; closed = refl; lifts = refl; joins = refl; ends = refl }

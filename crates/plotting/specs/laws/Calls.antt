@@ -13,8 +13,10 @@ use Rattle.plan.specs.declared.Page.{Page}
 use Rattle.plan.specs.declared.Record.{Record}
 use Rattle.plan.specs.declared.Refusal.{Refusal}
 use Rattle.rules.specs.Placement.{placed}
+use Rattle.pen.specs.declared.Stroke.{Stroke}
 use Rattle.pen.specs.declared.Stroke.the-variants.{Lift}
 use Rattle.pen.specs.Strokes.{strokes}
+use Rattle.pen.specs.Finite.{finite-stroke}
 use Rattle.pen.specs.laws.Strokes.{strokes-length}
 use Rattle.strokes.specs.Stroked.{stroked-of}
 use Rattle.strokes.specs.laws.Stroked.{passed}
@@ -37,3 +39,6 @@ module _ (t : List Record) (ps : List ℤ) (g : Page) (s : ℕ) where
       let e = strokes-length (cells-of t) (placed ps) g (h .fit .some-cell) in
       let m : length (cells-of t) ≡ length t = length-map t bare in
       (h .page, omega arith, omega arith)
+
+  pub stroke-finite : (d : Stroke) → stroked-of (cells-of t) ps g s ≡ Drawn d → T (finite-stroke d)
+  stroke-finite = promised.finite (cells-of t) ps g s
