@@ -12,12 +12,14 @@ use lib.Signed.{_≤ℤ_, _<ℤ_}
 use Rattle.plan.specs.Limits.{most-cells, scratch-size, most-file, most-allowance, lines-size}
 use Rattle.plan.specs.Plan.{Table, Is, parent, W, D}
 use Rattle.plan.specs.Records.{cells-of}
-use Rattle.plan.specs.Questions.{Call, Given, layout, check, ends, list, frame, none, sequence, refusal, layout-given, check-given, ends-given, list-given, frame-given, drill, drill-given}
+use Rattle.plan.specs.Questions.{Call, Given, layout, check, ends, list, frame, none, kept, sequence, refusal, layout-given, check-given, ends-given, list-given, frame-given, drill, drill-given}
 use Rattle.plan.specs.declared.Record.{Record}
 use Rattle.rules.specs.Placement.{Placement, placed, width}
 use Rattle.rules.specs.Rules.{Keeps}
 use Rattle.rules.specs.Verdict.{Breaks}
 use Rattle.contours.specs.Sheet.{sheet}
+use Rattle.plan.specs.Order as order
+use Rattle.plan.specs.laws.Order as order-laws
 use Rattle.least.specs.Refusals.{YesSteps}
 use Rattle.least.specs.laws.FirstNo as first
 use Rattle.least.specs.FirstNo.{FirstNo}
@@ -106,6 +108,8 @@ use Rattle.rules.specs.Placement.{left-extent, right-extent}
 use Rattle.graft.specs.Joined.{joined, joined-records}
 use Rattle.graft.specs.Sequence.{join-sequence, join-refusal}
 use Rattle.graft.specs.FirstNo.{YesAll, JoinFirstNo}
+use Rattle.graft.specs.Order as join-order
+use Rattle.graft.specs.laws.Order as join-order-laws
 use Rattle.graft.specs.Theorems as grafts
 use Rattle.graft.specs.Worked as joins
 use Rattle.graft.specs.laws.Worked as joins-laws
@@ -140,8 +144,15 @@ pub first-no : (call : Call) (g : Given) (k c : ℕ) → 1 ≤ k → (refusal ca
 first-no = first.first-no
 
 -- There is none exactly where there is no "no".
-pub no-no : (call : Call) (g : Given) → (refusal call g ≡ none) ↔ YesSteps call g sequence
+pub no-no : (call : Call) (g : Given) → (refusal call g ≡ none) ↔ YesSteps g (kept call sequence)
 no-no = first.no-no
+
+-- The numbers that each call puts, in their order: a row a call, to be held against the papers. A call is refused by a number of its row only.
+pub asks-in-order : order.Rows
+asks-in-order = order-laws.rows
+
+pub refused-in-row : (call : Call) (g : Given) → ¬ (refusal call g .number ≡ 0) → T (mem (refusal call g .number) (order.asks call g))
+refused-in-row = order-laws.refused-in-row
 
 -- Nothing lies between a result and a refusal: a refusal of number 0 is none, so that of every call either what it gives or what it refuses is said below, and never both.
 pub number-none : (call : Call) (g : Given) → refusal call g .number ≡ 0 → refusal call g ≡ none
@@ -410,6 +421,10 @@ join-first-no = grafts.join-first-no
 
 pub join-no-no : (room : ℕ) (t u : Table) (c : ℕ) → (join-refusal room t u c ≡ none) ↔ YesAll room t u c join-sequence
 join-no-no = grafts.join-no-no
+
+-- Its numbers in their order, each with the table that it is put to.
+pub join-asks-in-order : join-order.Rows
+join-asks-in-order = join-order-laws.rows
 
 -- As of the other calls, nothing lies between.
 pub join-number-none : (room : ℕ) (t u : Table) (c : ℕ) → join-refusal room t u c .number ≡ 0 → join-refusal room t u c ≡ none

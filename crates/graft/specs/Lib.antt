@@ -1,6 +1,7 @@
 pub mod Joined
 pub mod Placed
 pub mod Sequence
+pub mod Order
 pub mod FirstNo
 pub mod Theorems
 pub mod Worked

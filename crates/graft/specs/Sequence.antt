@@ -1,10 +1,10 @@
 -- THE QUESTIONS OF A JOIN (document 02, E10): "1, 4 and 6 to 8 apply to the first table, then to the second (cells by its own numbers), 16 to the cell,
--- then 4 and 11 to 13 to the joined one". A sequence of its own, in the shape of plan's, with the table that each step is put to. Every definition
--- computes. Assumes nothing.
+-- then 4 and 11 to 13 to the joined one". A sequence of its own, in the shape of plan's, with the table that each step is put to: Join's questions stand
+-- here and nowhere else. Every definition computes. Assumes nothing.
 use mathlib.Core.List.{List, [], _∷_}
 use Prim.Native.Nat.{ℕ}
 use Rattle.plan.specs.Plan.{Table}
-use Rattle.plan.specs.Questions.{Given, lent, to-fill, absent, named, Step, once, each, buffers-long, cells-counted, parent-lower, kind-known, box-sized, children-allowed, level-low, rows-few, cell-named, join, none, or-else, take-step}
+use Rattle.plan.specs.Questions.{Given, lent, to-fill, absent, named, Step, once, each, buffers-long, cells-counted, parent-lower, kind-known, box-sized, children-allowed, level-low, rows-few, cell-named, none, or-else, take-step}
 use Rattle.plan.specs.declared.Refusal.{Refusal}
 use Rattle.graft.specs.Joined.{joined}
 
@@ -42,7 +42,7 @@ module _ (room : ℕ) (t u : Table) (c : ℕ) where
       record { source = lent; table = table-asked w; allowance = 0; buffers = to-fill room ∷ []; positions = absent; coordinates = []; subject = named c }
 
   unfoldable pub ask-one : Asks → Refusal
-  ask-one (of w s) = take-step join (join-given w) s
+  ask-one (of w s) = take-step (join-given w) s
 
   unfoldable pub ask-all : List Asks → Refusal
   ask-all [] = none

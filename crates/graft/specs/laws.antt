@@ -4,6 +4,7 @@ pub mod Hung
 pub mod Joined
 pub mod Laid
 pub mod Lists
+pub mod Order
 pub mod Paths
 pub mod Placed
 pub mod Reaches

@@ -4,16 +4,15 @@ use mathlib.Core.List.{List, [], _∷_, _++_}
 use Prim.Native.Nat.{ℕ, _<_}
 use lib.Dec.{T}
 use Rattle.plan.specs.Plan.{Is}
-use Rattle.plan.specs.Questions as asked
-use Rattle.plan.specs.Questions.{Call, Given, Question, Step, once, each, number, sequence}
-use Rattle.least.specs.Refusals.{Put, Yes, YesSteps}
+use Rattle.plan.specs.Questions.{Call, Given, Question, Step, once, each, number, sequence, kept, holds}
+use Rattle.least.specs.Refusals.{Yes, YesSteps}
 
 -- the questions of a step, in turn
 abbrev pub questions : Step → List Question
 questions (once q) = q ∷ []
 questions (each qs) = qs
 
-module _ (call : Call) (g : Given) where
+module _ (g : Given) where
   -- the cells that a step is put to: 0, where no cell is concerned; or each of the table
   abbrev pub PutTo : Step → ℕ → Type 0
   PutTo (once q) c = c ≡ 0
@@ -30,17 +29,16 @@ module _ (call : Call) (g : Given) where
     pub question : Question
     pub after : List Question
     pub place : questions step ≡ before ++ (question ∷ after)
-    -- it has this number, the call puts it, to this cell, and the answer is no
+    -- it has this number, it is put to this cell, and the answer is no
     pub numbered : number question ≡ k
-    pub put : Put call g question
     pub put-to : PutTo step c
-    pub no : ¬ T (asked.holds call g question c)
-    -- every question that the call puts is answered yes: of the earlier steps, at every cell; of this step, at every lower cell; and
+    pub no : ¬ T (holds g question c)
+    -- every question before it is answered yes: of the earlier steps, at every cell; of this step, at every lower cell; and
     -- at this cell, those before it
-    pub earlier-yes : YesSteps call g earlier
-    pub lower-yes : (c′ : ℕ) → c′ < c → Yes call g (questions step) c′
-    pub before-yes : Yes call g before c
+    pub earlier-yes : YesSteps g earlier
+    pub lower-yes : (c′ : ℕ) → c′ < c → Yes g (questions step) c′
+    pub before-yes : Yes g before c
 
-  -- in the sequence
-  abbrev pub FirstNo : ℕ → ℕ → Type 0
-  FirstNo = FirstNoOf sequence
+-- of the questions that a call puts, in the sequence's order
+abbrev pub FirstNo : Call → Given → ℕ → ℕ → Type 0
+FirstNo call g = FirstNoOf g (kept call sequence)

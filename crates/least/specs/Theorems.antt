@@ -19,8 +19,10 @@ use Rattle.contours.specs.Sheet.{sheet}
 use Rattle.least.specs.Alike.{Alike, Twins, Twin}
 use Rattle.least.specs.Worked.{sheets, computed}
 use Rattle.least.specs.NoLess.{NoLess}
+use Rattle.least.specs.Pair as pair
 use Rattle.least.specs.laws.Theorems as laws
 use Rattle.least.specs.laws.Twins as twins
+use Rattle.least.specs.laws.Pair as pair-laws
 
 module _ (t : Table) (some-cell : 1 ≤ length t) (sound : Sound t) (al : ℕ) where
   -- 1. Our sheet keeps S1 to S5.
@@ -80,3 +82,7 @@ alike-whole = twins.whole
 
 pub twins-back : (t u : Table) (a b c d : ℕ) → Twins t u (a ∷ []) (b ∷ []) c d → Twins u t (b ∷ []) (a ∷ []) d c
 twins-back t u a b c d = twins.twins-turned
+
+-- 12. Two subtrees are alike though their ranks and their places in the file differ: a worked pair.
+pub alike-pair : pair.Rows
+alike-pair = pair-laws.rows

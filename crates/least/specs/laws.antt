@@ -13,6 +13,7 @@ pub mod Grown
 pub mod Kept
 pub mod Measures
 pub mod Natural
+pub mod Pair
 pub mod Reached
 pub mod Refusals
 pub mod Rim

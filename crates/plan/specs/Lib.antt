@@ -6,6 +6,7 @@ pub mod Kinds
 pub mod Records
 pub mod Columns
 pub mod Questions
+pub mod Order
 pub mod Steps
 pub mod Trees
 pub mod Fit

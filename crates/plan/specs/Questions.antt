@@ -31,11 +31,11 @@ pub data Lent : Type 0 where
   absent : Lent
   long : ℕ → Lent
 
--- what a call is asked about besides: a cell that is named; a frame of so many squares; a page and the number of a stroke on it; so many answer bytes;
+-- what a call is asked about besides: a cell that is named; one that is named as a child, so that it is not the root (Ends); a frame of so many squares; a page and the number of a stroke on it; so many answer bytes;
 -- the cells that are finished so far and, of them or not, the cell whose reach is asked for (E9)
 pub data Subject : Type 0 where
   nothing : Subject
-  named squares : ℕ → Subject
+  named named-child squares : ℕ → Subject
   stroked : Page → ℕ → Subject
   answer-bytes : ℕ → Subject
   reach-of : (finished : List ℕ) → ℕ → Subject
@@ -138,14 +138,13 @@ sequence =
     ∷ once stroke-numbered
     ∷ []
 
--- ---- the calls
+-- ---- the calls, but for Join, which asks three tables in a sequence of its own (crate graft)
 pub data Call : Type 0 where
   read label layout check ends list frame : Call
   copy : Call
   mend : Call
   stroke : Call
   strip : Call
-  join : Call
   drill : Call
   start step reach : Call
   report : Call
@@ -165,33 +164,27 @@ puts copy = 1 ∷ from 4 11
 puts mend = from 1 14
 puts stroke = 1 ∷ 4 ∷ 6 ∷ 7 ∷ 8 ∷ 11 ∷ 12 ∷ 13 ∷ 15 ∷ 17 ∷ 18 ∷ []
 puts strip = 1 ∷ 4 ∷ 6 ∷ 7 ∷ 8 ∷ 11 ∷ 12 ∷ 13 ∷ 15 ∷ []
--- of three tables, in a sequence of their own (crate graft)
-puts join = 1 ∷ 4 ∷ 6 ∷ 7 ∷ 8 ∷ 11 ∷ 12 ∷ 13 ∷ 16 ∷ []
 puts drill = 1 ∷ 4 ∷ 6 ∷ 7 ∷ 8 ∷ 11 ∷ 12 ∷ 13 ∷ 21 ∷ []
 puts start = 1 ∷ 4 ∷ 6 ∷ 7 ∷ 8 ∷ 11 ∷ 12 ∷ 13 ∷ 14 ∷ []
 puts step = 1 ∷ 4 ∷ 6 ∷ 7 ∷ 8 ∷ 11 ∷ 12 ∷ 13 ∷ 14 ∷ []
 puts reach = 1 ∷ 4 ∷ 6 ∷ 7 ∷ 8 ∷ 11 ∷ 12 ∷ 13 ∷ 14 ∷ 16 ∷ 20 ∷ []
 puts report = from 1 14
 
--- whether the root may be named
-unfoldable pub root-too : Call → Bool
-root-too ends = false
-root-too read = true
-root-too label = true
-root-too layout = true
-root-too check = true
-root-too list = true
-root-too frame = true
-root-too copy = true
-root-too mend = true
-root-too stroke = true
-root-too strip = true
-root-too join = true
-root-too drill = true
-root-too start = true
-root-too step = true
-root-too reach = true
-root-too report = true
+-- those of the questions that a call puts
+unfoldable pub put : Call → List Question → List Question
+put call [] = []
+put call (q ∷ qs) = let r = put call qs in cond (mem (number q) (puts call)) (q ∷ r) r
+
+-- a step that is put to each cell, if a question is left in it
+unfoldable pub with-each : List Question → List Step → List Step
+with-each [] ss = ss
+with-each (q ∷ qs) ss = each (q ∷ qs) ∷ ss
+
+-- the steps with the questions that a call puts, and no others
+unfoldable pub kept : Call → List Step → List Step
+kept call [] = []
+kept call (once q ∷ ss) = let r = kept call ss in cond (mem (number q) (puts call)) (once q ∷ r) r
+kept call (each qs ∷ ss) = with-each (put call qs) (kept call ss)
 
 -- ---- what each question asks
 unfoldable pub roomy : Buffer → Bool
@@ -250,19 +243,21 @@ sized m w d = between 1 m w && between 1 most-depth d
 unfoldable pub near : ℤ → Bool
 near z = in-range farthest z
 
--- question 16: is cell c one of n, and not the root where the root may not be named
-unfoldable pub in-table : (root : Bool) → (n : ℕ) → Subject → Bool
-in-table root n nothing = true
-in-table root n (named c) = ltb c n && cond root true (ltb 0 c)
-in-table root n (squares f) = true
-in-table root n (stroked g s) = true
-in-table root n (answer-bytes a) = true
-in-table root n (reach-of finished c) = ltb c n && cond root true (ltb 0 c)
+-- question 16: is cell c one of n, and not the root where a child is named
+unfoldable pub in-table : (n : ℕ) → Subject → Bool
+in-table n nothing = true
+in-table n (named c) = ltb c n
+in-table n (named-child c) = ltb c n && ltb 0 c
+in-table n (squares f) = true
+in-table n (stroked g s) = true
+in-table n (answer-bytes a) = true
+in-table n (reach-of finished c) = ltb c n
 
 -- question 19 (document 02, E2): is the frame not 0
 unfoldable pub framed : Subject → Bool
 framed nothing = true
 framed (named c) = true
+framed (named-child c) = true
 framed (squares f) = leb 1 f
 framed (stroked g s) = true
 framed (answer-bytes a) = true
@@ -272,6 +267,7 @@ framed (reach-of finished c) = true
 unfoldable pub on-page : Subject → Bool
 on-page nothing = true
 on-page (named c) = true
+on-page (named-child c) = true
 on-page (squares f) = true
 on-page (stroked g s) = fair g
 on-page (answer-bytes a) = true
@@ -285,6 +281,7 @@ strokes-of n = 9 * n - 3
 unfoldable pub numbered : (n : ℕ) → Subject → Bool
 numbered n nothing = true
 numbered n (named c) = true
+numbered n (named-child c) = true
 numbered n (squares f) = true
 numbered n (stroked g s) = ltb s (strokes-of n)
 numbered n (answer-bytes a) = true
@@ -294,6 +291,7 @@ numbered n (reach-of finished c) = true
 unfoldable pub answerable : Subject → Bool
 answerable nothing = true
 answerable (named c) = true
+answerable (named-child c) = true
 answerable (squares f) = true
 answerable (stroked g s) = true
 answerable (answer-bytes a) = leb a most-answers
@@ -303,12 +301,13 @@ answerable (reach-of finished c) = true
 unfoldable pub finished-at : Subject → ℕ → Bool
 finished-at nothing c = true
 finished-at (named x) c = true
+finished-at (named-child x) c = true
 finished-at (squares f) c = true
 finished-at (stroked g s) c = true
 finished-at (answer-bytes a) c = true
 finished-at (reach-of finished x) c = cond (eqb c x) (mem c finished) true
 
-module _ (call : Call) (g : Given) where
+module _ (g : Given) where
   -- the answer, at cell c where the question is put to each cell
   unfoldable pub holds : Question → ℕ → Bool
   holds buffers-long c = all-roomy (g .buffers)
@@ -331,7 +330,7 @@ module _ (call : Call) (g : Given) where
   holds frame-wide c = framed (g .subject)
   holds allowance-small c = leb (g .allowance) most-allowance
   holds coordinates-near c = near (getD (g .coordinates) (2 * c) (pos 0)) && near (getD (g .coordinates) (2 * c + 1) (pos 0))
-  holds cell-named c = in-table (root-too call) (length (g .table)) (g .subject)
+  holds cell-named c = in-table (length (g .table)) (g .subject)
   holds page-fair c = on-page (g .subject)
   holds stroke-numbered c = numbered (length (g .table)) (g .subject)
   holds answers-few c = answerable (g .subject)
@@ -355,26 +354,26 @@ unfoldable pub at-each : (ℕ → Refusal) → ℕ → ℕ → Refusal
 at-each f k zero = none
 at-each f k (suc d) = let r = at-each f (suc k) d in or-else (f k) r
 
-module _ (call : Call) (g : Given) where
+module _ (g : Given) where
   unfoldable pub ask : Question → ℕ → Refusal
-  ask q c = asked (number q) (holds call g q c) c
+  ask q c = asked (number q) (holds g q c) c
 
-  -- those of the questions that the call puts
+  -- the first of these questions, at cell c
   unfoldable pub ask-all : List Question → ℕ → Refusal
   ask-all [] c = none
-  ask-all (q ∷ qs) c = let r = ask-all qs c in cond (mem (number q) (puts call)) (or-else (ask q c) r) r
+  ask-all (q ∷ qs) c = let r = ask-all qs c in or-else (ask q c) r
 
   unfoldable pub take-step : Step → Refusal
-  take-step (once q) = ask-all (q ∷ []) 0
+  take-step (once q) = ask q 0
   take-step (each qs) = at-each (ask-all qs) 0 (length (g .table))
 
   unfoldable pub take-steps : List Step → Refusal
   take-steps [] = none
   take-steps (s ∷ ss) = let r = take-steps ss in or-else (take-step s) r
 
-  -- THE refusal of a call
-  unfoldable pub refusal : Refusal
-  refusal = take-steps sequence
+-- THE refusal of a call: the first "no" of the questions that it puts, in the sequence's order
+unfoldable pub refusal : Call → Given → Refusal
+refusal call g = take-steps g (kept call sequence)
 
 -- ---- what the calls on a lent table are given
 unfoldable pub layout-given : Table → (allowance scratch positions : ℕ) → Given
@@ -387,7 +386,7 @@ check-given t al ps =
 
 unfoldable pub ends-given : Table → (positions : List ℤ) → (named : ℕ) → Given
 ends-given t ps c =
-    record { source = lent; table = t; allowance = 0; buffers = []; positions = long (length ps); coordinates = ps; subject = named c }
+    record { source = lent; table = t; allowance = 0; buffers = []; positions = long (length ps); coordinates = ps; subject = named-child c }
 
 -- what a listing is given, of which a question asks: an output of so many bytes
 unfoldable pub list-given : (output : ℕ) → Given

@@ -7,6 +7,7 @@ pub mod Kept
 pub mod Kinds
 pub mod Lists
 pub mod Near
+pub mod Order
 pub mod Pages
 pub mod Paths
 pub mod Plan

@@ -26,10 +26,10 @@ example =
 
 -- the four lines
 pub printed-example : text-of example ≡ 115 ∷ 104 ∷ 101 ∷ 101 ∷ 116 ∷ 32 ∷ 51 ∷ 32 ∷ 48 ∷ 32 ∷ 57 ∷ 32 ∷ 52 ∷ 10 ∷ 48 ∷ 32 ∷ 48 ∷ 32 ∷ 48 ∷ 32 ∷ 52 ∷ 32 ∷ 49 ∷ 32 ∷ 85 ∷ 112 ∷ 10 ∷ 49 ∷ 32 ∷ 45 ∷ 52 ∷ 32 ∷ 50 ∷ 32 ∷ 51 ∷ 32 ∷ 49 ∷ 32 ∷ 65 ∷ 10 ∷ 50 ∷ 32 ∷ 48 ∷ 32 ∷ 50 ∷ 32 ∷ 53 ∷ 32 ∷ 49 ∷ 32 ∷ 82 ∷ 117 ∷ 110 ∷ 10 ∷ []
-unfolding example text-of printed.lines-joined listing-of first-line cell-of reading.reading-of reading.columns-of reading.column reading.label-part reading.label-refusal fields.pair fields.number-at fields.parent-place fields.kind-place fields.width-place fields.depth-place fields.length-place fields.rank-place fields.start-place fields.begin-place fields.count-place fields.allowance-place fields.mark-place format.trailer-of format.record-at format.entry format.records-of format.file-given printed.digits printed.decimal printed.signed printed.line printed.sheet-line printed.label-field printed.cell-line records.bare records.cells-of columns.table asked.every asked.root-too asked.in-table lists.index lists.from lists.keep lists.insert lists.sort lists.some lists.mem lists.ahead-in lists.heads lists.next-in lists.total plan.blank plan.parent plan.kind plan.W plan.D plan.rank plan.cells plan.filed plan.children plan.child plan.appointed plan.climb plan.path plan.within plan.subtree plan.row plan.ahead plan.next plan.earlier placement.best placement.right placement.base placement.bottom placement.width placement.rows contour.greatest contour.cover contour.clash contour.separation contour.stride contour.offset contour.lefts contour.rights contour.contour ours.middle ours.around ours.trace ours.contours ours.shift ours.along ours.column ours.sheet refusal asked.take-steps asked.take-step asked.sequence asked.ask-all asked.ask asked.at-each asked.holds asked.puts asked.number asked.roomy asked.all-roomy asked.enough asked.in-file asked.on-labels asked.lower asked.sized asked.asked asked.or-else kinds.about kinds.known kinds.allows kinds.bordered plan.level forms.marked forms.form-of forms.record-size forms.widest asked.widest-in
+unfolding example text-of printed.lines-joined listing-of first-line cell-of reading.reading-of reading.columns-of reading.column reading.label-part reading.label-refusal fields.pair fields.number-at fields.parent-place fields.kind-place fields.width-place fields.depth-place fields.length-place fields.rank-place fields.start-place fields.begin-place fields.count-place fields.allowance-place fields.mark-place format.trailer-of format.record-at format.entry format.records-of format.file-given printed.digits printed.decimal printed.signed printed.line printed.sheet-line printed.label-field printed.cell-line records.bare records.cells-of columns.table asked.every asked.in-table lists.index lists.from lists.keep lists.insert lists.sort lists.some lists.mem lists.ahead-in lists.heads lists.next-in lists.total plan.blank plan.parent plan.kind plan.W plan.D plan.rank plan.cells plan.filed plan.children plan.child plan.appointed plan.climb plan.path plan.within plan.subtree plan.row plan.ahead plan.next plan.earlier placement.best placement.right placement.base placement.bottom placement.width placement.rows contour.greatest contour.cover contour.clash contour.separation contour.stride contour.offset contour.lefts contour.rights contour.contour ours.middle ours.around ours.trace ours.contours ours.shift ours.along ours.column ours.sheet refusal asked.take-steps asked.take-step asked.put asked.with-each asked.kept asked.sequence asked.ask-all asked.ask asked.at-each asked.holds asked.puts asked.number asked.roomy asked.all-roomy asked.enough asked.in-file asked.on-labels asked.lower asked.sized asked.asked asked.or-else kinds.about kinds.known kinds.allows kinds.bordered plan.level forms.marked forms.form-of forms.record-size forms.widest asked.widest-in
 printed-example = refl
 
 -- a file of 15 bytes: `refused 2 0`
 pub printed-refusal : text-of (32 ∷ 32 ∷ 32 ∷ 32 ∷ 32 ∷ 32 ∷ 32 ∷ 32 ∷ 32 ∷ 32 ∷ 32 ∷ 32 ∷ 32 ∷ 32 ∷ 32 ∷ []) ≡ 114 ∷ 101 ∷ 102 ∷ 117 ∷ 115 ∷ 101 ∷ 100 ∷ 32 ∷ 50 ∷ 32 ∷ 48 ∷ 10 ∷ []
-unfolding text-of printed.lines-joined listing-of reading.reading-of reading.columns-of fields.pair fields.number-at fields.parent-place fields.kind-place fields.width-place fields.depth-place fields.length-place fields.rank-place fields.start-place fields.begin-place fields.count-place fields.allowance-place fields.mark-place format.trailer-of forms.marked forms.form-of forms.record-size forms.widest format.record-at format.entry format.records-of format.file-given printed.digits printed.decimal printed.line printed.refused-line refusal asked.take-steps asked.take-step asked.sequence asked.ask-all asked.ask asked.at-each asked.holds asked.puts asked.number asked.roomy asked.all-roomy asked.enough asked.in-file asked.on-labels asked.asked asked.or-else lists.from lists.mem lists.some
+unfolding text-of printed.lines-joined listing-of reading.reading-of reading.columns-of fields.pair fields.number-at fields.parent-place fields.kind-place fields.width-place fields.depth-place fields.length-place fields.rank-place fields.start-place fields.begin-place fields.count-place fields.allowance-place fields.mark-place format.trailer-of forms.marked forms.form-of forms.record-size forms.widest format.record-at format.entry format.records-of format.file-given printed.digits printed.decimal printed.line printed.refused-line refusal asked.take-steps asked.take-step asked.put asked.with-each asked.kept asked.sequence asked.ask-all asked.ask asked.at-each asked.holds asked.puts asked.number asked.roomy asked.all-roomy asked.enough asked.in-file asked.on-labels asked.asked asked.or-else lists.from lists.mem lists.some
 printed-refusal = refl

@@ -1,4 +1,5 @@
 pub mod Machine
+pub mod Stretch
 pub mod Turns
 pub mod Walked
 pub mod Preorder

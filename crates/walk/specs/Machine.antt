@@ -4,7 +4,7 @@ use mathlib.Core.List.{List, [], _∷_, _++_}
 use Prim.Native.Nat.{ℕ, zero, suc, _+_, _*_, _≤_, _<_}
 use lib.ListN.{length, getD, take, drop}
 use Rattle.plan.specs.Limits.{most-cells, last-row}
-use Rattle.rows.specs.Rows.{row-size, Low, box-to}
+use Rattle.rows.specs.Rows.{row-size, extent, Low, box-to}
 use Rattle.joining.specs.Joining.{Memory, memory-of, height, joined-rows, completed, Completing, Settling, finished}
 use Rattle.links.specs.Links.{link}
 
@@ -60,6 +60,12 @@ closed b level f c m =
     let n = stretch-rows b f c (m .marks) in
     let j = joined-in b level f c (stretch (m .rows) (top b c) n) (m .marks) in
     memory-of (with-stretch (m .rows) (top b c) n (j .rows)) (j .marks)
+
+-- what closing c leaves of the scratch xs: every row above the stretch, which begins with the top row of c, and every row below it is as it was
+pub record OnlyStretch (b : Chart) (f c : ℕ) (xs ms ys : List ℕ) : Type 0 where
+  pub same-length : length ys ≡ length xs
+  pub above : (q k : ℕ) → k < row-size → q < top b c → extent ys q k ≡ extent xs q k
+  pub below : (q k : ℕ) → k < row-size → top b c + stretch-rows b f c ms ≤ q → extent ys q k ≡ extent xs q k
 
 -- the root is closed, and its rows are cleared
 unfoldable pub root-closed : Memory → ℕ → ℕ → Memory

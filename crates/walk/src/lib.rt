@@ -17,7 +17,7 @@ ghost use Rattle.links.specs.Links.{link};
 ghost use Rattle.joining.specs.Joining.{«memory-of», finished};
 ghost use Rattle.walk.specs.Walked.{Walking, Walked};
 ghost use Rattle.walk.specs.Opened.{Visited, Begins, Descends, Underway, Onward};
-ghost use Rattle.walk.specs.Machine.{Finishing, Rooting, root-closed, chart, step, Closing, closed, Turning};
+ghost use Rattle.walk.specs.Machine.{Finishing, Rooting, root-closed, chart, step, Closing, closed, OnlyStretch, Turning};
 ghost use Rattle.walk.specs.Turns.{stack-of, state-of};
 ghost use Rattle.walk.specs.Falls.{Falls, fallen, down};
 
@@ -86,6 +86,7 @@ pub fn close(
 )
     requires { ⌜ Closing (chart (now links) (now widths) (now depths) (now tops) allowance) level f c (now rows) (now marks) ⌝ }
     ensures { λ _. ⌜ memory-of (now (rows .exit)) (now (marks .exit)) ≡ closed (chart (now (links .entry)) (now (widths .entry)) (now (depths .entry)) (now (tops .entry)) allowance) level f c (memory-of (now (rows .entry)) (now (marks .entry))) ⌝ }
+    ensures { λ _. ⌜ OnlyStretch (chart (now (links .entry)) (now (widths .entry)) (now (depths .entry)) (now (tops .entry)) allowance) f c (now (rows .entry)) (now (marks .entry)) (now (rows .exit)) ⌝ }
 {
     let d = number(depths, c);
     let w = width_of(widths, c);

@@ -11,11 +11,11 @@ use Rattle.plan.specs.Forms.{widest}
 use Rattle.plan.specs.Lists.{from, some, mem}
 use Rattle.plan.specs.Plan.{Cell, Table, blank, parent, kind, W, D}
 use Rattle.plan.specs.Records.{bare, cells-of}
-use Rattle.plan.specs.Questions.{Given, no-label, parent-lower, kind-known, box-sized, label-inside, label-fits, children-allowed, level-low, rows-few, Step, each, sequence, puts, number, enough, roomy, all-roomy, in-file, on-labels, widest-in, every, holds, none, asked, or-else, at-each, ask, copy-given}
+use Rattle.plan.specs.Questions.{Given, no-label, parent-lower, kind-known, box-sized, label-inside, label-fits, children-allowed, level-low, rows-few, Step, each, sequence, puts, put, with-each, kept, number, enough, roomy, all-roomy, in-file, on-labels, widest-in, every, holds, none, asked, or-else, at-each, ask, ask-all, take-step, take-steps, copy-given}
 use Rattle.plan.specs.Questions as calls
 use Rattle.plan.specs.Steps.{cell-refusal, tree-refusal}
 use Rattle.plan.specs.laws.Questions.{each-same}
-use Rattle.plan.specs.laws.Kept.{asked-last, asked-true, none-first, and-true, or-assoc, put, with-each, kept, all-of, in-turn, refusal-kept, turn-ends, turn-once, turn-tree}
+use Rattle.plan.specs.laws.Kept.{asked-last, asked-true, none-first, and-true, or-assoc, refusal-kept, turn-ends, turn-once, turn-tree}
 use Rattle.plan.specs.declared.Record.{Record}
 use Rattle.plan.specs.declared.Refusal.{Refusal}
 use Rattle.plan.specs.declared.forms.Form.{Form}
@@ -91,22 +91,22 @@ module _ (rs : List Record) (letters : List ℕ) (al room : ℕ) where
   unfolding D bare
   depth-is c = ap (λ (x : Cell). x .depth) (cell-is c)
 
-  at-row : (c : ℕ) → all-of calls.copy g (parent-lower ∷ kind-known ∷ box-sized ∷ label-inside ∷ label-fits ∷ []) c ≡ row-refusal Wide (length letters) c (getD rs c no-record)
-  unfolding all-of ask holds number on-labels widest-in widest copy-given cell-refusal record-refusal
+  at-row : (c : ℕ) → ask-all g (parent-lower ∷ kind-known ∷ box-sized ∷ label-inside ∷ label-fits ∷ []) c ≡ row-refusal Wide (length letters) c (getD rs c no-record)
+  unfolding ask-all ask holds number on-labels widest-in widest copy-given cell-refusal record-refusal
   at-row c = rw (parent-is c, kind-is c, width-is c, depth-is c, label-is c) (simp (or-assoc, asked-last 9))
 
-  rows-turn : at-each (all-of calls.copy g (parent-lower ∷ kind-known ∷ box-sized ∷ label-inside ∷ label-fits ∷ [])) 0 (length t) ≡ rows-refusal Wide (length letters) 0 rs
+  rows-turn : at-each (ask-all g (parent-lower ∷ kind-known ∷ box-sized ∷ label-inside ∷ label-fits ∷ [])) 0 (length t) ≡ rows-refusal Wide (length letters) 0 rs
   rows-turn =
       rw cells-length (each-same _ (λ c. row-refusal Wide (length letters) c (getD rs c no-record)) (length rs) (λ c h. at-row c)
       ∙ rows-each Wide (length letters) 0 (λ c. getD rs c no-record) rs (λ c h. rw zero-add refl))
 
-  turn-body : (ss : List Step) → in-turn calls.copy g (each (parent-lower ∷ kind-known ∷ box-sized ∷ label-inside ∷ label-fits ∷ []) ∷ each (children-allowed ∷ []) ∷ each (level-low ∷ []) ∷ each (rows-few ∷ []) ∷ ss)
-      ≡ or-else (rows-refusal Wide (length letters) 0 rs) (or-else (tree-refusal t) (in-turn calls.copy g ss))
-  unfolding in-turn copy-given
-  turn-body ss = cc (rows-turn, turn-tree calls.copy g ss)
+  turn-body : (ss : List Step) → take-steps g (each (parent-lower ∷ kind-known ∷ box-sized ∷ label-inside ∷ label-fits ∷ []) ∷ each (children-allowed ∷ []) ∷ each (level-low ∷ []) ∷ each (rows-few ∷ []) ∷ ss)
+      ≡ or-else (rows-refusal Wide (length letters) 0 rs) (or-else (tree-refusal t) (take-steps g ss))
+  unfolding take-steps take-step copy-given
+  turn-body ss = cc (rows-turn, turn-tree g ss)
 
   pub copy-asks : copy-refusal rs letters al room ≡ or-else (asked 1 (leb most-file room) 0) (copy-steps rs letters al)
   unfolding copy-refusal copy-steps kept put with-each sequence number puts mem some from ask holds roomy all-roomy enough in-file on-labels copy-given
   copy-asks =
       refusal-kept calls.copy g
-      ∙ simp (turn-once calls.copy g, turn-body, turn-ends calls.copy g, cells-length, asked-true 0 0, none-first, and-true, or-assoc, asked-last 13 (leb al most-allowance) 0)
+      ∙ simp (turn-once g, turn-body, turn-ends g, cells-length, asked-true 0 0, none-first, and-true, or-assoc, asked-last 13 (leb al most-allowance) 0)

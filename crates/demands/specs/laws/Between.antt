@@ -5,7 +5,7 @@ use mathlib.Core.Logic.{_⊎_, inl, inr}
 use Prim.Native.Nat.{ℕ}
 use native.Mathlib.Decide.{ℕ-discrete}
 use Rattle.plan.specs.Plan.{Table}
-use Rattle.plan.specs.Questions.{Call, Given, join, none, sequence, or-else, take-step, refusal}
+use Rattle.plan.specs.Questions.{Call, Given, none, kept, sequence, or-else, take-step, refusal}
 use Rattle.plan.specs.laws.Questions.{both-none}
 use Rattle.plan.specs.laws.Kept.{none-first}
 use Rattle.plan.specs.declared.Refusal.{Refusal}
@@ -17,7 +17,7 @@ use Rattle.graft.specs.Sequence.{Asks, of, join-sequence, join-given, ask-one, 
 
 pub number-none : (call : Call) (g : Given) → refusal call g .number ≡ 0 → refusal call g ≡ none
 unfolding refusal
-number-none call g z = steps-show call g sequence (steps-read call g sequence z)
+number-none call g z = steps-show g (kept call sequence) (steps-read g (kept call sequence) z)
 
 module _ (room : ℕ) (t u : Table) (c : ℕ) where
   asks-none : (asks : List Asks) → ask-all room t u c asks .number ≡ 0 → ask-all room t u c asks ≡ none
@@ -25,8 +25,8 @@ module _ (room : ℕ) (t u : Table) (c : ℕ) where
   asks-none [] z = refl
   asks-none (of w s ∷ rest) z =
       let g = join-given room t u c w in
-      let (a, b) = both-none (take-step join g s) _ z in
-      ap (λ (x : Refusal). or-else x (ask-all room t u c rest)) (step-show join g s (step-read join g s a)) ∙ none-first _ ∙ asks-none rest b
+      let (a, b) = both-none (take-step g s) _ z in
+      ap (λ (x : Refusal). or-else x (ask-all room t u c rest)) (step-show g s (step-read g s a)) ∙ none-first _ ∙ asks-none rest b
 
   pub join-number-none : join-refusal room t u c .number ≡ 0 → join-refusal room t u c ≡ none
   unfolding join-refusal

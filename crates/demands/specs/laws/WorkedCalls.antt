@@ -21,5 +21,5 @@ use Rattle.checker.specs.Checked.{answered, checked-of}
 use Rattle.demands.specs.WorkedCalls.{called, due}
 
 pub worked-calls : map called sheets ≡ map due sheets
-unfolding called due checked-of answered corners asked.check-given asked.near range.in-range placement.placed sheets ranked chosen planned worked.row worked.kept worked.r worked.l worked.A worked.B worked.C worked.D worked.E worked.F worked.K worked.L worked.M worked.N worked.O worked.P worked.Q worked.R worked.S worked.T worked.U worked.X worked.Y shown answer verdict lowest scan judge test kept1 flush after-one before-one meets box4 stem4 eqZ share lists.index lists.from lists.keep lists.insert lists.sort lists.some lists.mem lists.ahead-in lists.heads lists.next-in lists.total plan.blank plan.parent plan.kind plan.W plan.D plan.rank plan.cells plan.filed plan.children plan.child plan.appointed plan.climb plan.path plan.within plan.subtree plan.row plan.ahead plan.next plan.earlier placement.best placement.right placement.base placement.bottom placement.width placement.rows contour.greatest contour.cover contour.clash contour.separation contour.stride contour.offset contour.lefts contour.rights contour.contour ours.middle ours.around ours.trace ours.contours ours.shift ours.along ours.column ours.sheet refusal layout-given asked.take-steps asked.take-step asked.sequence asked.ask-all asked.ask asked.at-each asked.holds asked.puts asked.number asked.roomy asked.all-roomy asked.enough asked.in-file asked.lower asked.sized asked.asked asked.or-else kinds.about kinds.known kinds.allows plan.level asked.widest-in
+unfolding called due checked-of answered corners asked.check-given asked.near range.in-range placement.placed sheets ranked chosen planned worked.row worked.kept worked.r worked.l worked.A worked.B worked.C worked.D worked.E worked.F worked.K worked.L worked.M worked.N worked.O worked.P worked.Q worked.R worked.S worked.T worked.U worked.X worked.Y shown answer verdict lowest scan judge test kept1 flush after-one before-one meets box4 stem4 eqZ share lists.index lists.from lists.keep lists.insert lists.sort lists.some lists.mem lists.ahead-in lists.heads lists.next-in lists.total plan.blank plan.parent plan.kind plan.W plan.D plan.rank plan.cells plan.filed plan.children plan.child plan.appointed plan.climb plan.path plan.within plan.subtree plan.row plan.ahead plan.next plan.earlier placement.best placement.right placement.base placement.bottom placement.width placement.rows contour.greatest contour.cover contour.clash contour.separation contour.stride contour.offset contour.lefts contour.rights contour.contour ours.middle ours.around ours.trace ours.contours ours.shift ours.along ours.column ours.sheet refusal layout-given asked.take-steps asked.take-step asked.put asked.with-each asked.kept asked.sequence asked.ask-all asked.ask asked.at-each asked.holds asked.puts asked.number asked.roomy asked.all-roomy asked.enough asked.in-file asked.lower asked.sized asked.asked asked.or-else kinds.about kinds.known kinds.allows plan.level asked.widest-in
 worked-calls = refl

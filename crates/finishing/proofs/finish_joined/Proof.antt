@@ -41,7 +41,7 @@ same-length-2 : tie.Need-same-length-2
 same-length-2 c = search needs
 
 returns : tie.Need-returns
-returns c = tried-yes ((c .before .before .before .before .close) .ensures)
+returns c = tried-yes ((c .before .before .before .before .close) .ensures .0)
 
 same-length-3 : tie.Need-same-length-3
 same-length-3 c = search needs

@@ -52,7 +52,7 @@ module _ (t : Table) (f : ℕ) (z : refusal frame (frame-given t f scratch-size)
   gives-none e = told-it ∙ sym (told-none t f fit e)
 
 pub worked : Rows
-unfolding fits E F ranked chosen planned refusal frame-given asked.take-steps asked.take-step asked.sequence asked.ask-all asked.ask asked.at-each asked.holds asked.puts asked.number asked.roomy asked.all-roomy asked.enough asked.in-file asked.lower asked.sized asked.framed asked.asked asked.or-else kinds.about kinds.known kinds.allows lists.index lists.from lists.keep lists.insert lists.sort lists.some lists.mem lists.ahead-in lists.heads lists.next-in lists.total plan.blank plan.parent plan.kind plan.W plan.D plan.rank plan.cells plan.filed plan.children plan.child plan.appointed plan.climb plan.path plan.within plan.subtree plan.row plan.level plan.ahead plan.next plan.earlier placement.best placement.right placement.base placement.bottom placement.width contour.greatest contour.cover contour.clash contour.separation contour.stride contour.offset contour.lefts contour.rights contour.contour ours.middle ours.around ours.trace ours.contours ours.shift ours.along ours.column ours.sheet gives fitted-of asked.widest-in
+unfolding fits E F ranked chosen planned refusal frame-given asked.take-steps asked.take-step asked.put asked.with-each asked.kept asked.sequence asked.ask-all asked.ask asked.at-each asked.holds asked.puts asked.number asked.roomy asked.all-roomy asked.enough asked.in-file asked.lower asked.sized asked.framed asked.asked asked.or-else kinds.about kinds.known kinds.allows lists.index lists.from lists.keep lists.insert lists.sort lists.some lists.mem lists.ahead-in lists.heads lists.next-in lists.total plan.blank plan.parent plan.kind plan.W plan.D plan.rank plan.cells plan.filed plan.children plan.child plan.appointed plan.climb plan.path plan.within plan.subtree plan.row plan.level plan.ahead plan.next plan.earlier placement.best placement.right placement.base placement.bottom placement.width contour.greatest contour.cover contour.clash contour.separation contour.stride contour.offset contour.lefts contour.rights contour.contour ours.middle ours.around ours.trace ours.contours ours.shift ours.along ours.column ours.sheet gives fitted-of asked.widest-in
 worked =
     record {
       e-0 = refl;

@@ -5,11 +5,10 @@ use Prim.Native.Nat.{ℕ, _+_, _≤_}
 use lib.Dec.{T, leb, ltb, leb→le, ltb→lt}
 use lib.ListN.{length}
 use Rattle.plan.specs.Limits.{between, most-cells, most-width, most-level, last-row}
-use Rattle.plan.specs.Lists.{mem, some}
 use Rattle.plan.specs.Kinds.{known, allows}
 use Rattle.plan.specs.Plan.{Table, Is, parent, kind, W, D, children, level, row}
 use Rattle.plan.specs.Questions as asked
-use Rattle.plan.specs.Questions.{once, each, buffers-long, cells-counted, parent-lower, kind-known, box-sized, children-allowed, level-low, rows-few, cell-named, lower, none, or-else, take-step, number, puts, holds}
+use Rattle.plan.specs.Questions.{once, each, buffers-long, cells-counted, parent-lower, kind-known, box-sized, children-allowed, level-low, rows-few, cell-named, lower, none, or-else, take-step, number, holds}
 use Rattle.plan.specs.laws.Questions.{asked-yes, both-none, each-none, each-same}
 use Rattle.plan.specs.laws.Kept.{asked-last, and-true, or-assoc, each-last}
 use Rattle.plan.specs.Steps.{cell-refusal, cells-refusal, children-refusal, levels-refusal, rows-refusal, tree-refusal}
@@ -28,33 +27,33 @@ part-refusal t = or-else (counted (length t)) (cells-refusal t)
 module _ (room : ℕ) (t u : Table) (c : ℕ) where
   -- ---- each step
   ask-room : ask-one room t u c (of first (once buffers-long)) ≡ asked.asked 1 (leb most-cells room) 0
-  unfolding ask-one take-step asked.ask-all asked.ask number puts mem some holds join-given asked.all-roomy asked.roomy
-  ask-room = rw and-true (asked-last 0 (leb most-cells room) 0)
+  unfolding ask-one take-step asked.ask-all asked.ask number holds join-given asked.all-roomy asked.roomy
+  ask-room = rw and-true
 
   ask-count : (w : Whose) → ask-one room t u c (of w (once cells-counted)) ≡ counted (length (table-asked room t u c w))
-  unfolding ask-one take-step asked.ask-all asked.ask number puts mem some holds join-given asked.in-file
-  ask-count w = rw and-true (asked-last 3 (between 1 most-cells (length (table-asked room t u c w))) 0)
+  unfolding ask-one take-step asked.ask-all asked.ask number holds join-given asked.in-file
+  ask-count w = rw and-true
 
   ask-cells : (w : Whose) → ask-one room t u c (of w (each (parent-lower ∷ kind-known ∷ box-sized ∷ []))) ≡ cells-refusal (table-asked room t u c w)
-  unfolding ask-one take-step asked.ask-all asked.ask number puts mem some holds join-given asked.widest-in cells-refusal cell-refusal
+  unfolding ask-one take-step asked.ask-all asked.ask number holds join-given asked.widest-in cells-refusal cell-refusal
   ask-cells w =
       let v = table-asked room t u c w in
       each-same _ _ (length v) (λ a i. ap (λ (x : Refusal). or-else (asked.asked 6 (lower a (parent v a)) a) (or-else (asked.asked 7 (known (kind v a)) a) x)) (asked-last 7 _ a))
 
   ask-named : ask-one room t u c (of first (once cell-named)) ≡ asked.asked 16 (ltb c (length t)) 0
-  unfolding ask-one take-step asked.ask-all asked.ask number puts mem some holds join-given table-asked asked.in-table asked.root-too
-  ask-named = rw and-true (asked-last 15 (ltb c (length t)) 0)
+  unfolding ask-one take-step asked.ask-all asked.ask number holds join-given table-asked asked.in-table
+  ask-named = refl
 
   ask-children : (w : Whose) → ask-one room t u c (of w (each (children-allowed ∷ []))) ≡ children-refusal (table-asked room t u c w)
-  unfolding ask-one take-step asked.ask-all asked.ask number puts mem some holds join-given children-refusal
+  unfolding ask-one take-step asked.ask-all asked.ask number holds join-given children-refusal
   ask-children w = each-same _ _ (length (table-asked room t u c w)) (λ a i. asked-last 10 _ a)
 
   ask-levels : (w : Whose) → ask-one room t u c (of w (each (level-low ∷ []))) ≡ levels-refusal (table-asked room t u c w)
-  unfolding ask-one take-step asked.ask-all asked.ask number puts mem some holds join-given levels-refusal
+  unfolding ask-one take-step asked.ask-all asked.ask number holds join-given levels-refusal
   ask-levels w = each-same _ _ (length (table-asked room t u c w)) (λ a i. asked-last 11 _ a)
 
   ask-rows : (w : Whose) → ask-one room t u c (of w (each (rows-few ∷ []))) ≡ rows-refusal (table-asked room t u c w)
-  unfolding ask-one take-step asked.ask-all asked.ask number puts mem some holds join-given rows-refusal
+  unfolding ask-one take-step asked.ask-all asked.ask number holds join-given rows-refusal
   ask-rows w = each-same _ _ (length (table-asked room t u c w)) (λ a i. asked-last 12 _ a)
 
   rows-last : (v : Table) → or-else (rows-refusal v) none ≡ rows-refusal v

@@ -16,13 +16,13 @@ use Rattle.plan.specs.Limits.{between, most-cells, most-width, most-depth, scra
 use Rattle.plan.specs.Plan.{Table, Is, parent, kind, W, D}
 use Rattle.plan.specs.Kinds.{about, known, allows}
 use Rattle.plan.specs.laws.Steps.{lower-read}
-use Rattle.plan.specs.laws.Kept.{put, with-each, kept}
 use Rattle.plan.specs.Questions as asked
-use Rattle.plan.specs.Questions.{scratch, lent, Call, Given, cells-counted, parent-lower, kind-known, box-sized, children-allowed, level-low, rows-few, coordinates-near, layout, check, number, puts, sequence, roomy, all-roomy, enough, in-file, lower, sized, near, none, refusal, layout-given, check-given}
+use Rattle.plan.specs.Questions.{scratch, lent, Given, cells-counted, parent-lower, kind-known, box-sized, children-allowed, level-low, rows-few, coordinates-near, layout, check, number, puts, put, with-each, kept, sequence, roomy, all-roomy, enough, in-file, lower, sized, near, none, refusal, layout-given, check-given}
 use Rattle.plan.specs.declared.kinds.Lookup.{Lookup}
 use Rattle.plan.specs.declared.kinds.Lookup.the-variants.{Known, Unknown}
 use Rattle.rules.specs.Placement.{Inside}
-use Rattle.least.specs.laws.Refusals.{All, AllSteps, refusal-all}
+use Rattle.least.specs.Refusals.{Yes, YesSteps}
+use Rattle.least.specs.laws.Refusals.{refusal-none}
 use Rattle.least.specs.Demanded.{Asked, LayoutAsked, CheckAsked}
 
 -- ---- single questions
@@ -52,29 +52,29 @@ infixr 3 _and_
 _and_ : {P Q : Type 0} → P → Q → P × Q
 _and_ p q = (p, q)
 
-module _ (call : Call) (g : Given) (l : g .source ≡ lent) where
+module _ (g : Given) (l : g .source ≡ lent) where
   abbrev t : Table
   t = g .table
 
-  says-inside : (c : ℕ) → Says (asked.holds call g coordinates-near c) (Inside (getD (g .coordinates) (2 * c) (pos 0)) × Inside (getD (g .coordinates) (2 * c + 1) (pos 0)))
+  says-inside : (c : ℕ) → Says (asked.holds g coordinates-near c) (Inside (getD (g .coordinates) (2 * c) (pos 0)) × Inside (getD (g .coordinates) (2 * c + 1) (pos 0)))
   unfolding asked.holds
   says-inside c = both (says-near _) (says-near _)
 
-  says-counted : Says (asked.holds call g cells-counted 0) ((1 ≤ length t) × (length t ≤ most-cells))
+  says-counted : Says (asked.holds g cells-counted 0) ((1 ≤ length t) × (length t ≤ most-cells))
   unfolding asked.holds in-file
   says-counted = rw l (that-is (both (says-between 1 most-cells (length t)) (itself true)) (λ h. h .0) (λ h. (h, tt)))
 
-  says-sized : (c : ℕ) → Says (asked.holds call g box-sized c) (((1 ≤ W t c) × (W t c ≤ most-width)) × ((1 ≤ D t c) × (D t c ≤ most-depth)))
+  says-sized : (c : ℕ) → Says (asked.holds g box-sized c) (((1 ≤ W t c) × (W t c ≤ most-width)) × ((1 ≤ D t c) × (D t c ≤ most-depth)))
   unfolding asked.holds asked.widest-in sized
   says-sized c = rw l (both (says-between 1 most-width (W t c)) (says-between 1 most-depth (D t c)))
 
   -- 4, 6 to 8 and 11 to 13, each answered yes
   record Fine : Type 0 where
-    count : T (asked.holds call g cells-counted 0)
-    records : (c : ℕ) → Is t c → All call g (parent-lower ∷ kind-known ∷ box-sized ∷ []) c
-    families : (c : ℕ) → Is t c → All call g (children-allowed ∷ []) c
-    levels : (c : ℕ) → Is t c → All call g (level-low ∷ []) c
-    rows : (c : ℕ) → Is t c → All call g (rows-few ∷ []) c
+    count : T (asked.holds g cells-counted 0)
+    records : (c : ℕ) → Is t c → Yes g (parent-lower ∷ kind-known ∷ box-sized ∷ []) c
+    families : (c : ℕ) → Is t c → Yes g (children-allowed ∷ []) c
+    levels : (c : ℕ) → Is t c → Yes g (level-low ∷ []) c
+    rows : (c : ℕ) → Is t c → Yes g (rows-few ∷ []) c
 
   fine-read : Fine → Asked t
   unfolding asked.holds
@@ -112,42 +112,42 @@ says-roomy s = that-is (both (says-le scratch-size s) (itself true)) (λ h. h .0
 
 pub layout-asks : (t : Table) (al s p : ℕ) → (refusal layout (layout-given t al s p) ≡ none) ↔ LayoutAsked t al s p
 unfolding layout-given kept put with-each sequence number puts mem some enough asked.holds
-layout-asks t al s p = (λ e. there (refusal-all layout g .0 e), λ a. refusal-all layout g .1 (back a))
+layout-asks t al s p = (λ e. there (refusal-none layout g .0 e), λ a. refusal-none layout g .1 (back a))
   where
     g : Given
     g = layout-given t al s p
 
-    there : AllSteps layout g (kept layout sequence) → LayoutAsked t al s p
+    there : YesSteps g (kept layout sequence) → LayoutAsked t al s p
     there (room, (count, (long, (records, (families, (levels, (rows, (allowance, end)))))))) =
         record {
-          table = fine-read layout g refl (record { count = count; records = records; families = families; levels = levels; rows = rows });
+          table = fine-read g refl (record { count = count; records = records; families = families; levels = levels; rows = rows });
           allowance = says-le _ _ .read allowance;
           scratch = says-roomy s .read room;
           positions = says-le _ _ .read long;
         }
 
-    back : LayoutAsked t al s p → AllSteps layout g (kept layout sequence)
+    back : LayoutAsked t al s p → YesSteps g (kept layout sequence)
     back a =
-        let f = fine-show layout g refl (a .table) in
+        let f = fine-show g refl (a .table) in
         says-roomy s .show (a .scratch) and f .count and says-le _ _ .show (a .positions) and f .records and f .families and f .levels and f .rows and says-le _ _ .show (a .allowance) and tt
 
 pub check-asks : (t : Table) (al : ℕ) (ps : List ℤ) → (refusal check (check-given t al ps) ≡ none) ↔ CheckAsked t al ps
 unfolding check-given kept put with-each sequence number puts mem some all-roomy enough asked.holds
-check-asks t al ps = (λ e. there (refusal-all check g .0 e), λ a. refusal-all check g .1 (back a))
+check-asks t al ps = (λ e. there (refusal-none check g .0 e), λ a. refusal-none check g .1 (back a))
   where
     g : Given
     g = check-given t al ps
 
-    there : AllSteps check g (kept check sequence) → CheckAsked t al ps
+    there : YesSteps g (kept check sequence) → CheckAsked t al ps
     there (room, (count, (long, (records, (families, (levels, (rows, (allowance, (near-all, end))))))))) =
         record {
-          table = fine-read check g refl (record { count = count; records = records; families = families; levels = levels; rows = rows });
+          table = fine-read g refl (record { count = count; records = records; families = families; levels = levels; rows = rows });
           allowance = says-le _ _ .read allowance;
           positions = says-le _ _ .read long;
-          near-all = λ c i. says-inside check g refl c .read (near-all c i .0);
+          near-all = λ c i. says-inside g refl c .read (near-all c i .0);
         }
 
-    back : CheckAsked t al ps → AllSteps check g (kept check sequence)
+    back : CheckAsked t al ps → YesSteps g (kept check sequence)
     back a =
-        let f = fine-show check g refl (a .table) in
-        tt and f .count and says-le _ _ .show (a .positions) and f .records and f .families and f .levels and f .rows and says-le _ _ .show (a .allowance) and (λ c i. says-inside check g refl c .show (a .near-all c i) and tt) and tt
+        let f = fine-show g refl (a .table) in
+        tt and f .count and says-le _ _ .show (a .positions) and f .records and f .families and f .levels and f .rows and says-le _ _ .show (a .allowance) and (λ c i. says-inside g refl c .show (a .near-all c i) and tt) and tt

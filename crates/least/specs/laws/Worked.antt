@@ -16,5 +16,5 @@ use Rattle.contours.specs.Sheet as ours
 use Rattle.least.specs.Worked.{shown, computed, ranked, chosen, planned, A, B, C, D, E, F, K, L, M, N, O, P, Q, R, S, T, U, X, Y, r, l, kept, row, sheets}
 
 pub computes : map computed sheets ≡ sheets
-unfolding computed shown ranked chosen planned sheets row kept r l A B C D E F K L M N O P Q R S T U X Y answer verdict lowest scan judge test kept1 flush after-one before-one meets box4 stem4 eqZ share lists.index lists.from lists.keep lists.insert lists.sort lists.some lists.mem lists.ahead-in lists.heads lists.next-in lists.total plan.blank plan.parent plan.kind plan.W plan.D plan.rank plan.cells plan.filed plan.children plan.child plan.appointed plan.climb plan.path plan.within plan.subtree plan.row plan.ahead plan.next plan.earlier placement.best placement.right placement.base placement.bottom placement.width placement.rows contour.greatest contour.cover contour.clash contour.separation contour.stride contour.offset contour.lefts contour.rights contour.contour ours.middle ours.around ours.trace ours.contours ours.shift ours.along ours.column ours.sheet refusal layout-given asked.take-steps asked.take-step asked.sequence asked.ask-all asked.ask asked.at-each asked.holds asked.puts asked.number asked.roomy asked.all-roomy asked.enough asked.in-file asked.lower asked.sized asked.asked asked.or-else kinds.about kinds.known kinds.allows plan.level asked.widest-in
+unfolding computed shown ranked chosen planned sheets row kept r l A B C D E F K L M N O P Q R S T U X Y answer verdict lowest scan judge test kept1 flush after-one before-one meets box4 stem4 eqZ share lists.index lists.from lists.keep lists.insert lists.sort lists.some lists.mem lists.ahead-in lists.heads lists.next-in lists.total plan.blank plan.parent plan.kind plan.W plan.D plan.rank plan.cells plan.filed plan.children plan.child plan.appointed plan.climb plan.path plan.within plan.subtree plan.row plan.ahead plan.next plan.earlier placement.best placement.right placement.base placement.bottom placement.width placement.rows contour.greatest contour.cover contour.clash contour.separation contour.stride contour.offset contour.lefts contour.rights contour.contour ours.middle ours.around ours.trace ours.contours ours.shift ours.along ours.column ours.sheet refusal layout-given asked.take-steps asked.take-step asked.put asked.with-each asked.kept asked.sequence asked.ask-all asked.ask asked.at-each asked.holds asked.puts asked.number asked.roomy asked.all-roomy asked.enough asked.in-file asked.lower asked.sized asked.asked asked.or-else kinds.about kinds.known kinds.allows plan.level asked.widest-in
 computes = refl

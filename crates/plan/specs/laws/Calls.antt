@@ -15,8 +15,8 @@ use Rattle.plan.specs.Lists.{some, mem}
 use Rattle.plan.specs.Plan.{Table}
 use Rattle.plan.specs.Pages.{fair}
 use Rattle.plan.specs.declared.Page.{Page}
-use Rattle.plan.specs.Questions.{roomy, all-roomy, enough, in-table, in-file, sequence, puts, root-too, number, holds, ask, none, asked, or-else, framed, on-page, strokes-of, numbered, refusal, layout, check, ends, list, frame, stroke, strip, layout-given, check-given, ends-given, list-given, frame-given, stroke-given, strip-given, answerable, drill, drill-given, reach-of, finished-at, at-each, start, step, reach, start-given, step-given, reach-given}
-use Rattle.plan.specs.laws.Kept.{asked-last, asked-true, and-true, or-assoc, none-first, each-last, put, with-each, kept, refusal-kept, turn-ends, turn-once, turn-table, turn-near, turn-finished}
+use Rattle.plan.specs.Questions.{roomy, all-roomy, enough, in-table, in-file, sequence, puts, put, with-each, kept, number, holds, ask, none, asked, or-else, framed, on-page, strokes-of, numbered, refusal, layout, check, ends, list, frame, stroke, strip, layout-given, check-given, ends-given, list-given, frame-given, stroke-given, strip-given, answerable, drill, drill-given, reach-of, finished-at, at-each, start, step, reach, start-given, step-given, reach-given}
+use Rattle.plan.specs.laws.Kept.{asked-last, asked-true, and-true, or-assoc, none-first, each-last, refusal-kept, turn-ends, turn-once, turn-table, turn-near, turn-finished}
 use Rattle.plan.specs.Steps.{counted-refusal, lent-refusal, near-refusal}
 
 near-last : (ps : List ℤ) (n : ℕ) → or-else (near-refusal ps n) none ≡ near-refusal ps n
@@ -28,29 +28,29 @@ module _ (t : Table) where
   unfolding kept put with-each sequence number puts mem some ask holds roomy all-roomy enough in-file lent-refusal layout-given
   layout-refusal al s p =
       let g = layout-given t al s p in
-      refusal-kept layout g ∙ simp (turn-once layout g, turn-table layout g refl, turn-ends layout g, and-true, or-assoc, asked-last 13 (leb al most-allowance) 0)
+      refusal-kept layout g ∙ simp (turn-once g, turn-table g refl, turn-ends g, and-true, or-assoc, asked-last 13 (leb al most-allowance) 0)
 
   pub check-refusal : (al : ℕ) (ps : List ℤ) → refusal check (check-given t al ps) ≡ or-else (lent-refusal t (length ps)) (or-else (asked 14 (leb al most-allowance) 0) (near-refusal ps (length t)))
   unfolding kept put with-each sequence number puts mem some ask holds all-roomy enough in-file lent-refusal check-given
   check-refusal al ps =
       let g = check-given t al ps in
       refusal-kept check g
-      ∙ simp (turn-once check g, turn-table check g refl, turn-near check g, turn-ends check g, asked-true 0 0, none-first, and-true, or-assoc, near-last ps (length t))
+      ∙ simp (turn-once g, turn-table g refl, turn-near g, turn-ends g, asked-true 0 0, none-first, and-true, or-assoc, near-last ps (length t))
 
   pub ends-refusal : (ps : List ℤ) (c : ℕ) → refusal ends (ends-given t ps c)
       ≡ or-else (lent-refusal t (length ps)) (or-else (near-refusal ps (length t)) (asked 16 (ltb c (length t) && ltb 0 c) 0))
-  unfolding kept put with-each sequence number puts mem some ask holds all-roomy enough in-table in-file root-too lent-refusal ends-given
+  unfolding kept put with-each sequence number puts mem some ask holds all-roomy enough in-table in-file lent-refusal ends-given
   ends-refusal ps c =
       let g = ends-given t ps c in
       refusal-kept ends g
-      ∙ simp (turn-once ends g, turn-table ends g refl, turn-near ends g, turn-ends ends g, asked-true 0 0, none-first, and-true, or-assoc, asked-last 15 (ltb c (length t) && ltb 0 c) 0)
+      ∙ simp (turn-once g, turn-table g refl, turn-near g, turn-ends g, asked-true 0 0, none-first, and-true, or-assoc, asked-last 15 (ltb c (length t) && ltb 0 c) 0)
 
   -- document 02, E2: 19 right behind 13
   pub frame-refusal : (f s : ℕ) → refusal frame (frame-given t f s) ≡ or-else (asked 1 (leb scratch-size s) 0) (or-else (counted-refusal t) (asked 19 (leb 1 f) 0))
   unfolding kept put with-each sequence number puts mem some ask holds roomy all-roomy enough framed in-file counted-refusal frame-given
   frame-refusal f s =
       let g = frame-given t f s in
-      refusal-kept frame g ∙ simp (turn-once frame g, turn-table frame g refl, turn-ends frame g, asked-true 0 0, none-first, and-true, or-assoc, asked-last 18 (leb 1 f) 0)
+      refusal-kept frame g ∙ simp (turn-once g, turn-table g refl, turn-ends g, asked-true 0 0, none-first, and-true, or-assoc, asked-last 18 (leb 1 f) 0)
 
   -- document 02, E1: 17 behind 16, and 18 last
   pub stroke-refusal : (ps : List ℤ) (g : Page) (s : ℕ) → refusal stroke (stroke-given t ps g s)
@@ -59,7 +59,7 @@ module _ (t : Table) where
   stroke-refusal ps g s =
       let v = stroke-given t ps g s in
       refusal-kept stroke v
-      ∙ simp (turn-once stroke v, turn-table stroke v refl, turn-near stroke v, turn-ends stroke v, asked-true 0 0, none-first, and-true, or-assoc, asked-last 17 (ltb s (strokes-of (length t))) 0)
+      ∙ simp (turn-once v, turn-table v refl, turn-near v, turn-ends v, asked-true 0 0, none-first, and-true, or-assoc, asked-last 17 (ltb s (strokes-of (length t))) 0)
 
   -- document 02, E8
   pub strip-refusal : (ps : List ℤ) → refusal strip (strip-given t ps) ≡ or-else (lent-refusal t (length ps)) (near-refusal ps (length t))
@@ -67,21 +67,21 @@ module _ (t : Table) where
   strip-refusal ps =
       let v = strip-given t ps in
       refusal-kept strip v
-      ∙ simp (turn-once strip v, turn-table strip v refl, turn-near strip v, turn-ends strip v, asked-true 0 0, none-first, and-true, or-assoc, near-last ps (length t))
+      ∙ simp (turn-once v, turn-table v refl, turn-near v, turn-ends v, asked-true 0 0, none-first, and-true, or-assoc, near-last ps (length t))
 
   -- document 02, E12: 21 right behind 13
   pub drill-refusal : (a l : ℕ) → refusal drill (drill-given t a l) ≡ or-else (asked 1 (leb most-steps l) 0) (or-else (counted-refusal t) (asked 21 (leb a most-answers) 0))
   unfolding kept put with-each sequence number puts mem some ask holds roomy all-roomy enough answerable in-file counted-refusal drill-given
   drill-refusal a l =
       let g = drill-given t a l in
-      refusal-kept drill g ∙ simp (turn-once drill g, turn-table drill g refl, turn-ends drill g, asked-true 0 0, none-first, and-true, or-assoc, asked-last 20 (leb a most-answers) 0)
+      refusal-kept drill g ∙ simp (turn-once g, turn-table g refl, turn-ends g, asked-true 0 0, none-first, and-true, or-assoc, asked-last 20 (leb a most-answers) 0)
 
 -- the listing puts one question, and has no table to put the others to
 pub list-refusal : (room : ℕ) → refusal list (list-given room) ≡ asked 1 (leb listing-size room) 0
 unfolding kept put with-each sequence number puts mem some ask holds roomy all-roomy enough list-given
 list-refusal room =
     let g = list-given room in
-    refusal-kept list g ∙ simp (turn-once list g, turn-ends list g, asked-true 0 0, none-first, and-true, asked-last 0 (leb listing-size room) 0)
+    refusal-kept list g ∙ simp (turn-once g, turn-ends g, asked-true 0 0, none-first, and-true, asked-last 0 (leb listing-size room) 0)
 
 -- ---- document 02, E9: a sheet that is being made
 -- 1, of two scratches
@@ -122,7 +122,7 @@ module _ (t : Table) (al s m : ℕ) where
   start-refusal =
       let g = start-given t al s m in
       refusal-kept start g
-      ∙ simp (turn-once start g, turn-table start g refl, turn-ends start g, asked-true 0 0, none-first, and-true, both-roomy, or-assoc, asked-last 13 (leb al most-allowance) 0)
+      ∙ simp (turn-once g, turn-table g refl, turn-ends g, asked-true 0 0, none-first, and-true, both-roomy, or-assoc, asked-last 13 (leb al most-allowance) 0)
 
   -- as Layout, behind the second scratch
   pub step-refusal : (p : ℕ) → refusal step (step-given t al s m p) ≡ or-else (asked 1 (leb second-size m) 0) (refusal layout (layout-given t al s p))
@@ -130,13 +130,13 @@ module _ (t : Table) (al s m : ℕ) where
   step-refusal p =
       let g = step-given t al s m p in
       refusal-kept step g
-      ∙ simp (turn-once step g, turn-table step g refl, turn-ends step g, and-true, both-roomy, or-assoc, layout-refusal t al s p, asked-last 13 (leb al most-allowance) 0)
+      ∙ simp (turn-once g, turn-table g refl, turn-ends g, and-true, both-roomy, or-assoc, layout-refusal t al s p, asked-last 13 (leb al most-allowance) 0)
 
   -- as a start, then 16 and 20 of the cell c
   pub reach-refusal : (finished : List ℕ) (c : ℕ) → refusal reach (reach-given t al s m finished c)
       ≡ or-else (refusal start (start-given t al s m)) (or-else (asked 16 (ltb c (length t)) 0) (asked 20 (mem c finished) c))
-  unfolding kept put with-each sequence number puts mem some ask holds roomy all-roomy enough in-file in-table root-too counted-refusal reach-given
+  unfolding kept put with-each sequence number puts mem some ask holds roomy all-roomy enough in-file in-table counted-refusal reach-given
   reach-refusal finished c =
       let g = reach-given t al s m finished c in
       refusal-kept reach g
-      ∙ simp (turn-once reach g, turn-table reach g refl, turn-finished reach g, asked-true 0 0, none-first, and-true, both-roomy, or-assoc, start-refusal, finished-one finished c (length t))
+      ∙ simp (turn-once g, turn-table g refl, turn-finished g, asked-true 0 0, none-first, and-true, both-roomy, or-assoc, start-refusal, finished-one finished c (length t))

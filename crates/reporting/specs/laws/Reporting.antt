@@ -19,9 +19,9 @@ use Rattle.plan.specs.laws.Sums.{total-subtree}
 use Rattle.plan.specs.Columns.{table-of}
 use Rattle.plan.specs.Fit.{Fit}
 use Rattle.plan.specs.Questions as calls
-use Rattle.plan.specs.Questions.{Buffer, Given, to-fill, scratch, nothing, none, asked, or-else, every, parent-lower, kind-known, box-sized, label-inside, label-fits, children-allowed, level-low, rows-few, allowance-small, once, each, sequence, puts, number, roomy, all-roomy, enough, in-file, on-labels, holds, ask, read, refusal}
+use Rattle.plan.specs.Questions.{Buffer, Given, to-fill, scratch, nothing, none, asked, or-else, every, parent-lower, kind-known, box-sized, label-inside, label-fits, children-allowed, level-low, rows-few, allowance-small, once, each, sequence, puts, put, with-each, kept, number, roomy, all-roomy, enough, in-file, on-labels, holds, ask, ask-all, take-step, take-steps, read, refusal}
 use Rattle.plan.specs.laws.Questions.{first-none, both-none, asked-yes, stops, goes-on}
-use Rattle.plan.specs.laws.Kept.{asked-last, asked-true, and-true, none-first, or-assoc, put, with-each, kept, all-of, in-turn, refusal-kept, turn-ends, turn-once}
+use Rattle.plan.specs.laws.Kept.{asked-last, asked-true, and-true, none-first, or-assoc, refusal-kept, turn-ends, turn-once}
 use Rattle.plan.specs.laws.Steps.{and-left, and-right}
 use Rattle.plan.specs.declared.Refusal.{Refusal}
 use Rattle.rules.specs.Placement.{width, rows}
@@ -71,9 +71,9 @@ module _ (f : List ℕ) (room s p : ℕ) where
   n = trailer-of f .count
 
   -- 6 to 14 do not look at the positions
-  body-same : in-turn calls.report g (each (parent-lower ∷ kind-known ∷ box-sized ∷ label-inside ∷ label-fits ∷ []) ∷ each (children-allowed ∷ []) ∷ each (level-low ∷ []) ∷ each (rows-few ∷ []) ∷ once allowance-small ∷ [])
-      ≡ in-turn calls.report g₀ (each (parent-lower ∷ kind-known ∷ box-sized ∷ label-inside ∷ label-fits ∷ []) ∷ each (children-allowed ∷ []) ∷ each (level-low ∷ []) ∷ each (rows-few ∷ []) ∷ once allowance-small ∷ [])
-  unfolding in-turn all-of ask holds report-given
+  body-same : take-steps g (each (parent-lower ∷ kind-known ∷ box-sized ∷ label-inside ∷ label-fits ∷ []) ∷ each (children-allowed ∷ []) ∷ each (level-low ∷ []) ∷ each (rows-few ∷ []) ∷ once allowance-small ∷ [])
+      ≡ take-steps g₀ (each (parent-lower ∷ kind-known ∷ box-sized ∷ label-inside ∷ label-fits ∷ []) ∷ each (children-allowed ∷ []) ∷ each (level-low ∷ []) ∷ each (rows-few ∷ []) ∷ once allowance-small ∷ [])
+  unfolding take-steps take-step ask-all ask holds report-given
   body-same = refl
 
   abbrev long : Refusal
@@ -89,7 +89,7 @@ module _ (f : List ℕ) (room s p : ℕ) where
   unfolding kept put with-each sequence number puts mem some from ask holds roomy all-roomy enough in-file on-labels file-given report-given formed-refusal body-refusal
   refusal-is =
       refusal-kept calls.report g
-      ∙ simp (turn-once calls.report g, body-same, turn-body f calls.report bs nothing, turn-once calls.report g₀, turn-ends calls.report g₀, cells-length f, and-true, or-assoc, asked-last 13 (leb (trailer-of f .allowance) most-allowance) 0)
+      ∙ simp (turn-once g, body-same, turn-body f bs nothing, turn-once g₀, turn-ends g₀, cells-length f, and-true, or-assoc, asked-last 13 (leb (trailer-of f .allowance) most-allowance) 0)
 
   abbrev stop : Refusal
   stop = report-refusal f room s p

@@ -3,6 +3,7 @@ use Prim.Native.Nat.{_*_}
 use mathlib.Core.Path.{refl}
 use Rattle.walk.specs.Machine.{Chart, chart}
 use Rattle.walk.specs.laws.Turns.{child-ready, close-found}
+use Rattle.walk.specs.laws.Stretch.{only-stretch}
 use Rattle.walk.proofs.Parts.{part-seen, part-rest}
 use Rattle.walk.proofs.close.Statement.{statement}
 use Rattle.walk.proofs.close.Tie as tie
@@ -68,7 +69,8 @@ returns : tie.Need-returns
 returns c =
     let st = c .before .before .before .before .before .before .before .before .before .before .before .before .before .before .before .before .before .before .before .before in
     let a = st .args in
-    close-found (board st) (a .level) (a .f) (a .c) (a .rows .now) (a .marks .now) (c .before .before .before .before .before .before .before .before .before .before .before .before .before .number .ensures) (c .before .before .before .before .before .before .before .before .before .before .before .before .width-of .ensures) (c .before .before .before .before .before .before .before .before .before .row-of .ensures) (c .before .before .before .before .before .before .before .joined-rows .ensures) (c .before .before .before .before .before .before .before .before .before .before .before .link-of .ensures) (c .before .before .before .before .before .before .before .before .before .before .link-of2 .ensures) (part-seen (a .rows .now) (64 * c .before .before .before .before .before .before .before .before .before .row-of .result) (64 * c .before .before .before .before .before .before .before .joined-rows .result)) (c .before .before .before .before .finish-child .ensures) (part-rest (a .rows .now) (64 * c .before .before .before .before .before .before .before .before .before .row-of .result) (64 * c .before .before .before .before .before .before .before .joined-rows .result)) refl
+    let e = close-found (board st) (a .level) (a .f) (a .c) (a .rows .now) (a .marks .now) (c .before .before .before .before .before .before .before .before .before .before .before .before .before .number .ensures) (c .before .before .before .before .before .before .before .before .before .before .before .before .width-of .ensures) (c .before .before .before .before .before .before .before .before .before .row-of .ensures) (c .before .before .before .before .before .before .before .joined-rows .ensures) (c .before .before .before .before .before .before .before .before .before .before .before .link-of .ensures) (c .before .before .before .before .before .before .before .before .before .before .link-of2 .ensures) (part-seen (a .rows .now) (64 * c .before .before .before .before .before .before .before .before .before .row-of .result) (64 * c .before .before .before .before .before .before .before .joined-rows .result)) (c .before .before .before .before .finish-child .ensures) (part-rest (a .rows .now) (64 * c .before .before .before .before .before .before .before .before .before .row-of .result) (64 * c .before .before .before .before .before .before .before .joined-rows .result)) refl in
+    (e, only-stretch (board st) (a .level) (a .f) (a .c) (a .rows .now) (a .marks .now) (st .pre) _ _ e)
 
 pub close-spec : {M : Type 1} → statement M
 close-spec =

@@ -75,7 +75,7 @@ returns-2 : tie.Need-returns-2
 returns-2 c =
     let s = c .before .before .before .before .before .before .before .before .before .before .before .before .before .before .before .before .before in
     let a = s .args in
-    turn-close (board s) (a .cells .now) (a .level) (a .rows .now) (a .marks .now) (omega (arith, c .before .before .before .before .before .before .before .before .before .before .if1 .left)) (c .before .before .before .before .before .before .before .before .before .open-at .ensures) (c .before .before .before .before .before .before .before .before .open-at2 .ensures) (c .link-of .ensures) (c .before .before .before .before .before .close .ensures)
+    turn-close (board s) (a .cells .now) (a .level) (a .rows .now) (a .marks .now) (omega (arith, c .before .before .before .before .before .before .before .before .before .before .if1 .left)) (c .before .before .before .before .before .before .before .before .before .open-at .ensures) (c .before .before .before .before .before .before .before .before .open-at2 .ensures) (c .link-of .ensures) (c .before .before .before .before .before .close .ensures .0)
 
 pub shut-spec : {M : Type 1} → statement M
 shut-spec =

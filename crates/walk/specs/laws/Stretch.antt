@@ -1,6 +1,5 @@
 -- A stretch of the scratch, and the scratch with another in its place. When a cell is closed, nothing outside the stretch below its parent's box changes. Assumes nothing.
-use mathlib.Core.Path.{_≡_, _∙_, ap}
-use mathlib.Core.Logic.{_⊎_, inl, inr}
+use mathlib.Core.Path.{_≡_, _∙_, ap, sym, subst}
 use mathlib.Core.List.{List, _++_}
 use mathlib.Core.Bool.{Bool, true, false}
 use Prim.Native.Nat.{ℕ, zero, suc, _+_, _-_, _*_, _≤_, _<_}
@@ -8,11 +7,15 @@ use native.Mathlib.Omega.{arith}
 use lib.ListN.{length, getD, take, drop, length-drop, length-append, List·getD-append, List·getD-eq-default}
 use lib.Seq.{getD-drop, getD-take, getD-append-add, length-take-le}
 use lib.Dec.{ltb}
+use Rattle.plan.specs.Lists.{At}
+use Rattle.plan.specs.Plan.{Table, D, children, row}
+use Rattle.plan.specs.laws.Paths.{child-less, row-child}
 use Rattle.rows.specs.Rows.{row-size, extent}
 use Rattle.rows.specs.laws.Rows.{box-to-length, put-to-length}
 use Rattle.joining.specs.Joining.{Memory, memory-of, height, completed, settled-apart, settled, settled-by, settled-at}
 use Rattle.links.specs.Links.{link}
-use Rattle.walk.specs.Machine.{Chart, wide, deep, top, apt, stretch, with-stretch, stretch-rows, joined-in, closed, Closing}
+use Rattle.walk.specs.Machine.{Chart, wide, deep, top, apt, stretch, with-stretch, stretch-rows, joined-in, closed, OnlyStretch, Closing}
+use Rattle.walk.specs.Walked.{Suits}
 
 -- y rows, then n, fit into the scratch
 module _ (xs : List ℕ) (y n : ℕ) (fit : row-size * y + row-size * n ≤ length xs) where
@@ -72,16 +75,32 @@ unfolding settled completed
 joined-length b level f c xs ms =
     at-length (completed (memory-of xs ms) (2 * level + 2) c (deep b c) (wide b c)) (2 * level) f c (height ms c (deep b c)) (link (b .links) c 2) (apt b f) (b .allowance) ∙ box-to-length xs (2 * level + 2) (wide b c) (deep b c + 1)
 
--- THEOREM: when c is closed, every row above the stretch below the box of its parent f, and every row below it, is as it was
-pub only-stretch : (b : Chart) (level f c : ℕ) (xs ms : List ℕ) → Closing b level f c xs ms → (q k : ℕ) → k < row-size → (q < top b c) ⊎ (top b c + stretch-rows b f c ms ≤ q)
-    → extent (closed b level f c (memory-of xs ms) .rows) q k ≡ extent xs q k
-unfolding closed
-only-stretch b level f c xs ms h q k l o =
-    let y = top b c in
-    let n = stretch-rows b f c ms in
-    let zs = stretch xs y n in
-    let same : length (joined-in b level f c zs ms .rows) ≡ row-size * n = joined-length b level f c zs ms ∙ stretch-length xs y n (h .fits) in
-    elim o [
-      | inl lt ↦ put-above xs y n (h .fits) (joined-in b level f c zs ms .rows) same q k l lt
-      | inr le ↦ let e : y + (q - y) ≡ q = omega arith in rw e at (put-below xs y n (h .fits) (joined-in b level f c zs ms .rows) same (q - y) k (omega arith))
-    ]
+-- ---- when c is closed
+module _ (b : Chart) (level f c : ℕ) (xs ms : List ℕ) (h : Closing b level f c xs ms) where
+  abbrev y : ℕ
+  y = top b c
+
+  abbrev n : ℕ
+  n = stretch-rows b f c ms
+
+  abbrev zs : List ℕ
+  zs = joined-in b level f c (stretch xs y n) ms .rows
+
+  same : length zs ≡ row-size * n
+  same = joined-length b level f c (stretch xs y n) ms ∙ stretch-length xs y n (h .fits)
+
+  closed-only : OnlyStretch b f c xs ms (closed b level f c (memory-of xs ms) .rows)
+  unfolding closed
+  closed-only =
+      record {
+        same-length = put-length xs y n (h .fits) zs same;
+        above = λ q k l lt. put-above xs y n (h .fits) zs same q k l lt;
+        below = λ q k l le. let e : y + (q - y) ≡ q = omega arith in rw e at (put-below xs y n (h .fits) zs same (q - y) k (omega arith));
+      }
+
+  pub only-stretch : (ys ns : List ℕ) → memory-of ys ns ≡ closed b level f c (memory-of xs ms) → OnlyStretch b f c xs ms ys
+  only-stretch ys ns e = subst (λ (m : Memory). OnlyStretch b f c xs ms (m .rows)) (sym e) closed-only
+
+-- ---- where it begins: S1
+pub stretch-begins : (t : Table) (b : Chart) → Suits t b → (f i c : ℕ) → At (children t f) i c → top b c ≡ row t f + D t f + 1
+stretch-begins t b su f i c h = su .top-of c (child-less t (su .fit .sound) f i c h .1) ∙ row-child t (su .fit .sound) f i c h
