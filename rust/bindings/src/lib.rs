@@ -1,5 +1,6 @@
 //! The engine's calls for Rust. Each takes its buffers as slices and passes them on as a pointer and a
-//! length, which is all that the library asks: no call asks anything more of its caller.
+//! length, which is all that the library asks: no call asks anything more of its caller. What the library tells is held, field by
+//! field, to what include/kuzpalen.h has for that answer: another code, or a number where the header has 0, is a panic.
 
 /// One record of a table; its width is at most 1,023. Siblings are ordered by rank, then by number.
 #[repr(C)]
@@ -116,6 +117,7 @@ mod raw {
     use super::{Page, Record, Report};
 
     #[repr(C)]
+    #[derive(Debug, Default, PartialEq)]
     pub struct ReadAnswer {
         pub number: u8,
         pub cell: u16,
@@ -124,6 +126,7 @@ mod raw {
     }
 
     #[repr(C)]
+    #[derive(Debug, Default, PartialEq)]
     pub struct LabelAnswer {
         pub number: u8,
         pub cell: u16,
@@ -136,6 +139,7 @@ mod raw {
     }
 
     #[repr(C)]
+    #[derive(Debug, Default, PartialEq)]
     pub struct LayoutAnswer {
         pub number: u8,
         pub cell: u16,
@@ -144,6 +148,7 @@ mod raw {
     }
 
     #[repr(C)]
+    #[derive(Debug, Default, PartialEq)]
     pub struct CheckAnswer {
         pub number: u8,
         pub cell: u16,
@@ -155,6 +160,7 @@ mod raw {
     }
 
     #[repr(C)]
+    #[derive(Debug, Default, PartialEq)]
     pub struct EndsAnswer {
         pub number: u8,
         pub cell: u16,
@@ -165,6 +171,7 @@ mod raw {
     }
 
     #[repr(C)]
+    #[derive(Debug, Default, PartialEq)]
     pub struct ListAnswer {
         pub number: u8,
         pub cell: u16,
@@ -172,6 +179,7 @@ mod raw {
     }
 
     #[repr(C)]
+    #[derive(Debug, Default, PartialEq)]
     pub struct FrameAnswer {
         pub number: u8,
         pub cell: u16,
@@ -180,6 +188,7 @@ mod raw {
     }
 
     #[repr(C)]
+    #[derive(Debug, Default, PartialEq)]
     pub struct CopyAnswer {
         pub number: u8,
         pub cell: u16,
@@ -187,6 +196,7 @@ mod raw {
     }
 
     #[repr(C)]
+    #[derive(Debug, Default, PartialEq)]
     pub struct MendAnswer {
         pub number: u8,
         pub cell: u16,
@@ -195,6 +205,7 @@ mod raw {
     }
 
     #[repr(C)]
+    #[derive(Debug, Default, PartialEq)]
     pub struct StrokeAnswer {
         pub number: u8,
         pub cell: u16,
@@ -204,12 +215,14 @@ mod raw {
     }
 
     #[repr(C)]
+    #[derive(Debug, Default, PartialEq)]
     pub struct StripAnswer {
         pub number: u8,
         pub cell: u16,
     }
 
     #[repr(C)]
+    #[derive(Debug, Default, PartialEq)]
     pub struct JoinAnswer {
         pub number: u8,
         pub cell: u16,
@@ -217,6 +230,7 @@ mod raw {
     }
 
     #[repr(C)]
+    #[derive(Debug, Default, PartialEq)]
     pub struct DrillAnswer {
         pub number: u8,
         pub cell: u16,
@@ -226,12 +240,14 @@ mod raw {
     }
 
     #[repr(C)]
+    #[derive(Debug, Default, PartialEq)]
     pub struct StartAnswer {
         pub number: u8,
         pub cell: u16,
     }
 
     #[repr(C)]
+    #[derive(Debug, Default, PartialEq)]
     pub struct StepAnswer {
         pub number: u8,
         pub cell: u16,
@@ -240,6 +256,7 @@ mod raw {
     }
 
     #[repr(C)]
+    #[derive(Debug, Default, PartialEq)]
     pub struct ReachAnswer {
         pub number: u8,
         pub cell: u16,
@@ -248,6 +265,7 @@ mod raw {
     }
 
     #[repr(C)]
+    #[derive(Debug, Default, PartialEq)]
     pub struct ReportAnswer {
         pub number: u8,
         pub cell: u16,
@@ -385,25 +403,45 @@ mod raw {
     }
 }
 
-fn unless<T>(number: u8, cell: u16, answer: T) -> Result<T, Refusal> {
+/// The answer, or the refusal where there is one.
+fn unless<T>(number: u8, cell: u16, answer: impl FnOnce() -> T) -> Result<T, Refusal> {
     if number == 0 {
-        Ok(answer)
+        Ok(answer())
     } else {
         Err(Refusal { number, cell })
     }
+}
+
+/// Holds what the library told to what include/kuzpalen.h has for the answer that was made of it: every field that the answer does not set is 0, a refusal's but for number and cell too.
+macro_rules! exactly {
+    ($told:expr, $answer:expr, $kind:ident, $of:pat => { $($field:ident: $value:expr),* $(,)? }) => {
+        let header = match &$answer {
+            Ok($of) => raw::$kind { $($field: $value,)* ..raw::$kind::default() },
+            Err(e) => raw::$kind { number: e.number, cell: e.cell, ..raw::$kind::default() },
+        };
+        assert_eq!($told, header, "the library told what include/kuzpalen.h does not have");
+    };
+}
+
+/// A code that include/kuzpalen.h does not have.
+fn unknown(code: u8) -> ! {
+    panic!("the library told the code {code}, which include/kuzpalen.h does not have")
 }
 
 /// Read: a file of either form into the first records of the table, which needs room for 256.
 pub fn read(file: &[u8], table: &mut [Record]) -> Result<Plan, Refusal> {
     // SAFETY: both pointers are good for their lengths, and no byte of the file is in the table.
     let r = unsafe { raw::kuzpalen_read(file.as_ptr(), file.len(), table.as_mut_ptr(), table.len()) };
-    unless(r.number, r.cell, Plan { count: r.count, allowance: r.allowance })
+    let answer = unless(r.number, r.cell, || Plan { count: r.count, allowance: r.allowance });
+    exactly!(r, answer, ReadAnswer, p => { allowance: p.allowance, count: p.count });
+    answer
 }
 
 /// Why Label refuses, or 0 and 0.
 pub fn label_refusal(file: &[u8], cell: usize) -> Refusal {
     // SAFETY: the pointer is good for its length.
     let r = unsafe { raw::kuzpalen_label_refusal(file.as_ptr(), file.len(), cell) };
+    exactly!(r, unless(r.number, r.cell, || ()), LabelAnswer, () => {});
     Refusal { number: r.number, cell: r.cell }
 }
 
@@ -428,7 +466,9 @@ pub fn layout(table: &[Record], allowance: u32, scratch: &mut [u32], positions: 
             positions.len(),
         )
     };
-    unless(r.number, r.cell, Sheet { width: r.width, rows: r.rows })
+    let answer = unless(r.number, r.cell, || Sheet { width: r.width, rows: r.rows });
+    exactly!(r, answer, LayoutAnswer, s => { width: s.width, rows: s.rows });
+    answer
 }
 
 /// Check: kept, or the lowest rule broken with its two cells.
@@ -437,30 +477,41 @@ pub fn check(table: &[Record], positions: &[i32], allowance: u32) -> Result<Verd
     let r = unsafe {
         raw::kuzpalen_check(table.as_ptr(), table.len(), positions.as_ptr(), positions.len(), allowance)
     };
-    let verdict = if r.rule == 0 {
-        Verdict::Kept(Sheet { width: r.width, rows: r.rows })
-    } else {
-        Verdict::Broken { rule: r.rule, a: r.a, b: r.b }
+    let answer = unless(r.number, r.cell, || match r.rule {
+        0 => Verdict::Kept(Sheet { width: r.width, rows: r.rows }),
+        1..=5 => Verdict::Broken { rule: r.rule, a: r.a, b: r.b },
+        code => unknown(code),
+    });
+    let (rule, a, b, width, rows) = match answer {
+        Ok(Verdict::Kept(s)) => (0, 0, 0, s.width, s.rows),
+        Ok(Verdict::Broken { rule, a, b }) => (rule, a, b, 0, 0),
+        Err(_) => (0, 0, 0, 0, 0),
     };
-    unless(r.number, r.cell, verdict)
+    exactly!(r, answer, CheckAnswer, _ => { rule: rule, a: a, b: b, width: width, rows: rows });
+    answer
 }
 
 /// Ends: of the connector from a cell's parent to the cell.
 pub fn ends(table: &[Record], positions: &[i32], cell: usize) -> Result<Ends, Refusal> {
     // SAFETY: the pointers are good for their lengths.
     let r = unsafe { raw::kuzpalen_ends(table.as_ptr(), table.len(), positions.as_ptr(), positions.len(), cell) };
-    unless(r.number, r.cell, Ends { from: (r.from_x, r.from_y), to: (r.to_x, r.to_y) })
+    let answer = unless(r.number, r.cell, || Ends { from: (r.from_x, r.from_y), to: (r.to_x, r.to_y) });
+    exactly!(r, answer, EndsAnswer, e => { from_x: e.from.0, from_y: e.from.1, to_x: e.to.0, to_y: e.to.1 });
+    answer
 }
 
 /// List: the listing of a file into the first bytes of the output, which needs room for 17,408; its length.
 pub fn list(file: &[u8], out: &mut [u8]) -> Result<usize, Refusal> {
     // SAFETY: both pointers are good for their lengths, and no byte of the file is in the output.
     let r = unsafe { raw::kuzpalen_list(file.as_ptr(), file.len(), out.as_mut_ptr(), out.len()) };
-    unless(r.number, r.cell, r.length)
+    let answer = unless(r.number, r.cell, || r.length);
+    exactly!(r, answer, ListAnswer, n => { length: *n });
+    answer
 }
 
-/// Frame's outcome where an allowance fits (include/kuzpalen.h).
+/// Frame's outcomes (include/kuzpalen.h).
 const FRAME_ALLOWANCE: u8 = 1;
+const FRAME_NONE: u8 = 2;
 
 /// Frame: the least allowance whose sheet is no wider than so many squares, or none; scratch as Layout's.
 pub fn frame(table: &[Record], squares: u32, scratch: &mut [u32]) -> Result<Option<u32>, Refusal> {
@@ -468,7 +519,13 @@ pub fn frame(table: &[Record], squares: u32, scratch: &mut [u32]) -> Result<Opti
     let r = unsafe {
         raw::kuzpalen_frame(table.as_ptr(), table.len(), squares, scratch.as_mut_ptr(), scratch.len())
     };
-    unless(r.number, r.cell, (r.outcome == FRAME_ALLOWANCE).then_some(r.allowance))
+    let answer = unless(r.number, r.cell, || match r.outcome {
+        FRAME_ALLOWANCE => Some(r.allowance),
+        FRAME_NONE => None,
+        code => unknown(code),
+    });
+    exactly!(r, answer, FrameAnswer, a => { outcome: if a.is_some() { FRAME_ALLOWANCE } else { FRAME_NONE }, allowance: a.unwrap_or(0) });
+    answer
 }
 
 /// Copy: the clean copy of a plan into the first bytes of the output, which needs room for 16,384; its length.
@@ -485,7 +542,9 @@ pub fn copy(table: &[Record], letters: &[u8], allowance: u32, out: &mut [u8]) ->
             out.len(),
         )
     };
-    unless(r.number, r.cell, r.length)
+    let answer = unless(r.number, r.cell, || r.length);
+    exactly!(r, answer, CopyAnswer, n => { length: *n });
+    answer
 }
 
 /// Mend: the mended file into the first bytes of `out`, which needs room for 16,384, and a line for each altered cell into those of `text`, which needs room for 6,144; both lengths.
@@ -494,23 +553,33 @@ pub fn mend(file: &[u8], out: &mut [u8], text: &mut [u8]) -> Result<(usize, usiz
     let r = unsafe {
         raw::kuzpalen_mend(file.as_ptr(), file.len(), out.as_mut_ptr(), out.len(), text.as_mut_ptr(), text.len())
     };
-    unless(r.number, r.cell, (r.length, r.lines))
+    let answer = unless(r.number, r.cell, || (r.length, r.lines));
+    exactly!(r, answer, MendAnswer, (length, lines) => { length: *length, lines: *lines });
+    answer
 }
 
 /// What a stroke is (include/kuzpalen.h).
 const STROKE_MOVE: u8 = 1;
 const STROKE_LINE: u8 = 2;
+const STROKE_LIFT: u8 = 3;
 
 /// Stroke number s, from 0, of a sheet that is drawn on a page.
 pub fn stroke(table: &[Record], positions: &[i32], page: Page, s: usize) -> Result<Stroke, Refusal> {
     // SAFETY: the pointers are good for their lengths.
     let r = unsafe { raw::kuzpalen_stroke(table.as_ptr(), table.len(), positions.as_ptr(), positions.len(), page, s) };
-    let stroke = match r.what {
+    let answer = unless(r.number, r.cell, || match r.what {
         STROKE_MOVE => Stroke::Move(r.x, r.y),
         STROKE_LINE => Stroke::Line(r.x, r.y),
-        _ => Stroke::Lift,
+        STROKE_LIFT => Stroke::Lift,
+        code => unknown(code),
+    });
+    let (what, x, y) = match answer {
+        Ok(Stroke::Move(x, y)) => (STROKE_MOVE, x, y),
+        Ok(Stroke::Line(x, y)) => (STROKE_LINE, x, y),
+        Ok(Stroke::Lift) | Err(_) => (STROKE_LIFT, 0.0, 0.0),
     };
-    unless(r.number, r.cell, stroke)
+    exactly!(r, answer, StrokeAnswer, _ => { what: what, x: x, y: y });
+    answer
 }
 
 /// Strip: a row from a column on, counted from 0 at the sheet's least x, into the bytes; eight columns a byte, the leftmost in the highest bit.
@@ -528,7 +597,9 @@ pub fn strip(table: &[Record], positions: &[i32], row: u32, first: u32, bytes: &
             bytes.len(),
         )
     };
-    unless(r.number, r.cell, ())
+    let answer = unless(r.number, r.cell, || ());
+    exactly!(r, answer, StripAnswer, () => {});
+    answer
 }
 
 /// Join: the second plan, hung under a cell of the first, into the first records of the table, which needs room for 256; how many.
@@ -537,8 +608,13 @@ pub fn join(first: &[Record], second: &[Record], cell: usize, table: &mut [Recor
     let r = unsafe {
         raw::kuzpalen_join(first.as_ptr(), first.len(), second.as_ptr(), second.len(), cell, table.as_mut_ptr(), table.len())
     };
-    unless(r.number, r.cell, r.count)
+    let answer = unless(r.number, r.cell, || r.count);
+    exactly!(r, answer, JoinAnswer, n => { count: *n });
+    answer
 }
+
+/// How a drill ends (include/kuzpalen.h).
+const OUTCOMES: [(u8, Outcome); 4] = [(1, Outcome::Finished), (2, Outcome::Spent), (3, Outcome::Wrong), (4, Outcome::Full)];
 
 /// Drill: the plan followed with these answers; the recorded steps go to the beginning of the list, which needs room for 4,096.
 pub fn drill(table: &[Record], answers: &[u8], list: &mut [u16]) -> Result<Drill, Refusal> {
@@ -546,14 +622,12 @@ pub fn drill(table: &[Record], answers: &[u8], list: &mut [u16]) -> Result<Drill
     let r = unsafe {
         raw::kuzpalen_drill(table.as_ptr(), table.len(), answers.as_ptr(), answers.len(), list.as_mut_ptr(), list.len())
     };
-    // The outcomes of include/kuzpalen.h, from 1 on.
-    let outcome = match r.outcome {
-        0 | 1 => Outcome::Finished,
-        2 => Outcome::Spent,
-        3 => Outcome::Wrong,
-        _ => Outcome::Full,
-    };
-    unless(r.number, r.cell, Drill { outcome, used: r.used, records: r.records })
+    let answer = unless(r.number, r.cell, || {
+        let outcome = OUTCOMES.iter().find(|(code, _)| *code == r.outcome).unwrap_or_else(|| unknown(r.outcome)).1;
+        Drill { outcome, used: r.used, records: r.records }
+    });
+    exactly!(r, answer, DrillAnswer, d => { outcome: OUTCOMES.iter().find(|(_, o)| *o == d.outcome).map_or(0, |(code, _)| *code), used: d.used, records: d.records });
+    answer
 }
 
 /// Start: a sheet that is made step by step is begun; 16,384 numbers of scratch and 1,024 of a second one are cleared.
@@ -570,11 +644,14 @@ pub fn start(table: &[Record], allowance: u32, scratch: &mut [u32], second: &mut
             second.len(),
         )
     };
-    unless(r.number, r.cell, ())
+    let answer = unless(r.number, r.cell, || ());
+    exactly!(r, answer, StartAnswer, () => {});
+    answer
 }
 
-/// Step's outcome where a cell was finished (include/kuzpalen.h).
+/// Step's outcomes (include/kuzpalen.h).
 const STEP_FINISHED: u8 = 1;
+const STEP_DONE: u8 = 2;
 
 /// Step: one more cell is finished, and with the last x then y of each cell are written into the positions.
 pub fn step(
@@ -598,7 +675,17 @@ pub fn step(
             positions.len(),
         )
     };
-    unless(r.number, r.cell, if r.outcome == STEP_FINISHED { Step::Finished(r.finished) } else { Step::Done })
+    let answer = unless(r.number, r.cell, || match r.outcome {
+        STEP_FINISHED => Step::Finished(r.finished),
+        STEP_DONE => Step::Done,
+        code => unknown(code),
+    });
+    let (outcome, finished) = match answer {
+        Ok(Step::Finished(c)) => (STEP_FINISHED, c),
+        Ok(Step::Done) | Err(_) => (STEP_DONE, 0),
+    };
+    exactly!(r, answer, StepAnswer, _ => { outcome: outcome, finished: finished });
+    answer
 }
 
 /// Reach: of the subtree of a cell that is finished.
@@ -616,7 +703,9 @@ pub fn reach(table: &[Record], allowance: u32, scratch: &[u32], second: &[u32], 
             cell,
         )
     };
-    unless(r.number, r.cell, Reach { left: r.left, right: r.right })
+    let answer = unless(r.number, r.cell, || Reach { left: r.left, right: r.right });
+    exactly!(r, answer, ReachAnswer, s => { left: s.left, right: s.right });
+    answer
 }
 
 /// Report: of one plan file, with its sheet at its own allowance; table as Read's, scratch and positions as Layout's.
@@ -634,12 +723,16 @@ pub fn report(file: &[u8], table: &mut [Record], scratch: &mut [u32], positions:
             positions.len(),
         )
     };
-    unless(r.number, r.cell, r.report)
+    let answer = unless(r.number, r.cell, || r.report);
+    exactly!(r, answer, ReportAnswer, f => { report: *f });
+    answer
 }
 
 /// Pool: the report of two folders together.
 pub fn pool(a: Report, b: Report) -> Result<Report, Refusal> {
     // SAFETY: both go by value.
     let r = unsafe { raw::kuzpalen_pool(a, b) };
-    unless(r.number, r.cell, r.report)
+    let answer = unless(r.number, r.cell, || r.report);
+    exactly!(r, answer, ReportAnswer, f => { report: *f });
+    answer
 }
