@@ -382,11 +382,12 @@ class Graph:
         b = {n for n in b if not (n in self.scopes[d.key][0] and self.scopes[d.key][0][n].type == 'data' and n != self.scopes[d.key][0][n].name)}
         return self.refs(text, self.scopes[d.key], b - {d.name})
 
-    def closure(self, roots):
+    def closure(self, roots, stop=()):
+        """all that is named from the roots on; a declaration of `stop` is reached, but what it names is not"""
         seen, todo = set(roots), list(roots)
         while todo:
             d = todo.pop()
-            for r in self.decl_refs(d):
+            for r in self.decl_refs(d) if d not in stop else ():
                 if r not in seen:
                     seen.add(r)
                     todo.append(r)

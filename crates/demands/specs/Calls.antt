@@ -9,7 +9,7 @@ use lib.ListN.{length, getD, take, drop, replicate}
 use lib.IntN.{ℤ, pos, _+ℤ_, _-ℤ_}
 use denote.Ref.{RefT}
 use lib.Signed.{_≤ℤ_, _<ℤ_}
-use Rattle.plan.specs.Limits.{most-cells, scratch-size, most-file, most-allowance, lines-size}
+use Rattle.plan.specs.Limits.{most-cells, scratch-size, second-size, most-file, most-allowance, lines-size}
 use Rattle.plan.specs.Plan.{Table, Is, parent, W, D}
 use Rattle.plan.specs.Records.{cells-of}
 use Rattle.plan.specs.Questions.{Call, Given, layout, check, ends, list, frame, none, kept, sequence, refusal, layout-given, check-given, ends-given, list-given, frame-given, drill, drill-given}
@@ -119,21 +119,18 @@ use Rattle.grafting.specs.declared.JoinAnswer.{JoinAnswer}
 use Rattle.grafting.specs.declared.JoinAnswer.the-variants as joint
 use Rattle.whole.specs.Whole.{plus}
 use Rattle.plan.specs.Lists.{At, mem}
-use Rattle.plan.specs.Plan.{children, cells}
+use Rattle.plan.specs.Plan.{children, cells, earlier}
 use Rattle.plan.specs.Fit.{Fit}
 use Rattle.positions.specs.Written.{written}
-use Rattle.joining.specs.Joining.{memory-of}
 use Rattle.finishing.specs.Postorder.{postorder}
-use Rattle.finishing.specs.Made.{cleared, lent-as}
 use Rattle.finishing.specs.Finishing.{start-no, step-no, reach-no, Starts, Holds, Unaltered, Steps, Reaches}
-use Rattle.finishing.specs.Run.{Run, Earlier}
 use Rattle.finishing.specs.declared.Started.{Started}
 use Rattle.finishing.specs.declared.Started.the-variants as started
 use Rattle.finishing.specs.declared.Stepped.{Stepped}
 use Rattle.finishing.specs.declared.Stepped.the-variants as stepped
 use Rattle.finishing.specs.declared.Reached.{Reached as ReachAnswer}
 use Rattle.finishing.specs.declared.Reached.the-variants as reached
-use Rattle.finishing.specs.After.{After}
+use Rattle.finishing.specs.After.{After, counted}
 use Rattle.finishing.specs.laws.After as after
 use Rattle.finishing.specs.laws.Promised as finishing
 use Rattle.demands.specs.laws.Making as making
@@ -501,17 +498,17 @@ pub drill-beyond : (t : Table) (bs cs xs xs′ ys : List ℕ) (r q : Drilled) �
 drill-beyond = following.beyond-used
 
 -- ==== A SHEET THAT IS BEING MADE (document 02, E9)
--- A start that is refused leaves both scratches as they were; one that is not clears their first 16,384 and 1,024 numbers, and the making has begun.
+-- A start that is refused leaves both scratches as they were; one that is not clears their first 16,384 and 1,024 numbers, and no step is made yet.
 pub start-refuses : (t : Table) (al : ℕ) (xs xs′ ms ms′ : List ℕ) (r : Started) → Starts t al xs xs′ ms ms′ r → ¬ (start-no t al (length xs) (length ms) .number ≡ 0)
-    → (r ≡ started.Refused (start-no t al (length xs) (length ms) .number) (start-no t al (length xs) (length ms) .cell)) × (memory-of xs′ ms′ ≡ memory-of xs ms)
+    → (r ≡ started.Refused (start-no t al (length xs) (length ms) .number) (start-no t al (length xs) (length ms) .cell)) × (xs′ ≡ xs) × (ms′ ≡ ms)
 start-refuses = making.start-unchanged
 
 pub start-clears : (t : Table) (al : ℕ) (xs xs′ ms ms′ : List ℕ) (r : Started) → Starts t al xs xs′ ms ms′ r → start-no t al (length xs) (length ms) .number ≡ 0
-    → (r ≡ started.Begun) × (memory-of xs′ ms′ ≡ lent-as cleared xs ms)
+    → (r ≡ started.Begun) × (xs′ ≡ replicate scratch-size 0 ++ drop scratch-size xs) × (ms′ ≡ replicate second-size 0 ++ drop second-size ms)
 start-clears = making.start-clears
 
-pub start-begins : (t : Table) (al : ℕ) (xs xs′ ms ms′ : List ℕ) → Starts t al xs xs′ ms ms′ started.Begun → Holds t al 0 xs′ ms′
-start-begins = finishing.start-begins
+pub start-begins : (t : Table) (al : ℕ) (xs xs′ ms ms′ : List ℕ) → Starts t al xs xs′ ms ms′ started.Begun → After t al 0 xs′ ms′
+start-begins t al xs xs′ ms ms′ = After.began
 
 -- A step that is refused alters nothing, whatever the scratches hold; nor does one that says "done".
 pub step-refuses : (t : Table) (al : ℕ) (xs xs′ ms ms′ : List ℕ) (ps ps′ : List ℤ) (r : Stepped) → Steps t al xs xs′ ms ms′ ps ps′ r → ¬ (step-no t al (length xs) (length ms) (length ps) .number ≡ 0)
@@ -521,56 +518,58 @@ step-refuses t al xs xs′ ms ms′ ps ps′ r g = g .refuses
 pub done-idle : (t : Table) (al : ℕ) (xs xs′ ms ms′ : List ℕ) (ps ps′ : List ℤ) → Steps t al xs xs′ ms ms′ ps ps′ stepped.Done → Unaltered xs xs′ ms ms′ ps ps′
 done-idle t al xs xs′ ms ms′ ps ps′ g = g .idle refl
 
--- Of calls of Step from a start on:
-module _ (t : Table) (al : ℕ) (c : Run t al) where
-  -- the scratches hold what the steps so far made,
-  pub steps-hold : (i : ℕ) → i ≤ length t → Holds t al i (c .scratch i) (c .second i)
-  steps-hold = finishing.after-steps t al c
+-- Of a table that neither Start nor Step refuses, on any scratches and positions: every number of steps can be made, up to the last.
+pub after-exists : (t : Table) (al : ℕ) (xs ms : List ℕ) (ps : List ℤ) → start-no t al (length xs) (length ms) .number ≡ 0 → step-no t al (length xs) (length ms) (length ps) .number ≡ 0
+    → (k : ℕ) → k ≤ length t → (xs′ : List ℕ) × (ms′ : List ℕ) × After t al k xs′ ms′
+after-exists = making.after-exists
 
-  -- step number i answers cell number i of the order of finishing,
-  pub steps-answer : (i : ℕ) → i < length t → c .answers i ≡ stepped.Cell (getD (postorder t) i 0)
-  steps-answer = finishing.answers-are t al c
-
-  -- so that n steps finish n cells,
-  pub steps-finish : (x : ℕ) → Is t x → (i : ℕ) × (i < length t) × (c .answers i ≡ stepped.Cell x)
-  steps-finish = making.stepped-once t al c
-
-  -- the positions wait for the last step, which writes those of the complete sheet, as Layout does,
-  pub positions-wait : (i : ℕ) → i < length t → c .positions i ≡ c .positions 0
-  positions-wait = finishing.positions-wait t al c
-
-  pub positions-last : c .positions (length t) ≡ written (c .positions 0) (sheet t al) (length t)
-  positions-last = finishing.positions-last t al c
-
-  -- and a further step says "done".
-  pub steps-done : c .answers (length t) ≡ stepped.Done
-  steps-done = finishing.done-then t al c
-
--- The same of any calls after a start, whatever positions each step is lent and whichever refused or idle steps come between: after k steps that answered a cell,
+-- Of any calls after a start, whatever positions each step is lent and whichever refused or idle steps come between: after k steps that answered a cell,
 module _ (t : Table) (al k : ℕ) (xs ms : List ℕ) (a : After t al k xs ms) where
-  -- the scratches hold what these k steps made, of at most as many as there are cells,
+  -- the scratches hold what k steps make, whichever calls these were, and k is at most the number of cells;
   pub after-holds : Holds t al k xs ms
   after-holds = after.after-holds t al a
 
-  -- the cells that they answered are the first k of the order of finishing, all of it after n steps: each cell once (`finished-once`),
+  -- the cells that were answered are the first k of the order of finishing:
   pub after-told : told a ≡ take k (postorder t)
   after-told = making.after-told t al a
+
+  -- each cell once, children before their parent, and each sibling's whole subtree before the next's;
+  pub after-once : (i j : ℕ) → i < k → j < k → getD (told a) i 0 ≡ getD (told a) j 0 → i ≡ j
+  after-once = making.told-once t al k xs ms a
+
+  pub after-children : (i j p : ℕ) → i < k → j < k → At (children t (getD (told a) i 0)) p (getD (told a) j 0) → j < i
+  after-children = making.told-children t al k xs ms a
+
+  pub after-siblings : (i j : ℕ) → i < k → j < k → T (earlier t (getD (told a) i 0) (getD (told a) j 0)) → i < j
+  after-siblings = making.told-siblings t al k xs ms a
+
+  -- so that n steps finish n cells, which is every cell;
+  pub after-finish : k ≡ length t → (x : ℕ) → Is t x → (i : ℕ) × (i < k) × (getD (told a) i 0 ≡ x)
+  after-finish = making.told-all t al k xs ms a
 
   -- a step that answers a cell answers number k of that order,
   pub after-cell : (xs′ ms′ : List ℕ) (ps ps′ : List ℤ) (x : ℕ) → Steps t al xs xs′ ms ms′ ps ps′ (stepped.Cell x) → (k < length t) × (x ≡ getD (postorder t) k 0)
   after-cell xs′ ms′ ps ps′ x = making.after-cell t al k xs xs′ ms ms′ ps ps′ x a
 
+  -- there is such a step for any positions, refused or not, and whatever it answers, it is one more that answered a cell, or as many;
+  pub after-step : (ps : List ℤ) → (xs′ : List ℕ) × (ms′ : List ℕ) × (ps′ : List ℤ) × (r : Stepped) × Steps t al xs xs′ ms ms′ ps ps′ r
+  after-step = after.step-exists t al k xs ms a
+
+  pub after-any : (xs′ ms′ : List ℕ) (ps ps′ : List ℤ) (r : Stepped) → Steps t al xs xs′ ms ms′ ps ps′ r → After t al (counted r k) xs′ ms′
+  after-any xs′ ms′ ps ps′ r = after.after-any t al k xs xs′ ms ms′ ps ps′ r a
+
   -- and of the next step, where no question refuses it:
   module _ (xs′ ms′ : List ℕ) (ps ps′ : List ℤ) (r : Stepped) (g : Steps t al xs xs′ ms ms′ ps ps′ r) (z : step-no t al (length xs) (length ms) (length ps) .number ≡ 0) where
-    -- it answers cell number k of the order of finishing, and is one more; after the last it says "done";
+    -- it answers cell number k of the order of finishing, and is one more;
     pub after-answers : k < length t → r ≡ stepped.Cell (getD (postorder t) k 0)
     after-answers = after.next-answers t al k xs xs′ ms ms′ ps ps′ r a g z
 
     pub after-goes-on : k < length t → After t al (suc k) xs′ ms′
     after-goes-on = after.next-goes-on t al k xs xs′ ms ms′ ps ps′ r a g z
 
-    pub after-done : k ≡ length t → r ≡ stepped.Done
-    after-done = after.next-done t al k xs xs′ ms ms′ ps ps′ r a g z
+    -- after the last it says "done" and alters nothing, and so does every further one;
+    pub after-done : k ≡ length t → (r ≡ stepped.Done) × Unaltered xs xs′ ms ms′ ps ps′ × After t al k xs′ ms′
+    after-done = making.all-done t al k xs xs′ ms ms′ ps ps′ r a g z
 
     -- the last that finishes a cell writes the positions of the complete sheet, as Layout does, into those it is lent; no other writes any.
     pub after-writes : suc k ≡ length t → ps′ ≡ written ps (sheet t al) (length t)
@@ -579,7 +578,7 @@ module _ (t : Table) (al k : ℕ) (xs ms : List ℕ) (a : After t al k xs ms) wh
     pub after-waits : ¬ (suc k ≡ length t) → ps′ ≡ ps
     after-waits = after.next-waits t al k xs xs′ ms ms′ ps ps′ r a g z
 
--- The order of finishing, of a table that keeps the questions: each cell once, children before their parent, and each sibling's whole subtree before the next's.
+-- The order of finishing itself, of a table that keeps the questions.
 module _ (t : Table) (fit : Fit t) where
   pub finished-once : (i j : ℕ) → i < length t → j < length t → getD (postorder t) i 0 ≡ getD (postorder t) j 0 → i ≡ j
   finished-once = finishing.finished-once t fit
@@ -587,7 +586,7 @@ module _ (t : Table) (fit : Fit t) where
   pub children-first : (i j p : ℕ) → i < length t → j < length t → At (children t (getD (postorder t) i 0)) p (getD (postorder t) j 0) → j < i
   children-first = finishing.children-first t fit
 
-  pub siblings-first : (i j : ℕ) → i < length t → j < length t → Earlier t (getD (postorder t) i 0) (getD (postorder t) j 0) → i < j
+  pub siblings-first : (i j : ℕ) → i < length t → j < length t → T (earlier t (getD (postorder t) i 0) (getD (postorder t) j 0)) → i < j
   siblings-first = finishing.siblings-first t fit
 
 -- A reading that another question than 20 refuses is answered by that number and cell, whatever the scratches hold.
@@ -600,13 +599,13 @@ pub reach-only-20 : (t : Table) (al : ℕ) (xs ms : List ℕ) (c : ℕ) (r : Rea
     → (n a : ℕ) → r ≡ reached.Refused n a → (n ≡ 20) × (a ≡ c)
 reach-only-20 t al xs ms c r g = g .says
 
--- A reading of the cell c, where no question but 20 refuses, after k steps: the reach of the complete sheet if the cell is among the first k of the order, and else 20 with the cell.
-module _ (t : Table) (al : ℕ) (xs ms : List ℕ) (c : ℕ) (r : ReachAnswer) (g : Reaches t al xs ms c r) (z : reach-no t al (length xs) (length ms) (cells t) c .number ≡ 0) (k : ℕ) (h : Holds t al k xs ms) where
-  pub reach-final : T (mem c (take k (postorder t))) → r ≡ reached.Sides (plus (left-extent t (sheet t al) c)) (plus (right-extent t (sheet t al) c))
-  reach-final = making.reach-final t al xs ms c r g z k h
+-- A reading of the cell c, where no question but 20 refuses, after k steps: the reach of the complete sheet if the cell is among those answered so far, and else 20 with the cell.
+module _ (t : Table) (al : ℕ) (xs ms : List ℕ) (c : ℕ) (r : ReachAnswer) (g : Reaches t al xs ms c r) (z : reach-no t al (length xs) (length ms) (cells t) c .number ≡ 0) (k : ℕ) (a : After t al k xs ms) where
+  pub reach-final : T (mem c (told a)) → r ≡ reached.Sides (plus (left-extent t (sheet t al) c)) (plus (right-extent t (sheet t al) c))
+  reach-final = making.reach-final t al xs ms c r g z k a
 
-  pub reach-waits : ¬ (T (mem c (take k (postorder t)))) → r ≡ reached.Refused 20 c
-  reach-waits = making.reach-waits t al xs ms c r g z k h
+  pub reach-waits : ¬ (T (mem c (told a))) → r ≡ reached.Refused 20 c
+  reach-waits = making.reach-waits t al xs ms c r g z k a
 
 -- ==== THE SEASON'S FOLDER (document 02, E14)
 module _ (f : List ℕ) (t t′ : List Record) (s s′ : List ℕ) (ps ps′ : List ℤ) (r : Reported) (g : Reports f t t′ s s′ ps ps′ r) where

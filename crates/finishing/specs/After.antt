@@ -6,6 +6,7 @@ use lib.IntN.{ℤ}
 use Rattle.plan.specs.Plan.{Table}
 use Rattle.finishing.specs.Finishing.{Starts, Steps}
 use Rattle.finishing.specs.declared.Started.the-variants.{Begun}
+use Rattle.finishing.specs.declared.Stepped.{Stepped}
 use Rattle.finishing.specs.declared.Stepped.the-variants.{Cell, Done, Refused}
 
 -- the scratches are those after a start that has begun and so many steps that answered a cell
@@ -14,3 +15,9 @@ pub data After (t : Table) (al : ℕ) : ℕ → List ℕ → List ℕ → Type 0
   stepped : {k c : ℕ} {xs xs′ ms ms′ : List ℕ} {ps ps′ : List ℤ} → After t al k xs ms → Steps t al xs xs′ ms ms′ ps ps′ (Cell c) → After t al (suc k) xs′ ms′
   refused : {k n c : ℕ} {xs xs′ ms ms′ : List ℕ} {ps ps′ : List ℤ} → After t al k xs ms → Steps t al xs xs′ ms ms′ ps ps′ (Refused n c) → After t al k xs′ ms′
   done : {k : ℕ} {xs xs′ ms ms′ : List ℕ} {ps ps′ : List ℤ} → After t al k xs ms → Steps t al xs xs′ ms ms′ ps ps′ Done → After t al k xs′ ms′
+
+-- after one more step, by its answer
+unfoldable pub counted : Stepped → ℕ → ℕ
+counted (Cell c) k = suc k
+counted Done k = k
+counted (Refused n c) k = k

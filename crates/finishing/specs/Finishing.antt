@@ -1,21 +1,21 @@
 -- WHAT START, STEP AND REACH ANSWER, and what they leave in the buffers lent to them (document 02, E9). Assumes nothing.
 use mathlib.Core.Path.{_≡_}
 use mathlib.Core.Bool.{cond}
-use mathlib.Core.List.{List}
+use mathlib.Core.List.{List, _++_}
 use Prim.Native.Nat.{ℕ, suc, _≤_}
-use lib.ListN.{length, getD, take}
+use lib.ListN.{length, getD, take, drop, replicate}
 use lib.Dec.{eqb, ltb}
 use lib.IntN.{ℤ}
 use Rattle.whole.specs.Whole.{plus}
+use Rattle.plan.specs.Limits.{scratch-size, second-size}
 use Rattle.plan.specs.Plan.{Table, cells}
 use Rattle.plan.specs.Questions.{start, step, reach, refusal, start-given, step-given, reach-given}
 use Rattle.plan.specs.declared.Refusal.{Refusal}
 use Rattle.rules.specs.Placement.{left-extent, right-extent}
 use Rattle.contours.specs.Sheet.{sheet}
 use Rattle.positions.specs.Written.{written}
-use Rattle.joining.specs.Joining.{Memory, memory-of}
 use Rattle.finishing.specs.Postorder.{postorder}
-use Rattle.finishing.specs.Made.{cleared, made, lent-as}
+use Rattle.finishing.specs.Made.{made}
 use Rattle.finishing.specs.declared.Started.{Started}
 use Rattle.finishing.specs.declared.Started.the-variants as started
 use Rattle.finishing.specs.declared.Stepped.{Stepped}
@@ -37,25 +37,29 @@ reach-no t al s m finished c = refusal reach (reach-given t al s m finished c)
 unfoldable pub started-of : Refusal → Started
 started-of r = cond (eqb (r .number) 0) started.Begun (started.Refused (r .number) (r .cell))
 
-unfoldable pub started-scratches : Refusal → (scratch second : List ℕ) → Memory
-started-scratches r xs ms = cond (eqb (r .number) 0) (lent-as cleared xs ms) (memory-of xs ms)
+-- a lent scratch after it: its first numbers are cleared, the later ones as they were; refused, all as they were
+unfoldable pub started-as : Refusal → (size : ℕ) → List ℕ → List ℕ
+started-as r n xs = cond (eqb (r .number) 0) (replicate n 0 ++ drop n xs) xs
 
 -- a call of Start: the two scratches before and after it
 pub record Starts (t : Table) (al : ℕ) (xs xs′ ms ms′ : List ℕ) (r : Started) : Type 0 where
   pub answers : r ≡ started-of (start-no t al (length xs) (length ms))
-  pub scratches : memory-of xs′ ms′ ≡ started-scratches (start-no t al (length xs) (length ms)) xs ms
+  pub scratch : xs′ ≡ started-as (start-no t al (length xs) (length ms)) scratch-size xs
+  pub second : ms′ ≡ started-as (start-no t al (length xs) (length ms)) second-size ms
 
--- ---- the scratches hold what k steps from a start on this table and allowance made, of at most as many as there are cells
+-- ---- the scratches hold what k steps from a start on this table and allowance made (`made`), of at most as many as there are cells; their later numbers are anything
 pub record Holds (t : Table) (al k : ℕ) (xs ms : List ℕ) : Type 0 where
   pub few : k ≤ length t
-  pub scratches : memory-of xs ms ≡ lent-as (made t al k) xs ms
+  pub scratch : xs ≡ made t al k .rows ++ drop scratch-size xs
+  pub second : ms ≡ made t al k .marks ++ drop second-size ms
 
 -- ---- step number k: cell number k of the order of finishing; after the last "done", and nothing changes
 unfoldable pub stepped-at : Table → (k : ℕ) → Stepped
 stepped-at t k = cond (ltb k (length t)) (stepped.Cell (getD (postorder t) k 0)) stepped.Done
 
-unfoldable pub made-after : Table → (allowance k : ℕ) → Memory
-made-after t al k = cond (ltb k (length t)) (made t al (suc k)) (made t al k)
+-- how many cells are finished after it
+unfoldable pub finished-after : Table → (k : ℕ) → ℕ
+finished-after t k = cond (ltb k (length t)) (suc k) k
 
 -- the last step also writes the positions of the complete sheet
 unfoldable pub positions-after : Table → (allowance k : ℕ) → List ℤ → List ℤ
@@ -63,7 +67,8 @@ positions-after t al k ps = cond (eqb (suc k) (length t)) (written ps (sheet t a
 
 pub record StepAt (t : Table) (al k : ℕ) (xs xs′ ms ms′ : List ℕ) (ps ps′ : List ℤ) (r : Stepped) : Type 0 where
   pub answers : r ≡ stepped-at t k
-  pub scratches : memory-of xs′ ms′ ≡ lent-as (made-after t al k) xs ms
+  pub scratch : xs′ ≡ made t al (finished-after t k) .rows ++ drop scratch-size xs
+  pub second : ms′ ≡ made t al (finished-after t k) .marks ++ drop second-size ms
   pub positions : ps′ ≡ positions-after t al k ps
 
 -- nothing that was lent is altered

@@ -18,7 +18,7 @@ use Rattle.walk.specs.Machine.{Chart, wide, deep, top, stretch, closed, root-cl
 use Rattle.positions.specs.Written.{written}
 use Rattle.finishing.specs.Postorder.{postorder}
 use Rattle.finishing.specs.Made.{worked, count-at, made}
-use Rattle.finishing.specs.Finishing.{stepped-at, made-after, positions-after}
+use Rattle.finishing.specs.Finishing.{stepped-at, finished-after, positions-after}
 use Rattle.finishing.specs.declared.Stepped.{Stepped}
 use Rattle.finishing.specs.declared.Stepped.the-variants as stepped
 use Rattle.finishing.specs.declared.Reached.{Reached}
@@ -120,7 +120,7 @@ pub record Concluded (t : Table) (al : ℕ) (last : Bool) (xs ys : List ℕ) (ps
 -- a step on scratches of 16,384 and 1,024 numbers: what it does where they hold what k steps made, and that "done" alters nothing
 pub record Advances (t : Table) (al : ℕ) (m n : Memory) (ps qs : List ℤ) (r : Stepped) : Type 0 where
   pub answers : (k : ℕ) → k ≤ length t → m ≡ made t al k → r ≡ stepped-at t k
-  pub memory : (k : ℕ) → k ≤ length t → m ≡ made t al k → n ≡ made-after t al k
+  pub memory : (k : ℕ) → k ≤ length t → m ≡ made t al k → n ≡ made t al (finished-after t k)
   pub positions : (k : ℕ) → k ≤ length t → m ≡ made t al k → qs ≡ positions-after t al k ps
   pub says : (i j : ℕ) → ¬ (r ≡ stepped.Refused i j)
   pub idle : r ≡ stepped.Done → (n ≡ m) × (qs ≡ ps)

@@ -3,6 +3,5 @@ pub mod Made
 pub mod Finishing
 pub mod Order
 pub mod Guard
-pub mod Run
 pub mod After
 pub mod laws

@@ -1,7 +1,8 @@
--- THE STATE of a sheet that is being made, after k steps (document 02, E9): both scratches, outright. Assumes nothing.
-use mathlib.Core.List.{List, [], _∷_, _++_}
+-- THE STATE of a sheet that is being made, after k steps (document 02, E9): both scratches, outright. It is carried from one call to the next and read by nobody else: what comes of it, whatever
+-- it is, is said by the theorems over `After` (demands Calls), so a reader need not believe what stands here. Assumes nothing.
+use mathlib.Core.List.{List, [], _∷_}
 use Prim.Native.Nat.{ℕ, zero, suc, _*_}
-use lib.ListN.{length, set, take, drop, replicate}
+use lib.ListN.{length, set, take, replicate}
 use Rattle.plan.specs.Limits.{scratch-size, second-size}
 use Rattle.plan.specs.Lists.{index}
 use Rattle.plan.specs.Plan.{Table, W, D, parent, children, place, level, row}
@@ -39,7 +40,3 @@ count-at = 63
 -- after k steps
 unfoldable pub made : Table → (allowance : ℕ) → ℕ → Memory
 made t al k = memory-of (set (worked t al k .rows) count-at k) (worked t al k .marks)
-
--- lent scratches that hold this state: their first 16,384 and 1,024 numbers; later ones as they were
-abbrev pub lent-as : Memory → (scratch second : List ℕ) → Memory
-lent-as m xs ms = memory-of (m .rows ++ drop scratch-size xs) (m .marks ++ drop second-size ms)

@@ -33,7 +33,7 @@ use Rattle.layout.specs.laws.Walks.{chart-suits}
 use Rattle.layout.specs.laws.Laid.{nothing}
 use Rattle.finishing.specs.Postorder.{postorder}
 use Rattle.finishing.specs.Made.{work, worked, cleared, count-at, made}
-use Rattle.finishing.specs.Finishing.{start-no, step-no, reach-no, started-of, started-scratches, Starts, Holds, stepped-at, made-after, positions-after, Steps, reached-of, Reaches}
+use Rattle.finishing.specs.Finishing.{start-no, step-no, reach-no, started-of, started-as, Starts, Holds, stepped-at, finished-after, positions-after, Steps, reached-of, Reaches}
 use Rattle.finishing.specs.Guard.{Took, Concluded, Advances, read}
 use Rattle.finishing.specs.laws.Final as final
 use Rattle.finishing.specs.laws.Final.{worked-long, count-read, reaches}
@@ -79,7 +79,7 @@ module _ (t : Table) (fit : Fit t) (al : ℕ) (xs ms : List ℕ) (ps : List ℤ)
   same j e = sym (ek ∙ ap (λ (m : Memory). getD (m .rows) count-at 0) e ∙ count-read t (fit .sound) al j)
 
   pub step-over : length t ≤ k → Advances t al (memory-of xs ms) (memory-of xs ms) ps ps Done
-  unfolding stepped-at made-after positions-after
+  unfolding stepped-at finished-after positions-after
   step-over l = record {
     answers = λ j le e. let past : ltb j (length t) ≡ false = le-ltb j (length t) (omega (arith, same j e)) in rw past;
     memory = λ j le e. let past : ltb j (length t) ≡ false = le-ltb j (length t) (omega (arith, same j e)) in rw past e;
@@ -96,7 +96,7 @@ module _ (t : Table) (fit : Fit t) (al : ℕ) (xs ms : List ℕ) (ps : List ℤ)
 
     pub step-done : (r : Bool) → Took t al k (memory-of xs ms) n r c → (z : Bool) → z ≡ eqb (k + 1) (length t) → (ys zs : List ℕ) (qs : List ℤ) → Concluded t al z (n .rows) ys ps qs → zs ≡ set ys count-at (k + 1)
         → Advances t al (memory-of xs ms) (memory-of zs (n .marks)) ps qs (Cell c)
-    unfolding stepped-at made-after positions-after made
+    unfolding stepped-at finished-after positions-after made
     step-done r h z ez ys zs qs d es = record {
       answers = λ j le e. rw (same j e, there) (ap Cell (h .cell-is));
       memory = λ j le e. let w = taken j e in rw (same j e, there) (λ i. memory-of ((es ∙ (λ i. set (rows-are z ez d w i) count-at (one i))) i) (w i .marks));
@@ -130,10 +130,10 @@ made-long t al k = let w = worked-long t al k in record { rows = length-set (wor
 take-front : (n : ℕ) (us vs : List ℕ) → length us ≡ n → take n (us ++ vs) ≡ us
 take-front n us vs e = subst (λ (i : ℕ). take i (us ++ vs) ≡ us) e (take-append-seam us vs)
 
-held : (t : Table) (al k : ℕ) (xs ms : List ℕ) → Holds t al k xs ms → memory-of (take scratch-size xs) (take second-size ms) ≡ made t al k
+pub held : (t : Table) (al k : ℕ) (xs ms : List ℕ) → Holds t al k xs ms → memory-of (take scratch-size xs) (take second-size ms) ≡ made t al k
 held t al k xs ms h =
-    let ex : take scratch-size xs ≡ made t al k .rows = ap (λ (m : Memory). take scratch-size (m .rows)) (h .scratches) ∙ take-front scratch-size (made t al k .rows) (drop scratch-size xs) (made-long t al k .rows) in
-    let em : take second-size ms ≡ made t al k .marks = ap (λ (m : Memory). take second-size (m .marks)) (h .scratches) ∙ take-front second-size (made t al k .marks) (drop second-size ms) (made-long t al k .marks) in
+    let ex : take scratch-size xs ≡ made t al k .rows = ap (take scratch-size) (h .scratch) ∙ take-front scratch-size (made t al k .rows) (drop scratch-size xs) (made-long t al k .rows) in
+    let em : take second-size ms ≡ made t al k .marks = ap (take second-size) (h .second) ∙ take-front second-size (made t al k .marks) (drop second-size ms) (made-long t al k .marks) in
     (λ i. memory-of (ex i) (em i))
 
 -- ---- the calls: the refusal r of the questions, then the rest
@@ -142,8 +142,8 @@ zero-of e z = ap (λ (x : Refusal). x .number) (sym e) ∙ z
 
 module _ (t : Table) (al : ℕ) (xs ms : List ℕ) {r : Refusal} (e : r ≡ start-no t al (length xs) (length ms)) where
   pub start-refused : ¬ (r .number ≡ 0) → Starts t al xs xs ms ms (started.Refused (r .number) (r .cell))
-  unfolding started-of started-scratches
-  start-refused z = record { answers = rw (← e, ne-eqb (r .number) 0 z); scratches = rw (← e, ne-eqb (r .number) 0 z) }
+  unfolding started-of started-as
+  start-refused z = record { answers = rw (← e, ne-eqb (r .number) 0 z); scratch = rw (← e, ne-eqb (r .number) 0 z); second = rw (← e, ne-eqb (r .number) 0 z) }
 
   pub start-asks : r .number ≡ 0 → Fit t × (scratch-size ≤ length xs) × (second-size ≤ length ms)
   start-asks z =
@@ -154,14 +154,15 @@ module _ (t : Table) (al : ℕ) (xs ms : List ℕ) {r : Refusal} (e : r ≡ star
 
   pub start-done : r .number ≡ 0 → {ys ns : List ℕ} → ys ≡ replicate (length (take scratch-size xs)) 0 → ns ≡ replicate (length (take second-size ms)) 0
       → Starts t al xs (ys ++ drop scratch-size xs) ms (ns ++ drop second-size ms) started.Begun
-  unfolding started-of started-scratches cleared
+  unfolding started-of started-as
   start-done z {ys = ys} {ns = ns} ey en =
       let (f, lx, lm) = start-asks z in
       let ry : ys ≡ replicate scratch-size 0 = ey ∙ ap (λ (n : ℕ). replicate {A = ℕ} n 0) (length-take-le scratch-size xs lx) in
       let rn : ns ≡ replicate second-size 0 = en ∙ ap (λ (n : ℕ). replicate {A = ℕ} n 0) (length-take-le second-size ms lm) in
       record {
         answers = rw (← e, eq-eqb (r .number) 0 z);
-        scratches = rw (← e, eq-eqb (r .number) 0 z) (λ i. memory-of (ry i ++ drop scratch-size xs) (rn i ++ drop second-size ms));
+        scratch = rw (← e, eq-eqb (r .number) 0 z) (ap (λ (l : List ℕ). l ++ drop scratch-size xs) ry);
+        second = rw (← e, eq-eqb (r .number) 0 z) (ap (λ (l : List ℕ). l ++ drop second-size ms) rn);
       }
 
 module _ (t : Table) (al : ℕ) (xs ms : List ℕ) (ps : List ℤ) {r : Refusal} (e : r ≡ step-no t al (length xs) (length ms) (length ps)) where
@@ -186,7 +187,8 @@ module _ (t : Table) (al : ℕ) (xs ms : List ℕ) (ps : List ℤ) {r : Refusal}
     refuses = λ y. absurd (y (zero-of e z));
     steps = λ _ k h. let m = held t al k xs ms h in record {
       answers = d .answers k (h .few) m;
-      scratches = (let g = d .memory k (h .few) m in λ i. memory-of (g i .rows ++ drop scratch-size xs) (g i .marks ++ drop second-size ms));
+      scratch = ap (λ (m : Memory). m .rows ++ drop scratch-size xs) (d .memory k (h .few) m);
+      second = ap (λ (m : Memory). m .marks ++ drop second-size ms) (d .memory k (h .few) m);
       positions = d .positions k (h .few) m;
     };
     says = λ _. d .says;
@@ -250,13 +252,13 @@ module _ (t : Table) (al : ℕ) (xs ms : List ℕ) (c : ℕ) {r : Refusal} (e : 
       -- what the lent scratches hold at the places that are read
       count-held : (k : ℕ) → Holds t al k xs ms → getD xs count-at 0 ≡ k
       count-held k h =
-          ap (λ (m : Memory). getD (m .rows) count-at 0) (h .scratches)
+          ap (λ (l : List ℕ). getD l count-at 0) (h .scratch)
           ∙ List·getD-append (made t al k .rows) (drop scratch-size xs) 0 count-at (omega (arith, made-long t al k .rows))
           ∙ count-read t (fits .sound) al k
 
       mark-held : (k : ℕ) → Holds t al k xs ms → (i : ℕ) → i < 4 → mark ms c i ≡ mark (made t al k .marks) c i
       mark-held k h i il =
-          ap (λ (m : Memory). getD (m .marks) (4 * c + i) 0) (h .scratches)
+          ap (λ (l : List ℕ). getD l (4 * c + i) 0) (h .second)
           ∙ List·getD-append (made t al k .marks) (drop second-size ms) 0 (4 * c + i) (omega (arith, made-long t al k .marks, fits .not-too-many))
 
       sides : (k : ℕ) → Holds t al k xs ms → (b : Bool) → mem c (take k (postorder t)) ≡ b

@@ -5,7 +5,7 @@ use Prim.Native.Nat.{ℕ, _<_}
 use borrow.Author.Tests.{ne-eqb}
 use lib.ListN.{length, take}
 use lib.IntN.{ℤ}
-use Rattle.plan.specs.Limits.{most-cells}
+use Rattle.plan.specs.Limits.{most-cells, scratch-size, second-size}
 use Rattle.plan.specs.Lists.{mem, some}
 use Rattle.plan.specs.Plan.{Table, cells}
 use Rattle.plan.specs.Columns.{table-of}
@@ -16,7 +16,7 @@ use Rattle.plan.specs.Questions.{scratch, second-scratch, in-file, puts, start,
 use Rattle.plan.specs.laws.Crowded.{refusal-crowded, crowded-refuses}
 use Rattle.plan.specs.declared.Refusal.{Refusal}
 use Rattle.finishing.specs.Postorder.{postorder}
-use Rattle.finishing.specs.Finishing.{start-no, step-no, reach-no, started-of, started-scratches, Starts, Steps, reached-of, Reaches}
+use Rattle.finishing.specs.Finishing.{start-no, step-no, reach-no, started-of, started-as, Starts, Steps, reached-of, Reaches}
 use Rattle.finishing.specs.declared.Started.{Started}
 use Rattle.finishing.specs.declared.Stepped.{Stepped}
 use Rattle.finishing.specs.declared.Stepped.the-variants as stepped
@@ -45,7 +45,7 @@ module _ (al s m : ℕ) where
 starts-crowded : (al : ℕ) (xs xs′ ms ms′ : List ℕ) (d : Started) (u v : Table) → most-cells < length u → most-cells < length v → Starts u al xs xs′ ms ms′ d → Starts v al xs xs′ ms ms′ d
 starts-crowded al xs xs′ ms ms′ d u v p q g =
     let e : start-no u al (length xs) (length ms) ≡ start-no v al (length xs) (length ms) = start-crowded al (length xs) (length ms) u p ∙ sym (start-crowded al (length xs) (length ms) v q) in
-    record { answers = g .answers ∙ ap started-of e; scratches = g .scratches ∙ ap (λ (r : Refusal). started-scratches r xs ms) e }
+    record { answers = g .answers ∙ ap started-of e; scratch = g .scratch ∙ ap (λ (r : Refusal). started-as r scratch-size xs) e; second = g .second ∙ ap (λ (r : Refusal). started-as r second-size ms) e }
 
 steps-crowded : (al : ℕ) (xs xs′ ms ms′ : List ℕ) (ps ps′ : List ℤ) (d : Stepped) (u v : Table) → most-cells < length u → most-cells < length v → Steps u al xs xs′ ms ms′ ps ps′ d → Steps v al xs xs′ ms ms′ ps ps′ d
 steps-crowded al xs xs′ ms ms′ ps ps′ d u v p q g =
