@@ -8,6 +8,7 @@
 
 use bindings::Record;
 use compare::guard::Guarded;
+use compare::records;
 use reference::generate as make;
 use reference::making::{self, SECOND};
 use reference::rng::Rng;
@@ -25,22 +26,6 @@ const NEAR_WIDEST: u32 = 240_000;
 
 /// How often each call gave each answer.
 type Seen = BTreeMap<(&'static str, String), u64>;
-
-fn record(c: &Cell) -> Record {
-    Record {
-        parent: c.parent,
-        kind: c.kind,
-        rank: c.rank,
-        width: c.width,
-        depth: c.depth,
-        label_length: c.label_len,
-        label_start: c.label_start,
-    }
-}
-
-fn records(cells: &[Cell]) -> Vec<Record> {
-    cells.iter().map(record).collect()
-}
 
 /// Where the buffers that are lent to the engine stand.
 struct Rooms {
@@ -236,7 +221,7 @@ impl Run {
         ours
     }
 
-    fn check(&mut self, rng: &mut Rng, cells: &[Cell], positions: &[i32], allowance: u32) {
+    fn check(&mut self, rng: &mut Rng, cells: &[Cell], positions: &[i32], allowance: u32) -> Result<reference::Verdict, Refusal> {
         let expected = reference::check(cells, positions, allowance);
         let table = self.rooms.table.lend(&records(cells), rng.once_in(2));
         let lent = self.rooms.positions.lend(positions, rng.once_in(2));
@@ -256,15 +241,35 @@ impl Run {
         }
         self.note_widths("Check", cells, &expected);
         self.note_coordinates("Check", positions, cells.len(), &expected);
-        let answer = match expected {
-            Ok(reference::Verdict::Kept(_)) => "kept".into(),
-            Ok(reference::Verdict::Broken { rule, .. }) => format!("broken S{rule}"),
-            Err(r) => format!("refused {:2}", r.number),
-        };
+        let answer = judged(&expected);
         if expected.is_ok() {
             self.note_ranks("Check", cells, &answer);
         }
         self.count("Check", answer);
+        expected
+    }
+
+    /// Check one unit beside placements that are kept, ours and another's: each rule that this breaks is broken by one unit.
+    fn one_off(&mut self, rng: &mut Rng, cells: &[Cell], ours: &[i32], allowance: u32) {
+        let others = make::kept(rng, cells, allowance);
+        let kept = self.check(rng, cells, &others, allowance);
+        self.same("the verdict on a placement that is kept", &judged(&kept), &"kept".into(), &(allowance, &others, cells));
+        let near = [("ours", &ours[..2 * cells.len()]), ("another's", &others)];
+        // A large plan's verdict takes the reference long.
+        let times = if cells.len() <= 60 { 2 } else { 1 };
+        for (whose, near) in near.into_iter().cycle().take(2 * times) {
+            let (positions, what, way) = make::one_off(rng, cells, near);
+            let verdict = self.check(rng, cells, &positions, allowance);
+            let answer = judged(&verdict);
+            self.note("One off", format!("{what} {way} {answer}"));
+            self.note("One off", format!("{whose} {answer}"));
+            if let Ok(reference::Verdict::Broken { rule: 4, a, b }) = verdict {
+                // No two boxes meet: what is crossed is a plumb line that hangs below all that is appointed.
+                if !reference::boxes_meet(cells, &positions) {
+                    reference::crossings(cells, &positions, a as usize, b as usize).into_iter().for_each(|how| self.note("One off", how));
+                }
+            }
+        }
     }
 
     /// A few strokes of a sheet on one page, the last one and the number after it among them, bit by bit.
@@ -906,6 +911,7 @@ impl Run {
         let mut cells = match () {
             _ if widest => make::widest(rng),
             _ if rng.once_in(30) => make::too_tall(rng),
+            _ if rng.once_in(12) => make::facing(rng),
             _ => some_table(rng),
         };
         let mut allowance = if widest { 0 } else { make::allowance(rng) };
@@ -926,7 +932,9 @@ impl Run {
             allowance = rng.pick(&[65_536, 65_537, 100_000, u32::MAX]);
         }
         let ours = self.layout(rng, &cells, allowance);
-        self.check(rng, &cells, &ours, allowance);
+        if let Ok(reference::Verdict::Kept(_)) = self.check(rng, &cells, &ours, allowance) {
+            self.one_off(rng, &cells, &ours, allowance);
+        }
         let foreign = if valid {
             let mut p = make::foreign(rng, &cells, allowance.min(65_535));
             p.extend((0..rng.index(4)).map(|_| 300_000));
@@ -936,7 +944,7 @@ impl Run {
             (0..2 * cells.len() + rng.index(3)).map(|_| rng.between(-far, far) as i32).collect()
         };
         let under = if rng.once_in(4) { make::allowance(rng) } else { allowance };
-        self.check(rng, &cells, &foreign, under);
+        let _ = self.check(rng, &cells, &foreign, under);
         for cell in [rng.index(cells.len() + 2), rng.index(cells.len() + 1), rng.next() as usize] {
             let positions = if rng.once_in(2) { &ours } else { &foreign };
             self.ends(rng, &cells, positions, cell);
@@ -1359,6 +1367,14 @@ fn parts_of(file: &[u8]) -> (Vec<Cell>, &[u8], u32) {
     (table, &file[..trailer[0] as usize + 256 * trailer[1] as usize], allowance)
 }
 
+fn judged(r: &Result<reference::Verdict, Refusal>) -> String {
+    match r {
+        Ok(reference::Verdict::Kept(_)) => "kept".into(),
+        Ok(reference::Verdict::Broken { rule, .. }) => format!("broken S{rule}"),
+        Err(r) => named(&Err(*r)),
+    }
+}
+
 fn named(r: &Result<(), Refusal>) -> String {
     match r {
         Ok(()) => "accepted".into(),
@@ -1438,6 +1454,18 @@ fn unseen(seen: &Seen) -> Vec<String> {
     }
     all.push(("Check", "kept".into()));
     all.extend((1..=5).map(|s| ("Check", format!("broken S{s}"))));
+    for what in ["cell", "sub-diagram", "later brother"] {
+        all.extend(["up", "down"].map(|way| ("One off", format!("{what} {way} broken S1"))));
+        for way in ["left", "right"] {
+            all.push(("One off", format!("{what} {way} kept")));
+            all.extend((2..=5).map(|s| ("One off", format!("{what} {way} broken S{s}"))));
+        }
+    }
+    for whose in ["ours", "another's"] {
+        all.push(("One off", format!("{whose} kept")));
+        all.extend((1..=5).map(|s| ("One off", format!("{whose} broken S{s}"))));
+    }
+    all.extend(["a plumb line, a later box", "a box, a later plumb line", "two plumb lines"].map(|how| ("One off", how.into())));
     let strips = ["no byte", "blank", "whole bytes", "points, first column odd", "points, least x not 0", "points below row 255", "past the last column that fits", "row of 32 bits"];
     all.extend(strips.map(|a| ("Strip", a.into())));
     all.extend(["0", "more than 0", "none"].map(|a| ("Frame", a.into())));

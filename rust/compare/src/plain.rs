@@ -1,6 +1,7 @@
 //! The engine's own algorithms in straightforward, safe Rust over the records themselves: what its speed
-//! is measured against. Layout keeps one contour a level in rows of 64 numbers; Check takes each rule in
-//! turn over all pairs of cells, with places in preorder to tell who stands below whom.
+//! is measured against. Layout keeps one contour a level in rows of 64 numbers; Check decides by one pass
+//! over the cells and one sweep over the rows, and only where something is broken takes each rule in turn
+//! over all pairs of cells, with places in preorder to tell who stands below whom.
 
 use bindings::{Drill, Ends, Outcome, Plan, Record, Refusal, Sheet, Verdict};
 

@@ -23,9 +23,12 @@ pub enum Shape {
     Wide,
     /// Under a random open cell until it is full: cells of one level stand together.
     Bushy,
+    /// Two under each, save now and then: the first goes on down, the second is a leaf. A father that
+    /// appoints the leaf has a plumb line that hangs far below it.
+    Stems,
 }
 
-pub const SHAPES: [Shape; 5] = [Shape::Scattered, Shape::Deep, Shape::Chain, Shape::Wide, Shape::Bushy];
+pub const SHAPES: [Shape; 6] = [Shape::Scattered, Shape::Deep, Shape::Chain, Shape::Wide, Shape::Bushy, Shape::Stems];
 
 /// How the numbers of a plan are drawn.
 pub struct Sizes {
@@ -85,6 +88,8 @@ fn father(rng: &mut Rng, shape: Shape, made: usize, full: usize) -> usize {
         Shape::Chain => last - (full % made.min(8)),
         Shape::Wide => rng.index(made.min(2 + full)),
         Shape::Bushy => (last / 3 + rng.index(2) + full / 4).min(last),
+        Shape::Stems if full > 0 || rng.once_in(12) => rng.index(made),
+        Shape::Stems => (last / 2 * 2).saturating_sub(1),
     }
 }
 
@@ -433,6 +438,47 @@ pub fn foreign(rng: &mut Rng, cells: &[Cell], allowance: u32) -> Vec<i32> {
     p
 }
 
+/// A placement of a valid table that keeps the rules, mostly not ours: our sheet of wider boxes, for a smaller allowance.
+pub fn kept(rng: &mut Rng, cells: &[Cell], allowance: u32) -> Vec<i32> {
+    let mut wider = cells.to_vec();
+    let often = rng.pick(&[2, 4, 16]);
+    for c in &mut wider {
+        if rng.once_in(often) {
+            c.width = (c.width + rng.between(1, 2) as u16).min(MAX_WIDTH);
+        }
+    }
+    sheet(&wider, allowance.saturating_sub(rng.between(0, 2) as u32))
+}
+
+/// The same placement but for one unit: one cell, a sub-diagram or a later brother's has moved. What, and which way.
+pub fn one_off(rng: &mut Rng, cells: &[Cell], positions: &[i32]) -> (Vec<i32>, &'static str, &'static str) {
+    let plan = Plan::new(cells);
+    let all: Vec<usize> = (0..cells.len()).collect();
+    let later: Vec<usize> = plan.neighbours().into_iter().map(|(_, l)| l).collect();
+    let who = rng.index(3);
+    let mut one = |from: &[usize]| {
+        // Mostly one that no father appoints, since S2 is broken by any other.
+        let free: Vec<usize> = from.iter().copied().filter(|&c| plan.father[c].is_some_and(|f| plan.appointed(f) != Some(c))).collect();
+        if free.is_empty() || rng.once_in(4) { rng.pick(from) } else { rng.pick(&free) }
+    };
+    let (what, top) = match who {
+        0 => ("cell", one(&all)),
+        1 if !later.is_empty() => ("later brother", one(&later)),
+        _ => ("sub-diagram", one(&all)),
+    };
+    let moved = if what == "cell" { vec![top] } else { plan.sub_diagram(top) };
+    // Up or down is S1 always.
+    let (way, axis, by) = match rng.index(12) {
+        0 => ("up", 1, -1),
+        1 => ("down", 1, 1),
+        2..=6 => ("left", 0, -1),
+        _ => ("right", 0, 1),
+    };
+    let mut p = positions.to_vec();
+    moved.into_iter().for_each(|c| p[2 * c + axis] = p[2 * c + axis].saturating_add(by));
+    (p, what, way)
+}
+
 /// The next float towards infinity, and towards minus infinity, of a positive one.
 fn beside(x: f64) -> [f64; 2] {
     [f64::from_bits(x.to_bits() + 1), f64::from_bits(x.to_bits() - 1)]
@@ -475,4 +521,72 @@ pub fn chain(n: usize, depth: u8) -> Vec<Cell> {
     (0..n)
         .map(|c| Cell { parent: if c == 0 { ROOT } else { c as u16 - 1 }, kind: if c + 1 < n { 2 } else { 1 }, width: 2, depth, ..Cell::default() })
         .collect()
+}
+
+/// Two branches that face each other, with widths such that often nothing but a plumb line keeps them apart: of one, a line hangs
+/// at its edge below a leaf that is appointed; of the other, a box, mostly with a hanging line of its own, comes near it below the leaf.
+pub fn facing(rng: &mut Rng) -> Vec<Cell> {
+    // Father, place among two sons, kind, depth; the mirror image has the sons and the kinds the other way round.
+    let mut d = || rng.between(1, 3) as u8;
+    let (branch, line, leaf) = (d(), d(), d());
+    let other = branch + line + leaf + 1 + d();
+    let mut rows = vec![
+        (ROOT, 0, 2, d()),
+        (0, 0, 4, branch),
+        (0, 1, 2, other),
+        (1, 0, 1, d()),
+        (1, 1, 2, line),
+        (4, 1, 1, leaf),
+        (2, 0, 1, d()),
+        (2, 1, 1, d()),
+    ];
+    chain_down(rng, &mut rows, 4, 0);
+    if !rng.once_in(3) {
+        rows[6].2 = 4;
+        rows.push((6, 0, 1, 1));
+        chain_down(rng, &mut rows, 6, 1);
+    }
+    let (mirrored, most) = (rng.once_in(2), rng.pick(&[2, 9, 30]));
+    rows[0].2 = rng.pick(&[2, 4]);
+    let two = |c: usize| rows.iter().filter(|r| r.0 as usize == c).count() == 2;
+    let turned = |c: usize| mirrored && c > 0 && two(c);
+    rows.iter()
+        .enumerate()
+        .map(|(c, &(parent, place, kind, depth))| Cell {
+            parent,
+            kind: if turned(c) { 6 - kind } else { kind },
+            rank: if mirrored && two(parent as usize) { 1 - place } else { place },
+            width: rng.between(1, most) as u16,
+            depth,
+            ..Cell::default()
+        })
+        .collect()
+}
+
+/// Some runs, each under the one before, and a step at their end.
+fn chain_down(rng: &mut Rng, rows: &mut Vec<(u16, u8, u8, u8)>, father: u16, place: u8) {
+    let many = rng.between(2, 5) as usize;
+    rows.push((father, place, 2, rng.between(1, 4) as u8));
+    for _ in 1..many {
+        rows.push((rows.len() as u16 - 1, 0, 2, rng.between(1, 4) as u8));
+    }
+    rows.last_mut().expect("a cell").2 = 1;
+}
+
+/// Chains under one root, of runs with the depths after the root's in turn; under each run the chain's next cell and after it a leaf, which is appointed: each run's plumb line hangs down to the chain's end.
+pub fn stems(chains: usize, depths: &[u8]) -> Vec<Cell> {
+    let (root, below) = depths.split_first().expect("the root's depth");
+    let run = |parent: usize, depth: u8| Cell { parent: parent as u16, kind: 2, width: 4, depth, ..Cell::default() };
+    let mut cells = vec![Cell { parent: ROOT, ..run(0, *root) }];
+    for _ in 0..chains {
+        let mut father = 0;
+        for depth in below {
+            cells.push(run(father, *depth));
+            father = cells.len() - 1;
+        }
+        cells[father].kind = 1;
+    }
+    let runs: Vec<usize> = (1..cells.len()).filter(|&c| cells[c].kind == 2).collect();
+    cells.extend(runs.into_iter().map(|c| Cell { kind: 1, ..run(c, 1) }));
+    cells
 }

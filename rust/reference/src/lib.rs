@@ -30,7 +30,7 @@ pub use listing::{list, listing, LISTING};
 pub use mend::{lines, mend, mended, Altered, LINES, MENDED};
 pub use plan::{Cell, Plan, Refusal, MAX_CELLS, MAX_WIDTH, ROOT};
 pub use plan_file::{label, label_refusal, read, Form, FORMS};
-pub use rules::{check, ends, measure, Ends, Measure, Verdict, MAX_COORDINATE};
+pub use rules::{boxes_meet, check, crossings, ends, measure, Ends, Measure, Verdict, MAX_COORDINATE};
 pub use strokes::{stroke, Page, Stroke};
 pub use strip::strip;
 pub use season::{pool, report, Figures, Report};

@@ -1,6 +1,7 @@
 //! S1 to S5 over all pairs of cells and all rows; Check and Ends.
 
 use crate::plan::{ask_allowance, ask_table, refuse, Cell, Plan, Refusal};
+use std::collections::BTreeSet;
 
 /// Document 02, E7.
 pub const MAX_COORDINATE: i64 = 262_143;
@@ -47,6 +48,12 @@ fn ends_in_row(plan: &Plan, p: &Placement, feet: &[i64], c: usize, row: i64) -> 
     } else {
         None
     }
+}
+
+/// Whether a, of an earlier brother, is not left of b, of a later one, in a row.
+fn meet_in_row(plan: &Plan, p: &Placement, feet: &[i64], a: usize, b: usize, row: i64) -> bool {
+    let (in_a, in_b) = (ends_in_row(plan, p, feet, a, row), ends_in_row(plan, p, feet, b, row));
+    matches!((in_a, in_b), (Some(i), Some(j)) if i.1 >= j.0)
 }
 
 /// The width and the rows of a placement.
@@ -100,12 +107,7 @@ fn pair_faults(plan: &Plan, p: &Placement, allowance: i64, out: &mut Vec<(u32, u
     for (e, l) in plan.brothers() {
         for &a in &under[e] {
             for &b in &under[l] {
-                let meet = (p[a].1..=feet[a]).any(|row| {
-                    let in_a = ends_in_row(plan, p, &feet, a, row);
-                    let in_b = ends_in_row(plan, p, &feet, b, row);
-                    matches!((in_a, in_b), (Some(i), Some(j)) if i.1 >= j.0)
-                });
-                if meet {
+                if (p[a].1..=feet[a]).any(|row| meet_in_row(plan, p, &feet, a, b, row)) {
                     out.push((4, a, b));
                 }
                 if right(plan, p, a) - p[b].0 + 1 > allowance {
@@ -114,6 +116,32 @@ fn pair_faults(plan: &Plan, p: &Placement, allowance: i64, out: &mut Vec<(u32, u
             }
         }
     }
+}
+
+/// Whether two boxes of a placement share a point.
+pub fn boxes_meet(table: &[Cell], positions: &[i32]) -> bool {
+    let apart = |from: i32, size: i32, other: i32, other_size: i32| from + size < other || other + other_size < from;
+    (0..table.len()).any(|a| {
+        (0..a).any(|b| {
+            !apart(positions[2 * a], table[a].width as i32, positions[2 * b], table[b].width as i32)
+                && !apart(positions[2 * a + 1], table[a].depth as i32, positions[2 * b + 1], table[b].depth as i32)
+        })
+    })
+}
+
+/// What of two cells meets where they break S4.
+pub fn crossings(table: &[Cell], positions: &[i32], a: usize, b: usize) -> BTreeSet<&'static str> {
+    let plan = Plan::new(table);
+    let p: Placement = positions.chunks_exact(2).take(table.len()).map(|c| (c[0] as i64, c[1] as i64)).collect();
+    let feet: Vec<i64> = (0..plan.len()).map(|c| foot(&plan, &p, c)).collect();
+    let rows = (p[a].1..=feet[a]).filter(|&row| meet_in_row(&plan, &p, &feet, a, b, row));
+    rows.map(|row| match (row <= bottom(&plan, &p, a), row <= bottom(&plan, &p, b)) {
+        (true, true) => "two boxes",
+        (true, false) => "a box, a later plumb line",
+        (false, true) => "a plumb line, a later box",
+        (false, false) => "two plumb lines",
+    })
+    .collect()
 }
 
 /// Question 15.

@@ -2,13 +2,14 @@
 //! many short batches of each, taken in turns, so that a busy machine slows both alike.
 //!
 //!     bench                          the calls
+//!     bench check                    Check alone
 //!     bench PLAN PROGRAM...          programs that print a plan's listing, such as `sheet`: microseconds a run
 
-use bindings::{Record, Sheet, Step};
-use compare::plain;
-use reference::generate::{file, labels, table, Shape, Sizes};
+use bindings::{Record, Sheet, Step, Verdict};
+use compare::{plain, records};
+use reference::generate::{file, labels, stems, table, Shape, Sizes};
 use reference::rng::Rng;
-use reference::{Cell, Form};
+use reference::{Cell, Form, Plan};
 use std::fs::File;
 use std::hint::black_box;
 use std::process::Command;
@@ -17,23 +18,34 @@ use std::time::Instant;
 const SEED: u64 = 20_261_115;
 const BATCHES: usize = 240;
 const RUNS: usize = 2_000;
+const SHAPES: [Shape; 4] = [Shape::Bushy, Shape::Chain, Shape::Deep, Shape::Wide];
+const COUNTS: [usize; 3] = [16, 64, 256];
 
-/// The least time of one call, in nanoseconds: the engine's, and plain Rust's.
-fn race(mut engine: impl FnMut(), mut rust: impl FnMut()) -> (f64, f64) {
-    let began = Instant::now();
-    engine();
-    let once = began.elapsed().as_nanos().max(50);
-    let calls = (400_000 / once).clamp(4, 4_000) as usize;
-    let mut best = (f64::MAX, f64::MAX);
+/// So many calls in one go: the time of one, in nanoseconds.
+fn batch(mut call: impl FnMut()) -> impl FnMut(usize) -> f64 {
+    move |calls| {
+        let began = Instant::now();
+        (0..calls).for_each(|_| call());
+        began.elapsed().as_nanos() as f64 / calls as f64
+    }
+}
+
+/// The least time of one call of each, in nanoseconds: batches of each, in turns.
+fn least<const N: usize>(mut batches: [&mut dyn FnMut(usize) -> f64; N]) -> [f64; N] {
+    let calls = batches.each_mut().map(|b| (400_000.0 / b(1).max(50.0)).clamp(4.0, 4_000.0) as usize);
+    let mut best = [f64::MAX; N];
     for _ in 0..BATCHES {
-        let began = Instant::now();
-        (0..calls).for_each(|_| engine());
-        best.0 = best.0.min(began.elapsed().as_nanos() as f64 / calls as f64);
-        let began = Instant::now();
-        (0..calls).for_each(|_| rust());
-        best.1 = best.1.min(began.elapsed().as_nanos() as f64 / calls as f64);
+        for k in 0..N {
+            best[k] = best[k].min(batches[k](calls[k]));
+        }
     }
     best
+}
+
+/// The engine's least time and plain Rust's.
+fn race(engine: impl FnMut(), rust: impl FnMut()) -> (f64, f64) {
+    let [engine, rust] = least([&mut batch(engine), &mut batch(rust)]);
+    (engine, rust)
 }
 
 /// One run of a program from its start to its end, in microseconds, with its output in a file.
@@ -66,9 +78,11 @@ fn programs(plan: &str, programs: &[String]) {
 fn main() {
     let args: Vec<String> = std::env::args().skip(1).collect();
     match args.split_first() {
+        Some((what, [])) if what == "check" => checks(),
         Some((plan, named)) => programs(plan, named),
         None => {
             calls();
+            checks();
             drills();
             steps();
         }
@@ -80,33 +94,118 @@ fn line(call: &str, shape: Shape, cells: usize, sheet: Sheet, (engine, rust): (f
     println!("| {call} | {shape:?} | {cells} | {} | {engine:.0} | {rust:.0} | {:.2} |", sheet.rows, engine / rust);
 }
 
-fn record(c: &Cell) -> Record {
-    Record {
-        parent: c.parent,
-        kind: c.kind,
-        rank: c.rank,
-        width: c.width,
-        depth: c.depth,
-        label_length: c.label_len,
-        label_start: c.label_start,
-    }
+/// A plan of a shape with at most n cells, the same with ranks, and the label bytes of both.
+fn plans(shape: Shape, n: usize) -> (Vec<Cell>, Vec<Cell>, Vec<u8>) {
+    let mut rng = Rng::new(SEED, n as u64);
+    let mut cells = table(&mut rng, shape, n, &Sizes { max_width: 30, max_depth: 3 });
+    let text = labels(&mut rng, &mut cells);
+    let ranked = cells.iter().map(|c| Cell { rank: rng.next() as u8, ..*c }).collect();
+    (cells, ranked, text)
 }
 
 fn calls() {
     println!("| call | shape | cells | rows | engine ns | Rust ns | ratio |\n|---|---|---|---|---|---|---|");
-    for shape in [Shape::Bushy, Shape::Chain, Shape::Deep, Shape::Wide] {
-        for n in [16, 64, 256] {
-            let mut rng = Rng::new(SEED, n as u64);
-            let mut cells = table(&mut rng, shape, n, &Sizes { max_width: 30, max_depth: 3 });
-            let text = labels(&mut rng, &mut cells);
+    for shape in SHAPES {
+        for n in COUNTS {
+            let (cells, ranked, text) = plans(shape, n);
             file_calls(shape, cells.len(), &file(Form::Old, &text, &cells, 10), "");
-            table_calls(shape, &cells.iter().map(record).collect::<Vec<_>>(), "");
-            cells.iter_mut().for_each(|c| c.rank = rng.next() as u8);
-            file_calls(shape, cells.len(), &file(Form::Wide, &text, &cells, 10), ", wide form");
-            table_calls(shape, &cells.iter().map(record).collect::<Vec<_>>(), ", ranks");
+            table_calls(shape, &records(&cells), "");
+            file_calls(shape, ranked.len(), &file(Form::Wide, &text, &ranked, 10), ", wide form");
+            table_calls(shape, &records(&ranked), ", ranks");
         }
         wide_strips(shape);
     }
+}
+
+/// Layout; Check on its sheet, which is kept, and where the first pair that the search comes to is broken, and the last; these three in Rust; and the ratios.
+const CHECKS: &str = "Layout ns | kept ns | first pair ns | last pair ns | Rust, kept ns | Rust, first ns | Rust, last ns | kept/Layout | kept/Rust | first/Rust | last/Rust";
+const RULE: &str = "---|---|---|---|---|---|---|---|---|---|---";
+
+fn checks() {
+    println!("| Check of | cells | rows | last pair | {CHECKS} |\n|---|---|---|---|{RULE}|");
+    let mut all = Vec::new();
+    for shape in SHAPES {
+        for n in COUNTS {
+            let (cells, ranked, _) = plans(shape, n);
+            all.push((n, check_line(&format!("{shape:?}"), &cells, 10)));
+            all.push((n, check_line(&format!("{shape:?}, ranks"), &ranked, 10)));
+        }
+    }
+    // The sweep's dearest plans. The last has its stems as long as there is room: low boxes above, and under them high ones.
+    let uneven = [[1; 18].as_slice(), &[15; 13], &[11]].concat();
+    for (name, chains, depths, allowance) in [
+        ("1 chain of 31", 1, [7; 32].as_slice(), 10),
+        ("4 chains of 31", 4, &[7; 32], 10),
+        ("the same at 65,535", 4, &[7; 32], 65_535),
+        ("8 chains of 15", 8, &[15; 16], 10),
+        ("12 chains of 10", 12, &[15; 11], 10),
+        ("16 chains of 7", 16, &[15; 8], 10),
+        ("4 chains of 31, uneven", 4, &uneven, 10),
+    ] {
+        check_line(&format!("stems, {name}"), &stems(chains, depths), allowance);
+    }
+    println!("| shapes, least to greatest | {CHECKS} |\n|---|{RULE}|");
+    for n in COUNTS {
+        let of = |k: usize| all.iter().filter(move |row| row.0 == n).map(move |row| row.1[k]);
+        let spans = (0..11).map(|k| {
+            let digits = if k < 7 { 0 } else { 2 };
+            format!("{:.digits$} to {:.digits$}", of(k).fold(f64::MAX, f64::min), of(k).fold(0.0, f64::max))
+        });
+        println!("| {n} | {} |", spans.collect::<Vec<_>>().join(" | "));
+    }
+}
+
+/// One line of Check's table.
+fn check_line(name: &str, cells: &[Cell], allowance: u32) -> [f64; 11] {
+    let records = records(cells);
+    let (mut scratch, mut positions) = (vec![0; 16_384], vec![0; 2 * cells.len()]);
+    let sheet = bindings::layout(&records, allowance, &mut scratch, &mut positions).expect("a valid plan");
+    let kept = positions.clone();
+    let first = [[1].as_slice(), &kept[1..]].concat();
+    let (last, pair) = broken_last(cells, &records);
+    for (placed, allowance, verdict) in [
+        (&kept, allowance, Verdict::Kept(sheet)),
+        (&first, allowance, Verdict::Broken { rule: 1, a: 0, b: 0 }),
+        (&last, 0, Verdict::Broken { rule: pair.0, a: pair.1, b: pair.2 }),
+    ] {
+        assert_eq!(bindings::check(&records, placed, allowance), Ok(verdict));
+        assert_eq!(plain::check(&records, placed, allowance), Ok(verdict));
+    }
+    let engine = |placed, allowance| { let _ = black_box(bindings::check(black_box(&records), placed, allowance)); };
+    let rust = |placed, allowance| { let _ = black_box(plain::check(black_box(&records), placed, allowance)); };
+    let times = least([
+        &mut batch(|| { let _ = black_box(bindings::layout(black_box(&records), allowance, &mut scratch, &mut positions)); }),
+        &mut batch(|| engine(&kept, allowance)),
+        &mut batch(|| engine(&first, allowance)),
+        &mut batch(|| engine(&last, 0)),
+        &mut batch(|| rust(&kept, allowance)),
+        &mut batch(|| rust(&first, allowance)),
+        &mut batch(|| rust(&last, 0)),
+    ]);
+    let [layout, ours @ .., r1, r2, r3] = times;
+    let ratios = [ours[0] / layout, ours[0] / r1, ours[1] / r2, ours[2] / r3];
+    let shown = times.map(|t| format!("{t:.0}")).join(" | ");
+    println!("| {name} | {} | {} | S{} {} {} | {shown} | {} |", cells.len(), sheet.rows, pair.0, pair.1, pair.2, ratios.map(|r| format!("{r:.2}")).join(" | "));
+    let mut row = [0.0; 11];
+    row[..7].copy_from_slice(&times);
+    row[7..].copy_from_slice(&ratios);
+    row
+}
+
+/// Of our sheet at 0 with one branch moved by one, the one that is broken at the last pair: the greatest rule, then a, then b.
+fn broken_last(cells: &[Cell], records: &[Record]) -> (Vec<i32>, (u8, u16, u16)) {
+    let mut sheet = vec![0; 2 * cells.len()];
+    bindings::layout(records, 0, &mut vec![0; 16_384], &mut sheet).expect("a valid plan");
+    let plan = Plan::new(cells);
+    let moved = (0..cells.len()).flat_map(|top| [(top, -1), (top, 1)]).filter_map(|(top, by)| {
+        let mut placed = sheet.clone();
+        plan.sub_diagram(top).into_iter().for_each(|c| placed[2 * c] += by);
+        match bindings::check(records, &placed, 0) {
+            Ok(Verdict::Broken { rule, a, b }) => Some((placed, (rule, a, b))),
+            _ => None,
+        }
+    });
+    moved.max_by_key(|(_, pair)| *pair).expect("a branch that may not be moved")
 }
 
 /// 4,096 records, each through so many levels: nested repeats over a chain of runs down to one step.
@@ -132,10 +231,9 @@ fn drills() {
 /// A sheet that is made a cell a step: the mean of a run's steps, and of that the guard's part, which is the looking at the numbers that it looks at.
 fn steps() {
     println!("| steps | cells | rows | a step ns | of it the guard ns | Layout ns |\n|---|---|---|---|---|---|");
-    for shape in [Shape::Bushy, Shape::Chain, Shape::Deep, Shape::Wide] {
-        for n in [16, 64, 256] {
-            let cells = table(&mut Rng::new(SEED, n as u64), shape, n, &Sizes { max_width: 30, max_depth: 3 });
-            let records: Vec<Record> = cells.iter().map(record).collect();
+    for shape in SHAPES {
+        for n in COUNTS {
+            let records = records(&table(&mut Rng::new(SEED, n as u64), shape, n, &Sizes { max_width: 30, max_depth: 3 }));
             let (mut scratch, mut second, mut positions) = (vec![0; 16_384], vec![0; 1_024], vec![0; 2 * n]);
             let sheet = bindings::layout(&records, 10, &mut scratch, &mut positions).expect("a sheet");
             let looked_at = guarded(&records, &positions, &mut scratch, &mut second);
@@ -195,7 +293,6 @@ fn table_calls(shape: Shape, records: &[Record], note: &str) {
     let (mut same, mut other) = (positions.clone(), scratch.clone());
     assert_eq!(plain::layout(records, 10, &mut scratch, &mut same), Ok(sheet));
     assert_eq!(same, positions);
-    assert_eq!(bindings::check(records, &positions, 10), plain::check(records, &positions, 10));
     assert_eq!(bindings::ends(records, &positions, n - 1), plain::ends(records, &positions, n - 1));
     assert_eq!(bindings::frame(records, sheet.width, &mut scratch), plain::frame(records, sheet.width, &mut scratch));
 
@@ -203,10 +300,6 @@ fn table_calls(shape: Shape, records: &[Record], note: &str) {
     line(&format!("Layout{note}"), shape, n, sheet, race(
         || { let _ = black_box(bindings::layout(black_box(records), 10, &mut scratch, &mut positions)); },
         || { let _ = black_box(plain::layout(black_box(records), 10, &mut other, &mut same)); },
-    ));
-    line(&format!("Check{note}"), shape, n, sheet, race(
-        || { let _ = black_box(bindings::check(black_box(records), &positions, 10)); },
-        || { let _ = black_box(plain::check(black_box(records), &positions, 10)); },
     ));
     line(&format!("Ends{note}"), shape, n, sheet, race(
         || { let _ = black_box(bindings::ends(black_box(records), &positions, n - 1)); },
@@ -221,7 +314,7 @@ fn table_calls(shape: Shape, records: &[Record], note: &str) {
 /// Strips of a sheet with boxes of up to 1,023.
 fn wide_strips(shape: Shape) {
     let cells = table(&mut Rng::new(SEED, 1_023), shape, 256, &Sizes { max_width: 1_023, max_depth: 3 });
-    let records: Vec<Record> = cells.iter().map(record).collect();
+    let records = records(&cells);
     let mut positions = vec![0; 2 * records.len()];
     let sheet = bindings::layout(&records, 10, &mut vec![0; 16_384], &mut positions).expect("a valid plan");
     strip_calls(shape, &records, &positions, sheet, ", wide boxes");

@@ -7,6 +7,7 @@
 //!     fuzz program SECONDS SEED COMMAND...
 
 use bindings::{Outcome, Record, Verdict};
+use compare::{plain, record};
 use reference::generate as make;
 use reference::rng::Rng;
 use reference::FORMS;
@@ -77,16 +78,7 @@ fn some_table(rng: &mut Rng) -> Vec<Record> {
     if rng.once_in(3) {
         make::damage_table(rng, &mut cells);
     }
-    let record = |c: &reference::Cell| Record {
-        parent: c.parent,
-        kind: c.kind,
-        rank: c.rank,
-        width: c.width,
-        depth: c.depth,
-        label_length: rng.next() as u8,
-        label_start: rng.next() as u16,
-    };
-    cells.iter().map(record).collect()
+    cells.iter().map(|c| Record { label_length: rng.next() as u8, label_start: rng.next() as u16, ..record(c) }).collect()
 }
 
 /// Read and Label.
@@ -155,6 +147,14 @@ fn table_calls(rng: &mut Rng) -> Result<(), &'static str> {
         return Err("Check does not keep Layout's sheet");
     }
     let _ = bindings::check(&table, &lent(&before), allowance);
+    if laid.is_ok() {
+        // Beside our sheet, where the search is run.
+        let mut moved = lent(&positions);
+        moved[rng.index(used)] += rng.pick(&[-1, 1]);
+        if bindings::check(&table, &moved, allowance) != plain::check(&table, &moved, allowance) {
+            return Err("Check judges a sheet with one number moved otherwise than plain Rust");
+        }
+    }
     let page = make::page(rng);
     let page = bindings::Page { pitch: page.pitch, margin_x: page.margin_x, margin_y: page.margin_y };
     for s in [rng.index(9), rng.index(3_000), rng.next() as usize] {
