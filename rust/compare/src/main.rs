@@ -353,6 +353,19 @@ impl Run {
 
     fn frame(&mut self, rng: &mut Rng, cells: &[Cell]) {
         let squares = some_frame(rng, cells);
+        self.frame_of(rng, cells, squares);
+    }
+
+    /// Frames at the last allowances: of so many squares that 65,534 fits, 65,535 does, none does.
+    fn last_frames(&mut self, rng: &mut Rng) {
+        let cells = make::entwined();
+        let width = |allowance| reference::layout(&cells, allowance, &mut vec![0; 512], &mut vec![0; SCRATCH]).map_or(0, |m| m.width);
+        for squares in [width(65_534), width(65_535), width(65_535) - 1] {
+            self.frame_of(rng, &cells, squares);
+        }
+    }
+
+    fn frame_of(&mut self, rng: &mut Rng, cells: &[Cell], squares: u32) {
         let scratch = if rng.once_in(60) { SCRATCH - 1 - rng.index(2) } else { SCRATCH + rng.index(3) * rng.index(40) };
         let mut theirs = vec![rng.next() as u32; scratch];
         let at_end = rng.once_in(2);
@@ -371,6 +384,7 @@ impl Run {
         self.note_widths("Frame", cells, &expected);
         let answer = match expected {
             Ok(Some(0)) => "0".into(),
+            Ok(Some(a @ (65_534 | 65_535))) => a.to_string(),
             Ok(Some(_)) => "more than 0".into(),
             Ok(None) => "none".into(),
             Err(r) => format!("refused {:2}", r.number),
@@ -1468,7 +1482,7 @@ fn unseen(seen: &Seen) -> Vec<String> {
     all.extend(["a plumb line, a later box", "a box, a later plumb line", "two plumb lines"].map(|how| ("One off", how.into())));
     let strips = ["no byte", "blank", "whole bytes", "points, first column odd", "points, least x not 0", "points below row 255", "past the last column that fits", "row of 32 bits"];
     all.extend(strips.map(|a| ("Strip", a.into())));
-    all.extend(["0", "more than 0", "none"].map(|a| ("Frame", a.into())));
+    all.extend(["0", "more than 0", "65534", "65535", "none"].map(|a| ("Frame", a.into())));
     all.extend(["Finished", "Spent", "Wrong", "Full", "run", "choice", "choice by rank", "4096 answers"].map(|a| ("Drill", a.into())));
     all.extend([0, 1, 255].map(|n| ("Drill", format!("repeat {n}"))));
     all.extend([0, 1, 255].map(|n| ("Drill", format!("nested repeat {n}"))));
@@ -1530,6 +1544,10 @@ fn main() {
     for number in first..first + inputs {
         run.number = number;
         let mut rng = Rng::new(seed, number);
+        // The scratch and the records of the three are others each time, the plan is one.
+        if number % 4_000 == 0 {
+            run.last_frames(&mut rng);
+        }
         if number % 2 == 0 {
             run.a_table(&mut rng);
         } else {

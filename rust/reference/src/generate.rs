@@ -360,6 +360,28 @@ pub fn widest(rng: &mut Rng) -> Vec<Cell> {
     cells
 }
 
+/// Two branches that could share more than 81,000 columns: the earlier reaches far right near the top, the later far left far below. So every allowance up to
+/// the last one makes the sheet narrower by a column.
+pub fn entwined() -> Vec<Cell> {
+    let mut cells = vec![Cell { parent: ROOT, kind: 2, width: 2, depth: 1, ..Cell::default() }];
+    let far = |cells: &mut Vec<Cell>, parent: usize| {
+        let top = cells.len();
+        cells.push(Cell { parent: parent as u16, kind: 4, width: 4, depth: 1, ..Cell::default() });
+        for _ in 0..5 {
+            let branch = cells.len();
+            cells.push(Cell { parent: top as u16, kind: 4, width: 4, depth: 1, ..Cell::default() });
+            cells.extend((0..MAX_SONS).map(|_| Cell { parent: branch as u16, kind: 1, width: MAX_WIDTH, depth: 1, ..Cell::default() }));
+        }
+    };
+    far(&mut cells, 0);
+    let later = cells.len();
+    cells.push(Cell { parent: 0, kind: 2, width: 2, depth: 15, ..Cell::default() });
+    cells.push(Cell { parent: later as u16, kind: 2, width: 2, depth: 1, ..Cell::default() });
+    far(&mut cells, later + 1);
+    cells.push(Cell { parent: later as u16 + 1, kind: 1, width: 2, depth: 1, ..Cell::default() });
+    cells
+}
+
 /// Our sheet for a valid table, as numbers: x then y of each cell.
 pub fn sheet(cells: &[Cell], allowance: u32) -> Vec<i32> {
     let plan = Plan::new(cells);
