@@ -39,6 +39,7 @@ mends() {
         same "standard error, $1" "" "$(cat "$work/err")"
         cmp -s "$3" "$work/there/second"
         same "the second file, $1, $before" 0 $?
+        same "the mode of the second file, $1, $before" 644 "$(stat -c %a "$work/there/second")"
         same "what is in the folder, $1" "second" "$(ls -A "$work/there")"
     done
 }

@@ -223,6 +223,19 @@ same "the drawing of sheet B" '<svg xmlns="http://www.w3.org/2000/svg" width="38
 <g font-family="monospace" font-size="2.000"><g font-size="70%">
 </g></g>
 </svg>' "$(cat "$work/out")"
+# drawn WHAT ARGUMENTS NUMBERS: the drawing of sheet A, one box of W 5 and D 1 in two rows: its left and right edge and the page's width, then the same downwards
+drawn() {
+    set -- "$1" "$2" $3
+    same "the drawing of sheet A, $1" "<svg xmlns=\"http://www.w3.org/2000/svg\" width=\"$5mm\" height=\"$8mm\" viewBox=\"0 0 $5 $8\">
+<g fill=\"none\" stroke=\"black\" stroke-width=\"0.35\" stroke-linejoin=\"round\">
+<path d=\"M$3 $6L$4 $6L$4 $7L$3 $7L$3 $6\"/>" "$("$plot" $2 < plans/A.plan | head -n 3)"
+}
+drawn "without arguments" "" "10.000 30.000 40.000 10.000 14.000 28.000"
+drawn "one digit after the point" "1.5" "10.000 17.500 27.500 10.000 11.500 23.000"
+drawn "two digits after the point" "1.25" "10.000 16.250 26.250 10.000 11.250 22.500"
+drawn "three digits after the point" "1.125" "10.000 15.625 25.625 10.000 11.125 22.250"
+drawn "two arguments" "4 100" "100.000 120.000 220.000 10.000 14.000 28.000"
+drawn "three arguments" "4 0.25 99.125" "0.250 20.250 20.500 99.125 103.125 206.250"
 for plan in plans/*.plan; do
     "$plot" 0.7 0.3 0.1 < "$plan" > "$work/out"
     n=$("$sheet" < "$plan" | tail -n +2 | wc -l)
@@ -242,7 +255,7 @@ done
 for page in 0.25 16 16.000 "4 100" "4 0 100.000" .5 4.; do
     same "the drawing on the page $page" "<svg" "$("$plot" $page < plans/A.plan | head -c 4)"
 done
-for page in x -1 1.2.3 0.2500 1e1 "" 12345678901234567 "4 a" "4 0 b" "4 0 0 0"; do
+for page in x -1 . "4 ." "4 0 ." 1.2.3 0.2500 1e1 "" 12345678901234567 "4 a" "4 0 b" "4 0 0 0"; do
     if [ -n "$page" ]; then "$plot" $page < plans/A.plan > "$work/out" 2> "$work/err"; else "$plot" "" < plans/A.plan > "$work/out" 2> "$work/err"; fi
     same_files "output of plot with the arguments '$page'" "$work/empty" "$work/out"
     same "lines on standard error of plot with the arguments '$page'" 1 "$(wc -l < "$work/err")"
@@ -253,6 +266,38 @@ if strace -o "$work/trace" true 2> "$work/err"; then
     strace -o "$work/trace" -e trace=write,writev,pwrite64,sendto "$plot" < plans/full.plan > "$work/out"
     same "writes of a drawing" 1 "$(grep -c '^[a-z0-9]*(' "$work/trace")"
 fi
+
+# ---- the program turns: a line before each turn of the walk, as tests/turns.py works them out from the file
+turns=target/bin/turns
+[ -x "$turns" ] || { echo "tests/program.sh: $turns is not built: rt check turns"; exit 1; }
+# 32 cells, each the one child of the one before it: the last is 31 levels below the root
+{
+    printf '\377\377\2\4\1\0\0\0'
+    for c in {0..30}; do
+        [ "$c" -lt 30 ] && kind=2 || kind=1
+        printf "\\$(printf '%o' "$c")\\0\\$kind\\4\\1\\0\\0\\0"
+    done
+    printf '\0\0\40\0\0\0\123\124'
+} > "$work/chain.plan"
+same "the listing of the chain of 32" "sheet 32 0 4 64" "$("$sheet" < "$work/chain.plan" | head -n 1)"
+for plan in plans/*.plan "$work/chain.plan"; do
+    "$turns" < "$plan" > "$work/out" 2> "$work/err"
+    same "status of turns for $plan" 0 $?
+    tests/turns.py "$plan" > "$work/turns"
+    same_files "the turns of $plan" "$work/turns" "$work/out"
+    same_files "standard error of turns for $plan" "$work/empty" "$work/err"
+done
+for case in "short 2 0" "long 2 0" "kind 7 0" "child 7 1" "wider 8 0" "no-mark 3 0"; do
+    set -- $case
+    same "what turns prints of the plan $1" "refused $2 $3" "$("$turns" < "$work/$1.plan")"
+done
+line="turns: the turns could not be written whole"
+for plan in plans/full.plan plans/A.plan "$work/short.plan"; do
+    "$turns" < "$plan" > /dev/full 2> "$work/err"
+    one_line "the turns of $plan to a full device"
+    "$turns" < "$plan" >&- 2> "$work/err"
+    one_line "the turns of $plan to a closed output"
+done
 
 # ---- the program `strip`: its points are those of the boxes that `sheet` lists and that `plot` draws
 strip=target/bin/strip

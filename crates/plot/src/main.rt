@@ -93,6 +93,22 @@ fn thousandths(text: &[u8]) -> u32 {
     in_thousandths(d.number, d.place)
 }
 
+// A point alone has no digit: it is no number.
+fn lone_point(text: &[u8]) -> bool {
+    if text.len() != 1 {
+        return false;
+    }
+    text[0] == 46
+}
+
+// The thousandths that an argument tells.
+fn told_by(text: &[u8]) -> u32 {
+    if lone_point(text) {
+        return NONE;
+    }
+    thousandths(text)
+}
+
 // Argument i, or what is meant where it is not there.
 fn argument(i: usize, otherwise: u32) -> u32 {
     if os::arg_count() <= i {
@@ -100,7 +116,7 @@ fn argument(i: usize, otherwise: u32) -> u32 {
     }
     let mut text = [0u8; 16];
     let n = os::arg(i, &mut text);
-    thousandths(&text[..n])
+    told_by(&text[..n])
 }
 
 fn millimetres(n: u32) -> f64 {

@@ -8,6 +8,7 @@ use libc::STDOUT_FILENO;
 use links::links_of;
 use marks::MARKS;
 use plan::Columns;
+use plan::Refusal;
 use plan::limits::MOST_CELLS;
 use plan::limits::SCRATCH_SIZE;
 use walk::Chain;
@@ -24,8 +25,9 @@ ghost use Rattle.walk.specs.Walked.{Walking};
 // Positions of a whole table, two numbers a cell.
 const POSITIONS: usize = 2 * MOST_CELLS;
 
-fn word(text: &[u8]) {
-    write_all(STDOUT_FILENO, text);
+// Writes a text; whether all of it was written.
+fn word(text: &[u8]) -> bool {
+    write_all(STDOUT_FILENO, text)
 }
 
 fn number(n: usize) {
@@ -56,7 +58,7 @@ fn print_turn(chain: Chain, next: usize) {
     word(b"\n");
 }
 
-// The walk of crate walk, with a line before each turn.
+// The walk of crate walk, with a line before each turn; whether the last line was written. An output that has once failed is not good again.
 fn watch<'a>(
     links: &[u16],
     widths: &'a [u16],
@@ -65,7 +67,7 @@ fn watch<'a>(
     allowance: u32,
     rows: &mut [u32],
     marks: &mut [u32],
-)
+) -> bool
     requires { ⌜ Walking (chart (now links) (now widths) (now depths) (now tops) allowance) (now rows) (now marks) ⌝ }
 {
     let mut at = begin(links);
@@ -84,11 +86,11 @@ fn watch<'a>(
             marks,
         );
     }
-    word(b"none open\n");
+    word(b"none open\n")
 }
 
 // The walk over a scratch and marks of zeros.
-fn tour(t: Columns, tops: &[u16; MOST_CELLS], allowance: u32)
+fn tour(t: Columns, tops: &[u16; MOST_CELLS], allowance: u32) -> bool
     requires { ⌜ Placeable t (now tops) (replicate scratch-size 0) ⌝ }
 {
     let links = links_of(t);
@@ -102,11 +104,11 @@ fn tour(t: Columns, tops: &[u16; MOST_CELLS], allowance: u32)
         allowance,
         &mut rows,
         &mut marks,
-    );
+    )
 }
 
 // The row of each cell, as Layout finds it.
-fn survey_and_tour(t: Columns, allowance: u32)
+fn survey_and_tour(t: Columns, allowance: u32) -> bool
     requires { ⌜ Fit (table-of t) ⌝ }
 {
     let mut counts = [0u16; MOST_CELLS];
@@ -120,24 +122,40 @@ fn survey_and_tour(t: Columns, allowance: u32)
         &mut levels,
         &mut tops,
     );
-    tour(t, &tops, allowance);
+    tour(t, &tops, allowance)
 }
 
-fn show(t: Columns, allowance: u32) {
+// The line of a refusal; whether its end was written.
+fn refuse(refusal: Refusal) -> bool {
+    word(b"refused");
+    number(refusal.number as usize);
+    number(refusal.cell as usize);
+    word(b"\n")
+}
+
+fn show(t: Columns, allowance: u32) -> bool {
     let refusal = layout_refusal(t, allowance, SCRATCH_SIZE, POSITIONS);
     if refusal.number != 0 {
-        word(b"refused");
-        number(refusal.number as usize);
-        number(refusal.cell as usize);
-        word(b"\n");
-        return;
+        return refuse(refusal);
     }
-    survey_and_tour(t, allowance);
+    survey_and_tour(t, allowance)
 }
 
+// The turns of a plan file, or its refusal.
+fn show_file(file: &[u8]) -> bool {
+    let plan = planfile::read(file, MOST_CELLS);
+    let refusal = plan.refusal;
+    if refusal.number != 0 {
+        return refuse(refusal);
+    }
+    show(plan.columns, plan.allowance as u32)
+}
+
+// One byte more than a plan file may have is read, so that a longer one is refused.
 fn main() {
     let mut file = [0u8; 16385];
     let n = io::read_full(0, &mut file);
-    let plan = planfile::read(&file[..n], MOST_CELLS);
-    show(plan.columns, plan.allowance as u32);
+    if !show_file(&file[..n]) {
+        write_all(2, b"turns: the turns could not be written whole\n");
+    }
 }

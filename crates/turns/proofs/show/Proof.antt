@@ -12,29 +12,8 @@ use Rattle.turns.proofs.show.Tie as tie
 layout-refusal-requires : tie.Need-layout-refusal-requires
 layout-refusal-requires c κs = search needs
 
-slice-aggregate-word : tie.Need-slice-aggregate-word
-slice-aggregate-word c = search needs
-
-word-requires : tie.Need-word-requires
-word-requires c κs = search needs
-
-cast-number : tie.Need-cast-number
-cast-number c = search needs
-
-number-requires : tie.Need-number-requires
-number-requires c κs = search needs
-
-cast-number-2 : tie.Need-cast-number-2
-cast-number-2 c = search needs
-
-number-requires-2 : tie.Need-number-requires-2
-number-requires-2 c κs = search needs
-
-slice-aggregate-word-2 : tie.Need-slice-aggregate-word-2
-slice-aggregate-word-2 c = search needs
-
-word-requires-2 : tie.Need-word-requires-2
-word-requires-2 c κs = search needs
+refuse-requires : tie.Need-refuse-requires
+refuse-requires c κs = search needs
 
 returns : tie.Need-returns
 returns c = search needs
@@ -52,14 +31,7 @@ show-spec =
     tie.close
     (tie.spec
     layout-refusal-requires
-    slice-aggregate-word
-    word-requires
-    cast-number
-    number-requires
-    cast-number-2
-    number-requires-2
-    slice-aggregate-word-2
-    word-requires-2
+    refuse-requires
     returns
     survey-and-tour-requires
     returns-2)
