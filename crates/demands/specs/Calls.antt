@@ -1,5 +1,5 @@
 -- THE THREE DEMANDS AT THE CALLS: statements only; each proof is one name. A reader needs the definitions of crate plan (sequence, puts, holds), of crate
--- rules (placement, S1 to S5, verdict), `sheet`, what each call answers (Reads, Lays, checked-of, ended-of, Labels, label-of and label-refusal, Lists, Frames, Copies, Mends, Strips, Joins, Drills with the moves of crate moves, Starts, Steps, Reaches, Reports) and Outcomes. Every call's
+-- rules (placement, S1 to S5, verdict), `sheet`, what each call answers (Reads, Lays, checked-of, ended-of, Labels, label-of and label-refusal, Lists, Frames, Copies, Mends, Strips, Joins, Drills with the moves of crate moves, Starts, Steps, Reaches with After, Reports with Answered and accepted) and Outcomes. Every call's
 -- contract is one of those, so what is said of them is said of what the call answers and leaves in the lent buffers. Assumes nothing.
 use mathlib.Core.Path.{_≡_, refl}
 use mathlib.Core.List.{List, [], _∷_, _++_, map}
