@@ -214,7 +214,7 @@ pub refusal-done : (p : Reading) (f : Bytes) → p ≡ reading-of f most-cells �
 unfolding text-of listing-of lines-joined
 refusal-done p f h n l e u =
     let t : text l ≡ refused-line (p .refusal .number) (p .refusal .cell) = rw e (line-text (refused-line (p .refusal .number) (p .refusal .cell))) in
-    rw (← h, ne-eqb (p .refusal .number) 0 n, append-nil (refused-line (p .refusal .number) (p .refusal .cell))) (rw t at u)
+    rw (← h, ne-eqb (p .refusal .number) 0 n, append-nil _) (rw t at u)
 
 -- ---- the call
 pub listed-short : (f out : Bytes) → length out < listing-size → Lists f out out (Refused 1 0)
