@@ -58,7 +58,7 @@ fn print_turn(chain: Chain, next: usize) {
     word(b"\n");
 }
 
-// The walk of crate walk, with a line before each turn; whether the last line was written. An output that has once failed is not good again.
+// The walk of crate walk, with a line before each turn; whether the last line was written: to a full or a closed output it is not.
 fn watch<'a>(
     links: &[u16],
     widths: &'a [u16],
