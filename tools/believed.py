@@ -6,7 +6,7 @@
     tools/believed.py --check    exit 1 where the page is out of date, or a file directly under specs/ holds a proof
 
 A file directly under a crate's specs/ holds definitions, and statements whose proof is one line (a name of specs/laws/, or a computation). What a
-reader must believe is each definition that is reached from what a user relies on: the contracts of `engine` and `capi`, and the statements. Reached
+reader must believe is each definition that is reached from what a user relies on: the contracts of `capi` and of the functions that `engine` re-exports, and the statements. Reached
 means named there, or named in a definition that is reached. The walk's statements (E5, and the stretch of rows that is written) are listed apart: they reach the machine, which nothing else does.
 Listed apart too is what is reached only from the contracts of the functions that the programs (crates with a src/main.rt, the tests aside) call.
 A name of TOLD is reached, and what it names is not: what comes of it, whatever it is, is said by theorems. It counts only inside the definitions that are listed with it.
@@ -21,7 +21,7 @@ from antt import Graph, indent, rt_files, strip_comment
 ROOT = os.path.dirname(os.path.dirname(os.path.abspath(__file__)))
 PAGE = os.path.join(ROOT, 'docs', 'PROOF.md')
 OPEN, CLOSE = '<!-- made by tools/believed.py -->', '<!-- end of what tools/believed.py made -->'
-ENTRIES = {'engine', 'capi'}
+ENTRIES = {'capi'}
 WALK = {'Visits', 'Walks', 'Stretch'}  # the files of the statements about the walk: E5's, and document 01's about the rows that are written
 # crate, file, name: (the definitions that may name it, what it is, the theorems that tell what comes of it)
 TOLD = {
@@ -40,6 +40,11 @@ def called(root):
             text = open(p).read()
             calls |= set(re.findall(r'\b(\w+)::(?:\w+::)*(\w+)', text)) | {(crate, f) for f in re.findall(r'\bfn (\w+)', text)}
     return calls
+
+
+def reexported(root):
+    """(crate, function) of every function that `engine` re-exports"""
+    return set(re.findall(r'^pub use (\w+)::(\w+);', open(os.path.join(root, 'crates', 'engine', 'src', 'lib.rt')).read(), re.M))
 
 
 def lines(f):
@@ -72,7 +77,7 @@ def main():
                 proofs.append(f'{key[0]}/specs/{key[1]}.antt: {d.name}')
             (walk if key[1] in WALK else stated).add(d)
     told = {g.find(k): v for k, v in TOLD.items()}
-    first = g.closure(g.contract_roots(ENTRIES) | stated, told)
+    first = g.closure(g.contract_roots(ENTRIES) | g.function_roots(reexported(ROOT)) | stated, told)
     second = g.closure(walk) - first
     third = g.closure(g.function_roots(called(ROOT))) - first - second
     rest = g.closure(g.contract_roots()) - first - second - third

@@ -41,9 +41,9 @@ use Rattle.finishing.specs.declared.Stepped.{Stepped}
 use Rattle.finishing.specs.declared.Stepped.the-variants.{Cell, Done, Refused as Unstepped}
 use Rattle.finishing.specs.declared.Reached.{Reached}
 use Rattle.finishing.specs.declared.Reached.the-variants.{Sides, Refused as Unreached}
-use Rattle.engine.specs.Read.{Reads}
-use Rattle.engine.specs.declared.ReadAnswer.{ReadAnswer as Read}
-use Rattle.engine.specs.declared.ReadAnswer.the-variants.{Plan, Refused as Unread}
+use Rattle.read_entry.specs.Read.{Reads}
+use Rattle.read_entry.specs.declared.ReadAnswer.{ReadAnswer as Read}
+use Rattle.read_entry.specs.declared.ReadAnswer.the-variants.{Plan, Refused as Unread}
 use Rattle.answers.specs.declared.ReadAnswer.{ReadAnswer}
 use Rattle.answers.specs.declared.LayoutAnswer.{LayoutAnswer}
 use Rattle.answers.specs.declared.CheckAnswer.{CheckAnswer}

@@ -33,8 +33,8 @@ use Rattle.finishing.specs.declared.Stepped.{Stepped}
 use Rattle.finishing.specs.declared.Stepped.the-variants.{Cell, Done, Refused as Unstepped}
 use Rattle.finishing.specs.declared.Reached.{Reached}
 use Rattle.finishing.specs.declared.Reached.the-variants.{Sides, Refused as Unreached}
-use Rattle.engine.specs.declared.ReadAnswer.{ReadAnswer as Read}
-use Rattle.engine.specs.declared.ReadAnswer.the-variants.{Plan, Refused as Unread}
+use Rattle.read_entry.specs.declared.ReadAnswer.{ReadAnswer as Read}
+use Rattle.read_entry.specs.declared.ReadAnswer.the-variants.{Plan, Refused as Unread}
 use Rattle.season.specs.Report.{nothing}
 use Rattle.season.specs.declared.Report.{Report}
 use Rattle.season.specs.declared.Reported.{Reported}

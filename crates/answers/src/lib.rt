@@ -160,17 +160,17 @@ pub struct ReportAnswer {
 }
 
 // The answer of Read as a struct.
-pub fn told_read(answer: engine::ReadAnswer) -> ReadAnswer
+pub fn told_read(answer: read_entry::ReadAnswer) -> ReadAnswer
     ensures { λ r. ⌜ r ≡ read-answer answer ⌝ }
 {
     match answer {
-        engine::ReadAnswer::Plan(count, allowance) => ReadAnswer {
+        read_entry::ReadAnswer::Plan(count, allowance) => ReadAnswer {
             number: 0,
             cell: 0,
             allowance,
             count: count as usize,
         },
-        engine::ReadAnswer::Refused(number, cell) => ReadAnswer {
+        read_entry::ReadAnswer::Refused(number, cell) => ReadAnswer {
             number,
             cell,
             allowance: 0,

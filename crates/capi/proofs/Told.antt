@@ -1,5 +1,5 @@
--- A function for C hands its parameters on to an entry of crate engine, and tells the entry's answer as a struct of numbers: what the proofs of all such functions share.
--- All that the function owns goes to the entry, as crate engine's proofs/InTurn.antt has it.
+-- A function for C hands its parameters on to an entry over lent records, and tells the entry's answer as a struct of numbers: what the proofs of all such functions share.
+-- All that the function owns goes to the entry, as crate entry_laws' proofs/InTurn.antt has it.
 -- Assumes `Given`, and that the table of calls is monotone under a frame.
 use mathlib.Core.Path.{_≡_, refl, sym, subst, ap}
 use Prim.Native.Nat.{ℕ}
@@ -36,7 +36,7 @@ use denote.Triple.Table.{entered, cited, framed}
 use denote.Triple.Walked.{says}
 use Rattle.plan.specs.declared.Record.{Record}
 use Rattle.plan.proofs.Record as Rec
-use Rattle.engine.proofs.InTurn.{Of, Told, Answered, Calling, Follows, answering, Said, saying, table-slot, table-ty, others, positions-ty}
+use Rattle.entry_laws.proofs.InTurn.{Of, Told, Answered, Calling, Follows, answering, Said, saying, table-slot, table-ty, others, positions-ty}
 
 -- what a call of k at vs and a call of k′ on its answer promise, the run promises at vs
 abbrev pub Passes : {M : Type 1} (𝓤 : URA M) (H : Heap 𝓤) (A : Atoms 𝓤) (C : Calls 𝓤 H) (k k′ : Name) (β τ : Ty) → Fun 𝓤 → List Val → Type 2

@@ -49,7 +49,7 @@ ghost use Rattle.season.specs.Pool.{pool};
 pub extern "C" fn kuzpalen_read(file: &[u8], table: &mut [Record]) -> ReadAnswer
     ensures { λ r. ⌜ Filling (now (file .entry)) (now (table .entry)) (now (table .exit)) r ⌝ }
 {
-    let answer = engine::read(file, table);
+    let answer = read_entry::read(file, table);
     told_read(answer)
 }
 
@@ -69,7 +69,7 @@ pub extern "C" fn kuzpalen_label(file: &[u8], cell: usize) -> LabelPart
 pub extern "C" fn kuzpalen_label_refusal(file: &[u8], cell: usize) -> LabelAnswer
     ensures { λ r. ⌜ (r .number ≡ label-refusal (now (file .entry)) cell .number) × (r .cell ≡ label-refusal (now (file .entry)) cell .cell) ⌝ }
 {
-    let refusal = engine::label_refusal(file, cell);
+    let refusal = label_entry::label_refusal(file, cell);
     LabelAnswer {
         number: refusal.number,
         cell: refusal.cell,
@@ -85,7 +85,7 @@ pub extern "C" fn kuzpalen_layout(
 ) -> LayoutAnswer
     ensures { λ r. ⌜ Laying (cells-of (now (table .entry))) allowance (now (scratch .entry)) (now (scratch .exit)) (now (positions .entry)) (now (positions .exit)) r ⌝ }
 {
-    let answer = engine::layout(table, allowance, scratch, positions);
+    let answer = layout_entry::layout(table, allowance, scratch, positions);
     told_layout(answer)
 }
 
@@ -93,7 +93,7 @@ pub extern "C" fn kuzpalen_layout(
 pub extern "C" fn kuzpalen_check(table: &[Record], positions: &[i32], allowance: u32) -> CheckAnswer
     ensures { λ r. ⌜ r ≡ check-answer (checked-of (cells-of (now (table .entry))) (now (positions .entry)) allowance) ⌝ }
 {
-    let answer = engine::check(table, positions, allowance);
+    let answer = sheet_entry::check(table, positions, allowance);
     told_check(answer)
 }
 
@@ -101,7 +101,7 @@ pub extern "C" fn kuzpalen_check(table: &[Record], positions: &[i32], allowance:
 pub extern "C" fn kuzpalen_ends(table: &[Record], positions: &[i32], cell: usize) -> EndsAnswer
     ensures { λ r. ⌜ r ≡ ends-answer (ended-of (cells-of (now (table .entry))) (now (positions .entry)) cell) ⌝ }
 {
-    let answer = engine::ends(table, positions, cell);
+    let answer = sheet_entry::ends(table, positions, cell);
     told_ends(answer)
 }
 
@@ -109,7 +109,7 @@ pub extern "C" fn kuzpalen_ends(table: &[Record], positions: &[i32], cell: usize
 pub extern "C" fn kuzpalen_list(file: &[u8], out: &mut [u8]) -> ListAnswer
     ensures { λ r. ⌜ ListFilling (now (file .entry)) (now (out .entry)) (now (out .exit)) r ⌝ }
 {
-    let answer = engine::list(file, out);
+    let answer = printing::list(file, out);
     told_list(answer)
 }
 
@@ -117,7 +117,7 @@ pub extern "C" fn kuzpalen_list(file: &[u8], out: &mut [u8]) -> ListAnswer
 pub extern "C" fn kuzpalen_frame(table: &[Record], squares: u32, scratch: &mut [u32]) -> FrameAnswer
     ensures { λ r. ⌜ Framing (cells-of (now (table .entry))) squares (now (scratch .entry)) (now (scratch .exit)) r ⌝ }
 {
-    let answer = engine::frame(table, squares, scratch);
+    let answer = frame_entry::frame(table, squares, scratch);
     told_frame(answer)
 }
 
@@ -130,7 +130,7 @@ pub extern "C" fn kuzpalen_copy(
 ) -> CopyAnswer
     ensures { λ r. ⌜ CopyFilling (now (table .entry)) (now (labels .entry)) allowance (now (out .entry)) (now (out .exit)) r ⌝ }
 {
-    let answer = engine::copy(table, labels, allowance, out);
+    let answer = copy_entry::copy(table, labels, allowance, out);
     told_copy(answer)
 }
 
@@ -138,7 +138,7 @@ pub extern "C" fn kuzpalen_copy(
 pub extern "C" fn kuzpalen_mend(file: &[u8], out: &mut [u8], lines: &mut [u8]) -> MendAnswer
     ensures { λ r. ⌜ MendFilling (now (file .entry)) (now (out .entry)) (now (out .exit)) (now (lines .entry)) (now (lines .exit)) r ⌝ }
 {
-    let answer = engine::mend(file, out, lines);
+    let answer = mending::mend(file, out, lines);
     told_mend(answer)
 }
 
@@ -165,7 +165,7 @@ pub extern "C" fn kuzpalen_strip(
 ) -> StripAnswer
     ensures { λ r. ⌜ Stripping (cells-of (now (table .entry))) (now (positions .entry)) row first (now (bytes .entry)) (now (bytes .exit)) r ⌝ }
 {
-    let answer = engine::strip(table, positions, row, first, bytes);
+    let answer = strip_entry::strip(table, positions, row, first, bytes);
     told_strip(answer)
 }
 
@@ -178,7 +178,7 @@ pub extern "C" fn kuzpalen_join(
 ) -> JoinAnswer
     ensures { λ r. ⌜ Joining (now (first .entry)) (now (second .entry)) cell (now (table .entry)) (now (table .exit)) r ⌝ }
 {
-    let answer = engine::join(first, second, cell, table);
+    let answer = join_entry::join(first, second, cell, table);
     told_join(answer)
 }
 
@@ -186,7 +186,7 @@ pub extern "C" fn kuzpalen_join(
 pub extern "C" fn kuzpalen_drill(table: &[Record], answers: &[u8], list: &mut [u16]) -> DrillAnswer
     ensures { λ r. ⌜ Drilling (cells-of (now (table .entry))) (now (answers .entry)) (now (list .entry)) (now (list .exit)) r ⌝ }
 {
-    let answer = engine::drill(table, answers, list);
+    let answer = drill_entry::drill(table, answers, list);
     told_drill(answer)
 }
 

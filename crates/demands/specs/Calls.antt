@@ -81,10 +81,10 @@ use Rattle.season.specs.declared.Reported.the-variants as reported
 use Rattle.reporting.specs.Reporting.{file-table, figure-of, report-refusal, Reports}
 use Rattle.reporting.specs.Folder.{accepted, Answered}
 use Rattle.reporting.specs.laws.Folder as folders
-use Rattle.engine.specs.declared.ReadAnswer.{ReadAnswer}
-use Rattle.engine.specs.declared.ReadAnswer.the-variants.{Plan, Refused}
-use Rattle.engine.specs.Read.{read-refusal, Reads}
-use Rattle.engine.specs.Label.{label-of, Labels}
+use Rattle.read_entry.specs.declared.ReadAnswer.{ReadAnswer}
+use Rattle.read_entry.specs.declared.ReadAnswer.the-variants.{Plan, Refused}
+use Rattle.read_entry.specs.Read.{read-refusal, Reads}
+use Rattle.label_entry.specs.Label.{label-of, Labels}
 use Rattle.demands.specs.Outcomes.{Gives, PlacedTwin, Judged, Listing, printed-sheet, told}
 use Rattle.content.specs.Content.{content, letters-of}
 use Rattle.content.specs.Clean.{copy, copy-refusal}

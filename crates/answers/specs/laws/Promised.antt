@@ -68,8 +68,8 @@ use Rattle.finishing.specs.declared.Stepped.{Stepped}
 use Rattle.finishing.specs.declared.Stepped.the-variants.{Cell, Done, Refused as Unstepped}
 use Rattle.finishing.specs.declared.Reached.{Reached}
 use Rattle.finishing.specs.declared.Reached.the-variants.{Sides, Refused as Unreached}
-use Rattle.engine.specs.Read.{read-answered, read-refusal}
-use Rattle.engine.specs.declared.ReadAnswer.the-variants.{Refused as Unread}
+use Rattle.read_entry.specs.Read.{read-answered, read-refusal}
+use Rattle.read_entry.specs.declared.ReadAnswer.the-variants.{Refused as Unread}
 use Rattle.reporting.specs.Reporting.{reported-of, report-refusal}
 use Rattle.season.specs.Pool.{pool-refusal}
 use Rattle.season.specs.declared.Reported.the-variants.{Refused as Unreported}

@@ -1,4 +1,4 @@
--- `capi::kuzpalen_copy` meets its contract: `engine::copy` is called on its parameters, the output lent on, and `told_copy` on the answer. Assumes nothing.
+-- `capi::kuzpalen_copy` meets its contract: `copy_entry::copy` is called on its parameters, the output lent on, and `told_copy` on the answer. Assumes nothing.
 use mathlib.Core.Path.{refl}
 use Prim.Native.Nat.{ℕ, _<_, _^_}
 use mathlib.Core.List.{[], _∷_, List}
@@ -24,10 +24,10 @@ use Rattle.copying.proofs.Copied as B
 use Rattle.copying.proofs.Copied.Laws as B′
 use Rattle.answers.proofs.CopyAnswer as L
 use Rattle.answers.proofs.CopyAnswer.Laws as L′
-use Rattle.engine.proofs.InTurn.{Told, Answered, Calling}
+use Rattle.entry_laws.proofs.InTurn.{Told, Answered, Calling}
 use Rattle.capi.proofs.Told.{Passes, meets-told}
-use Rattle.engine.proofs.copy.Symbol as entry
-use Rattle.engine.proofs.copy.Met as entry-thm
+use Rattle.copy_entry.proofs.copy.Symbol as entry
+use Rattle.copy_entry.proofs.copy.Met as entry-thm
 use Rattle.answers.proofs.told_copy.Symbol as told
 use Rattle.answers.proofs.told_copy.Met as told-thm
 use Rattle.capi.proofs.kuzpalen_copy.Key as key
@@ -58,7 +58,7 @@ module _ {M : Type 1} (𝓤 : URA M) (H : Heap 𝓤) (A : Atoms 𝓤) (W : Given
 pub kuzpalen-copy-spec : {M : Type 1} → stated.statement M
 unfolding code.routine
 kuzpalen-copy-spec 𝓤 H 𝓜 𝓖 𝓡 =
-    meets-told 𝓤 H 𝓜 𝓖 𝓡 code.env key.name entry.name told.name code.function (code.unfolded 𝓤 H 𝓜 𝓡) entry.routine told.routine code.calls-engine·copy code.calls-answers·told-copy B′.mir L′.mir B.the-row L.the-row copy-answer
+    meets-told 𝓤 H 𝓜 𝓖 𝓡 code.env key.name entry.name told.name code.function (code.unfolded 𝓤 H 𝓜 𝓡) entry.routine told.routine code.calls-copy-entry·copy code.calls-answers·told-copy B′.mir L′.mir B.the-row L.the-row copy-answer
     (λ b v is. EL.lawful B.the-type B′.the-laws 𝓤 H (𝓖 .A) (givenOf 𝓤 H 𝓜 𝓖) tt .typed b _ is .0) (λ r u is. LL.lawful L.the-type L′.the-laws 𝓤 H (𝓖 .A) (givenOf 𝓤 H 𝓜 𝓖) .typed r _ is .0)
     3 (own.signature .params)
     (λ κs a e d. Copies (a .0 .now) (a .1 .0 .now) (a .1 .1 .0) (a .1 .1 .1 .0 .now) (e .1 .1 .1 .0 .now) d)

@@ -1,4 +1,4 @@
--- `capi::kuzpalen_drill` meets its contract: `engine::drill` is called on its parameters, the list lent on, and `told_drill` on the answer. Assumes nothing.
+-- `capi::kuzpalen_drill` meets its contract: `drill_entry::drill` is called on its parameters, the list lent on, and `told_drill` on the answer. Assumes nothing.
 use mathlib.Core.Path.{refl}
 use Prim.Native.Nat.{ℕ, _<_, _^_}
 use mathlib.Core.List.{[], _∷_, List}
@@ -24,10 +24,10 @@ use Rattle.following.proofs.Drilled as B
 use Rattle.following.proofs.Drilled.Laws as B′
 use Rattle.answers.proofs.DrillAnswer as L
 use Rattle.answers.proofs.DrillAnswer.Laws as L′
-use Rattle.engine.proofs.InTurn.{Told, Answered, Calling}
+use Rattle.entry_laws.proofs.InTurn.{Told, Answered, Calling}
 use Rattle.capi.proofs.Told.{Passes, meets-told}
-use Rattle.engine.proofs.drill.Symbol as entry
-use Rattle.engine.proofs.drill.Met as entry-thm
+use Rattle.drill_entry.proofs.drill.Symbol as entry
+use Rattle.drill_entry.proofs.drill.Met as entry-thm
 use Rattle.answers.proofs.told_drill.Symbol as told
 use Rattle.answers.proofs.told_drill.Met as told-thm
 use Rattle.capi.proofs.kuzpalen_drill.Key as key
@@ -58,7 +58,7 @@ module _ {M : Type 1} (𝓤 : URA M) (H : Heap 𝓤) (A : Atoms 𝓤) (W : Given
 pub kuzpalen-drill-spec : {M : Type 1} → stated.statement M
 unfolding code.routine
 kuzpalen-drill-spec 𝓤 H 𝓜 𝓖 𝓡 =
-    meets-told 𝓤 H 𝓜 𝓖 𝓡 code.env key.name entry.name told.name code.function (code.unfolded 𝓤 H 𝓜 𝓡) entry.routine told.routine code.calls-engine·drill code.calls-answers·told-drill B′.mir L′.mir B.the-row L.the-row drill-answer
+    meets-told 𝓤 H 𝓜 𝓖 𝓡 code.env key.name entry.name told.name code.function (code.unfolded 𝓤 H 𝓜 𝓡) entry.routine told.routine code.calls-drill-entry·drill code.calls-answers·told-drill B′.mir L′.mir B.the-row L.the-row drill-answer
     (λ b v is. EL.lawful B.the-type B′.the-laws 𝓤 H (𝓖 .A) (givenOf 𝓤 H 𝓜 𝓖) tt .typed b _ is .0) (λ r u is. LL.lawful L.the-type L′.the-laws 𝓤 H (𝓖 .A) (givenOf 𝓤 H 𝓜 𝓖) .typed r _ is .0)
     3 (own.signature .params)
     (λ κs a e d. Drills (cells-of (a .0 .now)) (a .1 .0 .now) (a .1 .1 .0 .now) (e .1 .1 .0 .now) d)

@@ -1,4 +1,4 @@
--- `capi::kuzpalen_frame` meets its contract: `engine::frame` is called on its parameters, the scratch lent on, and `told_frame` on the answer. Assumes nothing.
+-- `capi::kuzpalen_frame` meets its contract: `frame_entry::frame` is called on its parameters, the scratch lent on, and `told_frame` on the answer. Assumes nothing.
 use mathlib.Core.Path.{refl}
 use Prim.Native.Nat.{ℕ, _<_, _^_}
 use mathlib.Core.List.{[], _∷_, List}
@@ -25,10 +25,10 @@ use Rattle.fitting.proofs.Fitted as B
 use Rattle.fitting.proofs.Fitted.Laws as B′
 use Rattle.answers.proofs.FrameAnswer as L
 use Rattle.answers.proofs.FrameAnswer.Laws as L′
-use Rattle.engine.proofs.InTurn.{Told, Answered, Calling}
+use Rattle.entry_laws.proofs.InTurn.{Told, Answered, Calling}
 use Rattle.capi.proofs.Told.{Passes, meets-told}
-use Rattle.engine.proofs.frame.Symbol as entry
-use Rattle.engine.proofs.frame.Met as entry-thm
+use Rattle.frame_entry.proofs.frame.Symbol as entry
+use Rattle.frame_entry.proofs.frame.Met as entry-thm
 use Rattle.answers.proofs.told_frame.Symbol as told
 use Rattle.answers.proofs.told_frame.Met as told-thm
 use Rattle.capi.proofs.kuzpalen_frame.Key as key
@@ -59,7 +59,7 @@ module _ {M : Type 1} (𝓤 : URA M) (H : Heap 𝓤) (A : Atoms 𝓤) (W : Given
 pub kuzpalen-frame-spec : {M : Type 1} → stated.statement M
 unfolding code.routine
 kuzpalen-frame-spec 𝓤 H 𝓜 𝓖 𝓡 =
-    meets-told 𝓤 H 𝓜 𝓖 𝓡 code.env key.name entry.name told.name code.function (code.unfolded 𝓤 H 𝓜 𝓡) entry.routine told.routine code.calls-engine·frame code.calls-answers·told-frame B′.mir L′.mir B.the-row L.the-row frame-answer
+    meets-told 𝓤 H 𝓜 𝓖 𝓡 code.env key.name entry.name told.name code.function (code.unfolded 𝓤 H 𝓜 𝓡) entry.routine told.routine code.calls-frame-entry·frame code.calls-answers·told-frame B′.mir L′.mir B.the-row L.the-row frame-answer
     (λ b v is. EL.lawful B.the-type B′.the-laws 𝓤 H (𝓖 .A) (givenOf 𝓤 H 𝓜 𝓖) tt .typed b _ is .0) (λ r u is. LL.lawful L.the-type L′.the-laws 𝓤 H (𝓖 .A) (givenOf 𝓤 H 𝓜 𝓖) .typed r _ is .0)
     2 (own.signature .params)
     (λ κs a e d. Frames (cells-of (a .0 .now)) (a .1 .0) (a .1 .1 .0 .now) (e .1 .1 .0 .now) d)

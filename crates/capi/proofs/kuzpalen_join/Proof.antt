@@ -1,4 +1,4 @@
--- `capi::kuzpalen_join` meets its contract: `engine::join` is called on its parameters, the table to fill lent on, and `told_join` on the answer. Assumes nothing.
+-- `capi::kuzpalen_join` meets its contract: `join_entry::join` is called on its parameters, the table to fill lent on, and `told_join` on the answer. Assumes nothing.
 use mathlib.Core.Path.{refl}
 use Prim.Native.Nat.{ℕ, _<_, _^_}
 use mathlib.Core.List.{[], _∷_, List}
@@ -23,10 +23,10 @@ use Rattle.grafting.proofs.JoinAnswer as B
 use Rattle.grafting.proofs.JoinAnswer.Laws as B′
 use Rattle.answers.proofs.JoinAnswer as L
 use Rattle.answers.proofs.JoinAnswer.Laws as L′
-use Rattle.engine.proofs.InTurn.{Told, Answered, Calling}
+use Rattle.entry_laws.proofs.InTurn.{Told, Answered, Calling}
 use Rattle.capi.proofs.Told.{Passes, meets-told}
-use Rattle.engine.proofs.join.Symbol as entry
-use Rattle.engine.proofs.join.Met as entry-thm
+use Rattle.join_entry.proofs.join.Symbol as entry
+use Rattle.join_entry.proofs.join.Met as entry-thm
 use Rattle.answers.proofs.told_join.Symbol as told
 use Rattle.answers.proofs.told_join.Met as told-thm
 use Rattle.capi.proofs.kuzpalen_join.Key as key
@@ -57,7 +57,7 @@ module _ {M : Type 1} (𝓤 : URA M) (H : Heap 𝓤) (A : Atoms 𝓤) (W : Given
 pub kuzpalen-join-spec : {M : Type 1} → stated.statement M
 unfolding code.routine
 kuzpalen-join-spec 𝓤 H 𝓜 𝓖 𝓡 =
-    meets-told 𝓤 H 𝓜 𝓖 𝓡 code.env key.name entry.name told.name code.function (code.unfolded 𝓤 H 𝓜 𝓡) entry.routine told.routine code.calls-engine·join code.calls-answers·told-join B′.mir L′.mir B.the-row L.the-row join-answer
+    meets-told 𝓤 H 𝓜 𝓖 𝓡 code.env key.name entry.name told.name code.function (code.unfolded 𝓤 H 𝓜 𝓡) entry.routine told.routine code.calls-join-entry·join code.calls-answers·told-join B′.mir L′.mir B.the-row L.the-row join-answer
     (λ b v is. EL.lawful B.the-type B′.the-laws 𝓤 H (𝓖 .A) (givenOf 𝓤 H 𝓜 𝓖) tt .typed b _ is .0) (λ r u is. LL.lawful L.the-type L′.the-laws 𝓤 H (𝓖 .A) (givenOf 𝓤 H 𝓜 𝓖) .typed r _ is .0)
     3 (own.signature .params)
     (λ κs a e d. Joins (a .0 .now) (a .1 .0 .now) (a .1 .1 .0) (a .1 .1 .1 .0 .now) (e .1 .1 .1 .0 .now) d)

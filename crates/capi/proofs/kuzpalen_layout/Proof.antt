@@ -1,4 +1,4 @@
--- `capi::kuzpalen_layout` meets its contract: `engine::layout` is called on its parameters, the two `&mut` slices lent on, and `told_layout` on the answer. Assumes nothing.
+-- `capi::kuzpalen_layout` meets its contract: `layout_entry::layout` is called on its parameters, the two `&mut` slices lent on, and `told_layout` on the answer. Assumes nothing.
 use mathlib.Core.Path.{refl}
 use Prim.Native.Nat.{ℕ, _<_, _^_}
 use mathlib.Core.List.{[], _∷_, List}
@@ -25,10 +25,10 @@ use Rattle.layout.proofs.Laid as B
 use Rattle.layout.proofs.Laid.Laws as B′
 use Rattle.answers.proofs.LayoutAnswer as L
 use Rattle.answers.proofs.LayoutAnswer.Laws as L′
-use Rattle.engine.proofs.InTurn.{Told, Answered, Calling}
+use Rattle.entry_laws.proofs.InTurn.{Told, Answered, Calling}
 use Rattle.capi.proofs.Told.{Passes, meets-told}
-use Rattle.engine.proofs.layout.Symbol as entry
-use Rattle.engine.proofs.layout.Met as entry-thm
+use Rattle.layout_entry.proofs.layout.Symbol as entry
+use Rattle.layout_entry.proofs.layout.Met as entry-thm
 use Rattle.answers.proofs.told_layout.Symbol as told
 use Rattle.answers.proofs.told_layout.Met as told-thm
 use Rattle.capi.proofs.kuzpalen_layout.Key as key
@@ -61,7 +61,7 @@ module _ {M : Type 1} (𝓤 : URA M) (H : Heap 𝓤) (A : Atoms 𝓤) (W : Given
 pub kuzpalen-layout-spec : {M : Type 1} → stated.statement M
 unfolding code.routine
 kuzpalen-layout-spec 𝓤 H 𝓜 𝓖 𝓡 =
-    meets-told 𝓤 H 𝓜 𝓖 𝓡 code.env key.name entry.name told.name code.function (code.unfolded 𝓤 H 𝓜 𝓡) entry.routine told.routine code.calls-engine·layout code.calls-answers·told-layout B′.mir L′.mir B.the-row L.the-row laid-answer
+    meets-told 𝓤 H 𝓜 𝓖 𝓡 code.env key.name entry.name told.name code.function (code.unfolded 𝓤 H 𝓜 𝓡) entry.routine told.routine code.calls-layout-entry·layout code.calls-answers·told-layout B′.mir L′.mir B.the-row L.the-row laid-answer
     (λ b v is. EL.lawful B.the-type B′.the-laws 𝓤 H (𝓖 .A) (givenOf 𝓤 H 𝓜 𝓖) tt .typed b _ is .0) (λ r u is. LL.lawful L.the-type L′.the-laws 𝓤 H (𝓖 .A) (givenOf 𝓤 H 𝓜 𝓖) .typed r _ is .0)
     3 (own.signature .params)
     (λ κs a e d. Lays (cells-of (a .0 .now)) (a .1 .0) (a .1 .1 .0 .now) (e .1 .1 .0 .now) (a .1 .1 .1 .0 .now) (e .1 .1 .1 .0 .now) d)

@@ -24,7 +24,7 @@ use Rattle.finishing.proofs.Reached as B
 use Rattle.finishing.proofs.Reached.Laws as B′
 use Rattle.answers.proofs.ReachAnswer as L
 use Rattle.answers.proofs.ReachAnswer.Laws as L′
-use Rattle.engine.proofs.InTurn.{Told, Answered, Calling}
+use Rattle.entry_laws.proofs.InTurn.{Told, Answered, Calling}
 use Rattle.capi.proofs.Told.{Passes, meets-told}
 use Rattle.making.proofs.reach.Symbol as entry
 use Rattle.making.proofs.reach.Met as entry-thm

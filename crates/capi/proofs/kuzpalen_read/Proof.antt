@@ -1,4 +1,4 @@
--- `capi::kuzpalen_read` meets its contract: `engine::read` is called on its parameters, the table lent on, and `told_read` on the answer. Assumes nothing.
+-- `capi::kuzpalen_read` meets its contract: `read_entry::read` is called on its parameters, the table lent on, and `told_read` on the answer. Assumes nothing.
 use mathlib.Core.Path.{refl}
 use Prim.Native.Nat.{ℕ, _<_, _^_}
 use mathlib.Core.List.{[], _∷_, List}
@@ -16,17 +16,17 @@ use denote.Builtin.{u8}
 use denote.Slice.{sliceVal, slice-vals, shr-slice-tells, mut-slice-tells}
 use denote.Enum.Laws as EL
 use denote.Struct.Laws as LL
-use Rattle.engine.specs.Read.{Reads}
+use Rattle.read_entry.specs.Read.{Reads}
 use Rattle.answers.specs.Answers.{read-answer, Filling}
 use Rattle.plan.proofs.Record as T
-use Rattle.engine.proofs.ReadAnswer as B
-use Rattle.engine.proofs.ReadAnswer.Laws as B′
+use Rattle.read_entry.proofs.ReadAnswer as B
+use Rattle.read_entry.proofs.ReadAnswer.Laws as B′
 use Rattle.answers.proofs.ReadAnswer as L
 use Rattle.answers.proofs.ReadAnswer.Laws as L′
-use Rattle.engine.proofs.InTurn.{Told, Answered, Calling}
+use Rattle.entry_laws.proofs.InTurn.{Told, Answered, Calling}
 use Rattle.capi.proofs.Told.{Passes, meets-told}
-use Rattle.engine.proofs.read.Symbol as entry
-use Rattle.engine.proofs.read.Met as entry-thm
+use Rattle.read_entry.proofs.read.Symbol as entry
+use Rattle.read_entry.proofs.read.Met as entry-thm
 use Rattle.answers.proofs.told_read.Symbol as told
 use Rattle.answers.proofs.told_read.Met as told-thm
 use Rattle.capi.proofs.kuzpalen_read.Key as key
@@ -54,7 +54,7 @@ module _ {M : Type 1} (𝓤 : URA M) (H : Heap 𝓤) (A : Atoms 𝓤) (W : Given
 pub kuzpalen-read-spec : {M : Type 1} → stated.statement M
 unfolding code.routine
 kuzpalen-read-spec 𝓤 H 𝓜 𝓖 𝓡 =
-    meets-told 𝓤 H 𝓜 𝓖 𝓡 code.env key.name entry.name told.name code.function (code.unfolded 𝓤 H 𝓜 𝓡) entry.routine told.routine code.calls-engine·read code.calls-answers·told-read B′.mir L′.mir B.the-row L.the-row read-answer
+    meets-told 𝓤 H 𝓜 𝓖 𝓡 code.env key.name entry.name told.name code.function (code.unfolded 𝓤 H 𝓜 𝓡) entry.routine told.routine code.calls-read-entry·read code.calls-answers·told-read B′.mir L′.mir B.the-row L.the-row read-answer
     (λ b v is. EL.lawful B.the-type B′.the-laws 𝓤 H (𝓖 .A) (givenOf 𝓤 H 𝓜 𝓖) tt .typed b _ is .0) (λ r u is. LL.lawful L.the-type L′.the-laws 𝓤 H (𝓖 .A) (givenOf 𝓤 H 𝓜 𝓖) .typed r _ is .0)
     2 (own.signature .params)
     (λ κs a e d. Reads (a .0 .now) (a .1 .0 .now) (e .1 .0 .now) d)

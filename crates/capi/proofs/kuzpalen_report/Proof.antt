@@ -23,7 +23,7 @@ use Rattle.season.proofs.Reported as B
 use Rattle.season.proofs.Reported.Laws as B′
 use Rattle.answers.proofs.ReportAnswer as L
 use Rattle.answers.proofs.ReportAnswer.Laws as L′
-use Rattle.engine.proofs.InTurn.{Told, Answered, Calling}
+use Rattle.entry_laws.proofs.InTurn.{Told, Answered, Calling}
 use Rattle.capi.proofs.Told.{Passes, meets-told}
 use Rattle.tallying.proofs.report.Symbol as entry
 use Rattle.tallying.proofs.report.Met as entry-thm

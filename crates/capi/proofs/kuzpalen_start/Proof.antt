@@ -25,7 +25,7 @@ use Rattle.finishing.proofs.Started as B
 use Rattle.finishing.proofs.Started.Laws as B′
 use Rattle.answers.proofs.StartAnswer as L
 use Rattle.answers.proofs.StartAnswer.Laws as L′
-use Rattle.engine.proofs.InTurn.{Told, Answered, Calling}
+use Rattle.entry_laws.proofs.InTurn.{Told, Answered, Calling}
 use Rattle.capi.proofs.Told.{Passes, meets-told}
 use Rattle.making.proofs.start.Symbol as entry
 use Rattle.making.proofs.start.Met as entry-thm

@@ -25,7 +25,7 @@ use Rattle.finishing.proofs.Stepped as B
 use Rattle.finishing.proofs.Stepped.Laws as B′
 use Rattle.answers.proofs.StepAnswer as L
 use Rattle.answers.proofs.StepAnswer.Laws as L′
-use Rattle.engine.proofs.InTurn.{Told, Answered, Calling}
+use Rattle.entry_laws.proofs.InTurn.{Told, Answered, Calling}
 use Rattle.capi.proofs.Told.{Passes, meets-told}
 use Rattle.making.proofs.step.Symbol as entry
 use Rattle.making.proofs.step.Met as entry-thm

@@ -1,4 +1,4 @@
--- `capi::kuzpalen_strip` meets its contract: `engine::strip` is called on its parameters, the bytes lent on, and `told_strip` on the answer. Assumes nothing.
+-- `capi::kuzpalen_strip` meets its contract: `strip_entry::strip` is called on its parameters, the bytes lent on, and `told_strip` on the answer. Assumes nothing.
 use mathlib.Core.Path.{refl}
 use Prim.Native.Nat.{ℕ, _<_, _^_}
 use mathlib.Core.List.{[], _∷_, List}
@@ -24,10 +24,10 @@ use Rattle.plan.proofs.Refusal as B
 use Rattle.plan.proofs.Refusal.Laws as B′
 use Rattle.answers.proofs.StripAnswer as L
 use Rattle.answers.proofs.StripAnswer.Laws as L′
-use Rattle.engine.proofs.InTurn.{Told, Answered, Calling}
+use Rattle.entry_laws.proofs.InTurn.{Told, Answered, Calling}
 use Rattle.capi.proofs.Told.{Passes, meets-told}
-use Rattle.engine.proofs.strip.Symbol as entry
-use Rattle.engine.proofs.strip.Met as entry-thm
+use Rattle.strip_entry.proofs.strip.Symbol as entry
+use Rattle.strip_entry.proofs.strip.Met as entry-thm
 use Rattle.answers.proofs.told_strip.Symbol as told
 use Rattle.answers.proofs.told_strip.Met as told-thm
 use Rattle.capi.proofs.kuzpalen_strip.Key as key
@@ -57,7 +57,7 @@ module _ {M : Type 1} (𝓤 : URA M) (H : Heap 𝓤) (A : Atoms 𝓤) (W : Given
 pub kuzpalen-strip-spec : {M : Type 1} → stated.statement M
 unfolding code.routine
 kuzpalen-strip-spec 𝓤 H 𝓜 𝓖 𝓡 =
-    meets-told 𝓤 H 𝓜 𝓖 𝓡 code.env key.name entry.name told.name code.function (code.unfolded 𝓤 H 𝓜 𝓡) entry.routine told.routine code.calls-engine·strip code.calls-answers·told-strip B′.mir L′.mir B.the-row L.the-row strip-answer
+    meets-told 𝓤 H 𝓜 𝓖 𝓡 code.env key.name entry.name told.name code.function (code.unfolded 𝓤 H 𝓜 𝓡) entry.routine told.routine code.calls-strip-entry·strip code.calls-answers·told-strip B′.mir L′.mir B.the-row L.the-row strip-answer
     (λ b v is. LL.lawful B.the-type B′.the-laws 𝓤 H (𝓖 .A) (givenOf 𝓤 H 𝓜 𝓖) .typed b _ is .0) (λ r u is. LL.lawful L.the-type L′.the-laws 𝓤 H (𝓖 .A) (givenOf 𝓤 H 𝓜 𝓖) .typed r _ is .0)
     3 (own.signature .params)
     (λ κs a e d. Strips (cells-of (a .0 .now)) (a .1 .0 .now) (a .1 .1 .0) (a .1 .1 .1 .0) (a .1 .1 .1 .1 .0 .now) (e .1 .1 .1 .1 .0 .now) d)

@@ -26,7 +26,7 @@ use Rattle.strokes.proofs.Stroked as B
 use Rattle.strokes.proofs.Stroked.Laws as B′
 use Rattle.answers.proofs.StrokeAnswer as L
 use Rattle.answers.proofs.StrokeAnswer.Laws as L′
-use Rattle.engine.proofs.InTurn.{Of, Told, Answered, Calling, table-slot, table-ty, positions-ty}
+use Rattle.entry_laws.proofs.InTurn.{Of, Told, Answered, Calling, table-slot, table-ty, positions-ty}
 use Rattle.capi.proofs.Told.{Passes, meets-told}
 use Rattle.plotting.proofs.stroke_at.Symbol as entry
 use Rattle.plotting.proofs.stroke_at.Met as entry-thm

@@ -19,8 +19,8 @@ use Rattle.content.specs.laws.Clean.{clean-content}
 use Rattle.copying.specs.Copied.{copied-of, output-after, Copies}
 use Rattle.copying.specs.declared.Copied.{Copied}
 use Rattle.copying.specs.declared.Copied.the-variants.{Written, Refused}
-use Rattle.engine.specs.declared.ReadAnswer.the-variants.{Plan}
-use Rattle.engine.specs.Read.{read-refusal, Reads}
+use Rattle.read_entry.specs.declared.ReadAnswer.the-variants.{Plan}
+use Rattle.read_entry.specs.Read.{read-refusal, Reads}
 use Rattle.demands.specs.laws.ReadThen.{told, first-records}
 
 module _ (rs : List Record) (letters : List ℕ) (al : ℕ) (out out′ : List ℕ) (r : Copied) (l : Copies rs letters al out out′ r) where

@@ -34,9 +34,9 @@ use Rattle.printing.specs.Printing.{Lists, read-table, first-line, cell-of, lis
 use Rattle.printing.specs.laws.Taken.{text-plan}
 use Rattle.printing.specs.declared.Listed.{Listed}
 use Rattle.printing.specs.declared.Listed.the-variants.{Text}
-use Rattle.engine.specs.declared.ReadAnswer.the-variants.{Plan, Refused}
-use Rattle.engine.specs.Read.{read-refusal, read-answered, Reads}
-use Rattle.engine.specs.Label.{label-of}
+use Rattle.read_entry.specs.declared.ReadAnswer.the-variants.{Plan, Refused}
+use Rattle.read_entry.specs.Read.{read-refusal, read-answered, Reads}
+use Rattle.label_entry.specs.Label.{label-of}
 use Rattle.demands.specs.Outcomes.{printed-cell, printed-sheet}
 use Rattle.demands.specs.laws.Layout.{sheet-written}
 use Rattle.demands.specs.laws.List as listing

@@ -21,10 +21,10 @@ use Rattle.planfile.specs.FileSteps.{file-refusal}
 use Rattle.planfile.specs.laws.File as Law
 use Rattle.planfile.specs.laws.Examined.{zero-of}
 use Rattle.planfile.specs.laws.ReadThen.{file-label, file-layout, part-of-record}
-use Rattle.engine.specs.declared.ReadAnswer.{ReadAnswer}
-use Rattle.engine.specs.declared.ReadAnswer.the-variants.{Plan, Refused}
-use Rattle.engine.specs.Read.{read-refusal, read-answered, table-after, Reads}
-use Rattle.engine.specs.Label.{label-of}
+use Rattle.read_entry.specs.declared.ReadAnswer.{ReadAnswer}
+use Rattle.read_entry.specs.declared.ReadAnswer.the-variants.{Plan, Refused}
+use Rattle.read_entry.specs.Read.{read-refusal, read-answered, table-after, Reads}
+use Rattle.label_entry.specs.Label.{label-of}
 
 -- ---- the answer
 module _ (f : List ℕ) (t t′ : List Record) (r : ReadAnswer) (l : Reads f t t′ r) where

@@ -23,8 +23,8 @@ use Rattle.season.specs.declared.Reported.the-variants.{Figures, Refused}
 use Rattle.reporting.specs.Reporting.{file-table, figure-of, report-refusal, reported-of, table-left, scratch-left, positions-left, Reports}
 use Rattle.reporting.specs.laws.Reporting.{room-enough, scratch-enough, positions-enough}
 use Rattle.reporting.specs.laws.Folder.{as-read, real}
-use Rattle.engine.specs.declared.ReadAnswer.the-variants.{Plan}
-use Rattle.engine.specs.Read.{read-refusal, read-answered, table-after, Reads}
+use Rattle.read_entry.specs.declared.ReadAnswer.the-variants.{Plan}
+use Rattle.read_entry.specs.Read.{read-refusal, read-answered, table-after, Reads}
 
 -- ---- the answer
 module _ (f : List ℕ) (t t′ : List Record) (s s′ : List ℕ) (ps ps′ : List ℤ) (r : Reported) (g : Reports f t t′ s s′ ps ps′ r) where

@@ -24,7 +24,7 @@ use Rattle.finishing.specs.declared.Reached.{Reached}
 use Rattle.finishing.specs.declared.Reached.the-variants as reached
 use Rattle.records.specs.Apart.{lent-columns}
 use Rattle.records.specs.laws.Apart.{of-records}
-use Rattle.engine.specs.laws.Lent.{no}
+use Rattle.entry_laws.specs.laws.Lent.{no}
 
 module _ (al s m : ℕ) where
   abbrev unmade : Refusal

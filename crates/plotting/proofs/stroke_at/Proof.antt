@@ -23,8 +23,8 @@ use Rattle.plan.proofs.Page as G
 use Rattle.plan.proofs.Page.Laws as G′
 use Rattle.strokes.proofs.Stroked as L
 use Rattle.strokes.proofs.Stroked.Laws as L′
-use Rattle.engine.proofs.InTurn.{Of, Told, Answered, Calling, Follows, table-ty, positions-ty}
-use Rattle.engine.proofs.Lent.{by-columns, columned, meets-lent}
+use Rattle.entry_laws.proofs.InTurn.{Of, Told, Answered, Calling, Follows, table-ty, positions-ty}
+use Rattle.entry_laws.proofs.Lent.{by-columns, columned, meets-lent}
 use Rattle.records.proofs.columns_of.Symbol as apart
 use Rattle.records.proofs.columns_of.Met as apart-thm
 use Rattle.strokes.proofs.stroke_at.Symbol as core

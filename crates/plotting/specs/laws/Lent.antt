@@ -20,7 +20,7 @@ use Rattle.records.specs.laws.Apart.{of-records}
 use Rattle.strokes.specs.Stroked.{stroked-of}
 use Rattle.strokes.specs.declared.Stroked.{Stroked}
 use Rattle.strokes.specs.declared.Stroked.the-variants.{Refused}
-use Rattle.engine.specs.laws.Lent.{no}
+use Rattle.entry_laws.specs.laws.Lent.{no}
 
 stroke-crowded : (ps : List ℤ) (g : Page) (s : ℕ) (u : Table) → most-cells < length u → stroked-of u ps g s ≡ Refused (no [] .number) (no [] .cell)
 unfolding stroked-of stroke-given in-file puts mem some

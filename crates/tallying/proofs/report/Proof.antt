@@ -1,5 +1,5 @@
 -- `tallying::report` meets its contract: `reporting::report` is called on the file, the table's length and the two other slices, lent on, and `records::fill` on what was read and on the table,
--- lent on (engine, proofs/Filled.antt). Assumes nothing.
+-- lent on (entry_laws, proofs/Filled.antt). Assumes nothing.
 use mathlib.Core.Path.{refl, ap}
 use Prim.Native.Nat.{ℕ, _<_, _^_}
 use mathlib.Core.List.{[], _∷_, List}
@@ -33,7 +33,7 @@ use Rattle.reporting.proofs.Draft as P
 use Rattle.reporting.proofs.Draft.Laws as P′
 use Rattle.season.proofs.Reported as N
 use Rattle.season.proofs.Reported.Laws as N′
-use Rattle.engine.proofs.Filled.{Filled, Read-in, Follows, meets-filled}
+use Rattle.entry_laws.proofs.Filled.{Filled, Read-in, Follows, meets-filled}
 use Rattle.reporting.proofs.report.Symbol as core
 use Rattle.reporting.proofs.report.Met as core-thm
 use Rattle.tallying.proofs.report.Key as own

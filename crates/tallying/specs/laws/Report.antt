@@ -22,7 +22,7 @@ use Rattle.reporting.specs.laws.Reporting.{room-enough, count-few}
 use Rattle.reporting.specs.declared.Draft.{Draft}
 use Rattle.season.specs.declared.Reported.{Reported}
 use Rattle.season.specs.declared.Reported.the-variants.{Figures, Refused}
-use Rattle.engine.specs.laws.Filled.{plan-records}
+use Rattle.entry_laws.specs.laws.Filled.{plan-records}
 
 module _ (f : List ℕ) (t : List Record) (s s′ : List ℕ) (ps ps′ : List ℤ) (d : Draft) (g : Drafts f (length t) s s′ ps ps′ d) where
   abbrev stop : Refusal

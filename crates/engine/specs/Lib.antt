@@ -1,4 +1,0 @@
-pub mod Read
-pub mod Label
-pub mod Hung
-pub mod laws

@@ -1,4 +1,0 @@
-pub mod Join
-pub mod Lent
-pub mod Filled
-pub mod Read

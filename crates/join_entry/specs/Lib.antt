@@ -1,0 +1,2 @@
+pub mod Hung
+pub mod laws
