@@ -1,6 +1,6 @@
 use borrow.Author.Needs.{needs}
-use Rattle.looking.proofs.search.see.Statement.{statement}
-use Rattle.looking.proofs.search.see.Tie as tie
+use Rattle.looking_sights.proofs.see.Statement.{statement}
+use Rattle.looking_sights.proofs.see.Tie as tie
 
 number-at-requires : tie.Need-number-at-requires
 number-at-requires c κs = search needs

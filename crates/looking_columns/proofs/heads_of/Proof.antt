@@ -1,9 +1,9 @@
-use Rattle.looking.proofs.Looking.{Heading, heading-starts, heading-turns, made-all}
+use Rattle.looking_columns.proofs.Making.{Heading, heading-starts, heading-turns, made-all}
 use Prim.Native.Nat.{_-_}
 use native.Mathlib.Omega.{arith}
 use borrow.Author.Needs.{needs}
-use Rattle.looking.proofs.sights.heads_of.Statement.{statement}
-use Rattle.looking.proofs.sights.heads_of.Tie as tie
+use Rattle.looking_columns.proofs.heads_of.Statement.{statement}
+use Rattle.looking_columns.proofs.heads_of.Tie as tie
 
 abbrev Inv-loop : tie.InvT-loop
 Inv-loop t many parent₀ middle₀ c₀ parent middle c = Heading t many c parent middle

@@ -1,4 +1,4 @@
-use Rattle.looking.proofs.Looking.{made-none, made-next, made-all, within-at}
+use Rattle.looking_columns.proofs.Making.{made-none, made-next, made-all, within-at}
 use Rattle.plan.specs.Trees.{Column}
 use Rattle.plan.specs.Near.{Near}
 use Rattle.plan.specs.Limits.{farthest, most-cells}
@@ -8,8 +8,8 @@ use lib.ListN.{getD}
 use Prim.Native.Nat.{_-_, _+_, _*_, _≤_}
 use native.Mathlib.Omega.{arith}
 use borrow.Author.Needs.{needs}
-use Rattle.looking.proofs.sights.raised.Statement.{statement}
-use Rattle.looking.proofs.sights.raised.Tie as tie
+use Rattle.looking_columns.proofs.raised.Statement.{statement}
+use Rattle.looking_columns.proofs.raised.Tie as tie
 
 abbrev Inv-loop : tie.InvT-loop
 Inv-loop positions n offset out₀ c₀ out c = (c ≤ n) × (n ≤ most-cells) × (offset ≤ 1) × Near positions n × Column out c (λ i. bias farthest (getD positions (2 * i + offset) (pos 0)))

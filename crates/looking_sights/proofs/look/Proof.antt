@@ -1,7 +1,7 @@
-use Rattle.looking.proofs.Looking.{looked}
+use Rattle.looking_sights.proofs.Looking.{looked}
 use borrow.Author.Needs.{needs}
-use Rattle.looking.proofs.sights.look.Statement.{statement}
-use Rattle.looking.proofs.sights.look.Tie as tie
+use Rattle.looking_sights.proofs.look.Statement.{statement}
+use Rattle.looking_sights.proofs.look.Tie as tie
 
 look-at-tree-requires : tie.Need-look-at-tree-requires
 look-at-tree-requires c κs = search needs

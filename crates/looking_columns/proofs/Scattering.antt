@@ -1,6 +1,6 @@
 -- What scattering columns over the cells keeps. Assumes nothing.
-use mathlib.Core.Path.{_≡_, refl, _∙_, subst}
-use mathlib.Core.Logic.{_≢_, _⊎_, inl, inr}
+use mathlib.Core.Path.{_≡_, refl, _∙_}
+use mathlib.Core.Logic.{_≢_, inl, inr}
 use mathlib.Core.List.{List, [], _∷_}
 use Prim.Native.Nat.{ℕ, zero, suc, _+_, _*_, _≤_, _<_}
 use native.Mathlib.Nat.{add-zero}
@@ -9,7 +9,7 @@ use native.Mathlib.Decide.{ℕ-discrete}
 use lib.ListN.{length, getD, set, length-set}
 use lib.Seq.{getD-set-same, getD-set-other}
 use Rattle.plan.specs.Limits.{most-cells}
-use Rattle.looking.specs.Passes.{sight, Scattered}
+use Rattle.looking_columns.specs.Columns.{sight, Scattered}
 
 -- ---- a column, cell by cell
 pub record Scattering (column : List ℕ) (n k : ℕ) (xs ys : List ℕ) (c : ℕ) : Type 0 where
@@ -51,19 +51,3 @@ module _ {column : List ℕ} {n k : ℕ} {xs ys : List ℕ} {c : ℕ} (h : Scatt
       here : (j i : ℕ) → j < 1 → i < n → getD ys (sight * i + (k + j)) 0 ≡ getD (getD (column ∷ []) j []) i 0
       here zero i p m = rw add-zero (h .here i (omega arith))
       here (suc j) i p m = absurd (omega arith)
-
--- ---- a column, and those after it
-pub scattered-more : {column : List ℕ} {columns : List (List ℕ)} {n k : ℕ} {xs ys zs : List ℕ} → k < sight → Scattered (column ∷ []) n k xs ys
-    → Scattered columns n (suc k) ys zs → Scattered (column ∷ columns) n k xs zs
-scattered-more {column} {columns} {n} {k} {xs} {ys} {zs} small g h = record { long = h .long; here = here; off = off }
-  where
-    here : (j c : ℕ) → j < suc (length columns) → c < n → getD zs (sight * c + (k + j)) 0 ≡ getD (getD (column ∷ columns) j []) c 0
-    here zero c p l =
-        let e : getD ys (sight * c + k) 0 ≡ getD column c 0 = rw add-zero at (g .here 0 c (omega arith) l) in
-        rw add-zero (h .off k c small (inl (omega arith)) ∙ e)
-    here (suc j) c p l =
-        subst (λ (i : ℕ). getD zs (sight * c + i) 0 ≡ getD (getD columns j []) c 0) (omega arith) (h .here j c (omega arith) l)
-
-    off : (j c : ℕ) → j < sight → (j < k) ⊎ (k + suc (length columns) ≤ j) → getD zs (sight * c + j) 0 ≡ getD xs (sight * c + j) 0
-    off j c l (inl p) = h .off j c l (inl (omega arith)) ∙ g .off j c l (inl p)
-    off j c l (inr p) = h .off j c l (inr (omega arith)) ∙ g .off j c l (inr (omega arith))

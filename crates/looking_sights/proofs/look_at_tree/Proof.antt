@@ -1,10 +1,9 @@
-use Rattle.looking.proofs.Looking.{many-short}
-use Rattle.looking.proofs.Scattering.{scattered-more}
+use Rattle.looking_sights.proofs.Looking.{many-short, scattered-more}
 use Rattle.plan.specs.laws.Tables.{count-few}
 use native.Mathlib.Omega.{arith}
 use borrow.Author.Needs.{needs}
-use Rattle.looking.proofs.sights.look_at_tree.Statement.{statement}
-use Rattle.looking.proofs.sights.look_at_tree.Tie as tie
+use Rattle.looking_sights.proofs.look_at_tree.Statement.{statement}
+use Rattle.looking_sights.proofs.look_at_tree.Tie as tie
 
 links-of-requires : tie.Need-links-of-requires
 links-of-requires c κs = search needs

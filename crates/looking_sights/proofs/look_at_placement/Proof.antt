@@ -1,10 +1,9 @@
-use Rattle.looking.proofs.Looking.{raised-short, bases-short}
-use Rattle.looking.proofs.Scattering.{scattered-more}
+use Rattle.looking_sights.proofs.Looking.{raised-short, bases-short, scattered-more}
 use Rattle.plan.specs.laws.Tables.{count-few}
 use native.Mathlib.Omega.{arith}
 use borrow.Author.Needs.{needs}
-use Rattle.looking.proofs.sights.look_at_placement.Statement.{statement}
-use Rattle.looking.proofs.sights.look_at_placement.Tie as tie
+use Rattle.looking_sights.proofs.look_at_placement.Statement.{statement}
+use Rattle.looking_sights.proofs.look_at_placement.Tie as tie
 
 raised-requires : tie.Need-raised-requires
 raised-requires c κs = (count-few (c .args .t) (c .pre .0), omega arith, c .pre .1)

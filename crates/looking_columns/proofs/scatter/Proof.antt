@@ -1,8 +1,8 @@
-use Rattle.looking.proofs.Scattering.{Scattering, scattering-starts, scattering-turns, scattering-ends}
+use Rattle.looking_columns.proofs.Scattering.{Scattering, scattering-starts, scattering-turns, scattering-ends}
 use Prim.Native.Nat.{_-_}
 use borrow.Author.Needs.{needs}
-use Rattle.looking.proofs.sights.scatter.Statement.{statement}
-use Rattle.looking.proofs.sights.scatter.Tie as tie
+use Rattle.looking_columns.proofs.scatter.Statement.{statement}
+use Rattle.looking_columns.proofs.scatter.Tie as tie
 
 abbrev Inv-loop : tie.InvT-loop
 Inv-loop column n k out₀ c₀ out c = Scattering column n k out₀ out c

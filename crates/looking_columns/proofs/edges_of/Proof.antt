@@ -1,9 +1,9 @@
-use Rattle.looking.proofs.Looking.{Edging, edging-starts, edging-turns, wide-low, deep-low, made-all}
+use Rattle.looking_columns.proofs.Making.{Edging, edging-starts, edging-turns, wide-low, deep-low, made-all}
 use Prim.Native.Nat.{_-_}
 use native.Mathlib.Omega.{arith}
 use borrow.Author.Needs.{needs}
-use Rattle.looking.proofs.sights.edges_of.Statement.{statement}
-use Rattle.looking.proofs.sights.edges_of.Tie as tie
+use Rattle.looking_columns.proofs.edges_of.Statement.{statement}
+use Rattle.looking_columns.proofs.edges_of.Tie as tie
 
 abbrev Inv-loop : tie.InvT-loop
 Inv-loop t x y right₀ base₀ c₀ right base c = Edging t x y c right base

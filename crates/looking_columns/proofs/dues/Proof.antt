@@ -1,10 +1,10 @@
-use Rattle.looking.proofs.Looking.{Duing, duing-starts, duing-turns, duing-ends, base-low}
+use Rattle.looking_columns.proofs.Making.{Duing, duing-starts, duing-turns, duing-ends, base-low}
 use Rattle.plan.specs.laws.Tables.{parent-lower}
 use Prim.Native.Nat.{_-_}
 use native.Mathlib.Omega.{arith}
 use borrow.Author.Needs.{needs}
-use Rattle.looking.proofs.sights.dues.Statement.{statement}
-use Rattle.looking.proofs.sights.dues.Tie as tie
+use Rattle.looking_columns.proofs.dues.Statement.{statement}
+use Rattle.looking_columns.proofs.dues.Tie as tie
 
 abbrev Inv-loop : tie.InvT-loop
 Inv-loop t base due₀ c₀ due c = Duing t base c due

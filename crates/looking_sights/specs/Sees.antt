@@ -1,30 +1,22 @@
 -- What the columns hold of a table and a placement. Assumes nothing.
 use mathlib.Core.Path.{_≡_}
 use mathlib.Core.List.{List, [], _∷_}
-use Prim.Native.Nat.{ℕ, _+_, _*_, _^_, _<_}
+use Prim.Native.Nat.{ℕ, _+_, _*_}
 use lib.ListN.{length, getD}
 use lib.IntN.{ℤ, pos}
 use Rattle.whole.specs.Whole.{plus, minus}
 use Rattle.whole.specs.Bias.{bias}
 use Rattle.plan.specs.Trees.{Column}
 use Rattle.plan.specs.Limits.{farthest}
-use Rattle.plan.specs.Plan.{Table, Is, kind, parent, appointed, W, D, Child}
+use Rattle.plan.specs.Plan.{Table, Is, kind, parent, appointed, W, D}
 use Rattle.rules.specs.Placement.{Placement}
 use Rattle.spans.specs.Spans.{at, Counted, Deepest, Spans}
-use Rattle.looking.specs.Passes.{Sights, Agree, Scattered}
+use Rattle.looking_columns.specs.Columns.{Scattered, Due}
+use Rattle.looking_sights.specs.Sights.{Sights, Agree}
 
 -- n is z moved up
 abbrev pub Lifts : ℤ → ℕ → Type 0
 Lifts z n = plus z + farthest ≡ n + minus z
-
--- a column of n numbers that can be added to
-pub record Short (xs : List ℕ) (n : ℕ) : Type 0 where
-  pub short : (c : ℕ) → c < n → at xs c < 2 ^ 30
-
--- the rows that S1 asks
-pub record Due (t : Table) (base due : ℕ → ℕ) : Type 0 where
-  pub root : due 0 ≡ farthest
-  pub each : (c f : ℕ) → Child t f c → due c ≡ base f + 1
 
 pub record Sees (t : Table) (p : Placement) (s : Sights) : Type 0 where
   pub many : ℕ → ℕ

@@ -1,16 +1,9 @@
-// The columns that the rules read, made of a table and a placement.
-use crate::search::SIGHT;
-use crate::search::SIGHTS;
-use links::links_of;
+// The columns that the rules read, made of a table and a placement, and their numbers set out cell after cell.
 use plan::Columns;
 use plan::kinds::appointed;
 use plan::limits::FARTHEST;
 use plan::limits::MOST_CELLS;
-use spans::lay;
-use spans::measure;
-use spans::number;
 use spans::parent_of;
-use spans::sink;
 use whole::numbers::wide8to32;
 use whole::numbers::wide16to32;
 use whole::raise_at;
@@ -27,9 +20,12 @@ ghost use Rattle.plan.specs.Fit.{Fit};
 ghost use Rattle.plan.specs.Near.{Near};
 ghost use Rattle.plan.specs.Trees.{Column};
 ghost use Rattle.spans.specs.Spans.{at};
-ghost use Rattle.looking.specs.Passes.{Scattered, Sighted, sight, «view-in»};
-ghost use Rattle.rules.specs.Placement.{placed};
-ghost use Rattle.looking.specs.Sees.{Looked, Short, Due, «Tree-seen», «Placement-seen»};
+ghost use Rattle.looking_columns.specs.Columns.{sight, Scattered, Short, Due};
+
+// How many numbers the rules read of a cell. Those of all cells lie in one array, cell after cell: a `View` for each.
+pub const SIGHT: usize = 13;
+
+pub const SIGHTS: usize = SIGHT * MOST_CELLS;
 
 // The right edge and the last row of each box.
 pub struct Edges {
@@ -44,7 +40,7 @@ pub struct Heads {
 }
 
 // The x (offset 0) or the y (offset 1) of each cell, moved up.
-fn raised(positions: &[i32], n: usize, offset: usize) -> [u32; MOST_CELLS]
+pub fn raised(positions: &[i32], n: usize, offset: usize) -> [u32; MOST_CELLS]
     requires { ⌜ (n ≤ most-cells) × (offset ≤ 1) × Near (now positions) n ⌝ }
     ensures { λ r. ⌜ Column r n (λ c. bias farthest (getD (now (positions .entry)) (2 * c + offset) (pos 0))) ⌝ }
 {
@@ -57,7 +53,7 @@ fn raised(positions: &[i32], n: usize, offset: usize) -> [u32; MOST_CELLS]
     out
 }
 
-fn edges_of(t: Columns, x: [u32; MOST_CELLS], y: [u32; MOST_CELLS]) -> Edges
+pub fn edges_of(t: Columns, x: [u32; MOST_CELLS], y: [u32; MOST_CELLS]) -> Edges
     requires { ⌜ Fit (table-of t) × Short x (t .count) × Short y (t .count) ⌝ }
     ensures { λ r. ⌜ Column (r .right) (t .count) (λ c. getD x c 0 + W (table-of t) c) × Column (r .base) (t .count) (λ c. getD y c 0 + D (table-of t) c) ⌝ }
 {
@@ -73,7 +69,7 @@ fn edges_of(t: Columns, x: [u32; MOST_CELLS], y: [u32; MOST_CELLS]) -> Edges
 }
 
 // The row that S1 asks of each cell.
-fn dues(t: Columns, base: [u32; MOST_CELLS]) -> [u32; MOST_CELLS]
+pub fn dues(t: Columns, base: [u32; MOST_CELLS]) -> [u32; MOST_CELLS]
     requires { ⌜ Fit (table-of t) × Short base (t .count) ⌝ }
     ensures { λ r. ⌜ Due (table-of t) (at base) (at r) ⌝ }
 {
@@ -88,7 +84,7 @@ fn dues(t: Columns, base: [u32; MOST_CELLS]) -> [u32; MOST_CELLS]
     due
 }
 
-fn heads_of(t: Columns, many: [u32; MOST_CELLS]) -> Heads
+pub fn heads_of(t: Columns, many: [u32; MOST_CELLS]) -> Heads
     requires { ⌜ Fit (table-of t) × Short many (t .count) ⌝ }
     ensures { λ r. ⌜ Column (r .parent) (t .count) (parent (table-of t)) × Column (r .middle) (t .count) (λ c. appointed (kind (table-of t) c) (getD many c 0)) ⌝ }
 {
@@ -104,7 +100,7 @@ fn heads_of(t: Columns, many: [u32; MOST_CELLS]) -> Heads
 }
 
 // A column's numbers, as number k of their cells.
-fn scatter(column: &[u32; MOST_CELLS], n: usize, k: usize, out: &mut [u32; SIGHTS])
+pub fn scatter(column: &[u32; MOST_CELLS], n: usize, k: usize, out: &mut [u32; SIGHTS])
     requires { ⌜ (n ≤ most-cells) × (k < sight) × (length (now out) ≡ most-cells * sight) ⌝ }
     ensures { λ _. ⌜ Scattered (now (column .entry) ∷ []) n k (now (out .entry)) (now (out .exit)) ⌝ }
 {
@@ -113,48 +109,4 @@ fn scatter(column: &[u32; MOST_CELLS], n: usize, k: usize, out: &mut [u32; SIGHT
         out[SIGHT * c + k] = column[c];
         c += 1;
     }
-}
-
-// What the rules read of the table.
-fn look_at_tree(t: Columns, out: &mut [u32; SIGHTS])
-    requires { ⌜ Fit (table-of t) × (length (now out) ≡ most-cells * sight) ⌝ }
-    ensures { λ _. ⌜ Tree-seen (table-of t) (t .count) (now (out .entry)) (now (out .exit)) ⌝ }
-{
-    let links = links_of(t);
-    let numbers = number(t, &links);
-    let head = heads_of(t, numbers.many);
-    let span = lay(t, &links, measure(t));
-    scatter(&head.parent, t.count, 0, out);
-    scatter(&numbers.nth, t.count, 1, out);
-    scatter(&head.middle, t.count, 2, out);
-    scatter(&span.first, t.count, 3, out);
-    scatter(&span.end, t.count, 4, out);
-    scatter(&span.from, t.count, 5, out);
-    scatter(&span.to, t.count, 6, out);
-}
-
-// What they read of the placement.
-fn look_at_placement(t: Columns, positions: &[i32], out: &mut [u32; SIGHTS])
-    requires { ⌜ Fit (table-of t) × Near (now positions) (t .count) × (length (now out) ≡ most-cells * sight) ⌝ }
-    ensures { λ _. ⌜ Placement-seen (table-of t) (now (positions .entry)) (t .count) (now (out .entry)) (now (out .exit)) ⌝ }
-{
-    let x = raised(positions, t.count, 0);
-    let y = raised(positions, t.count, 1);
-    let edge = edges_of(t, x, y);
-    let due = dues(t, edge.base);
-    let bottom = sink(t, edge.base);
-    scatter(&x, t.count, 7, out);
-    scatter(&edge.right, t.count, 8, out);
-    scatter(&y, t.count, 9, out);
-    scatter(&due, t.count, 10, out);
-    scatter(&edge.base, t.count, 11, out);
-    scatter(&bottom, t.count, 12, out);
-}
-
-pub fn look(t: Columns, positions: &[i32], out: &mut [u32; SIGHTS])
-    requires { ⌜ Fit (table-of t) × Near (now positions) (t .count) × (length (now out) ≡ most-cells * sight) ⌝ }
-    ensures { λ _. ⌜ Looked (table-of t) (placed (now (positions .entry))) (view-in (now (out .exit))) × Sighted (view-in (now (out .exit))) (t .count) ⌝ }
-{
-    look_at_tree(t, out);
-    look_at_placement(t, positions, out);
 }
