@@ -1,19 +1,17 @@
 -- The scratch by rows and columns against lists of extents; numbers stay small. Assumes nothing.
 use mathlib.Core.Path.{_≡_, sym, subst}
 use mathlib.Core.Logic.{⊎-elim}
-use mathlib.Core.List.{List, map}
-use Prim.Native.Nat.{ℕ, zero, suc, _+_, _-_, _*_, _/_, _%_, _≤_, _<_, min}
+use mathlib.Core.List.{List}
+use Prim.Native.Nat.{ℕ, zero, suc, _+_, _*_, _/_, _%_, _≤_, _<_}
 use native.Mathlib.Nat.{div-add-mod', eq-or-lt-of-le, le-of-suc-le-suc}
 use native.Mathlib.Omega.{arith}
 use native.Mathlib.Decide.{ℕ-discrete, decLt}
 use lib.ListN.{length, getD, set}
 use lib.Seq.{getD-set-same, getD-set-other, set-out}
 use Rattle.plan.specs.Limits.{farthest}
-use Rattle.plan.specs.laws.Lists.{at-getD}
-use Rattle.contours.specs.Contour.{greatest, clash}
-use Rattle.contours.specs.laws.Contour.{at-map, map-at, clash-le, clash-at}
-use Rattle.rows.specs.Rows.{row-size, extent, Low, box-to, max-to, clash-to}
-use Rattle.folding.specs.laws.Lists.{at-get, get-past, get-greatest, greatest-below}
+use Rattle.contours.specs.Contour.{greatest}
+use Rattle.rows.specs.Rows.{row-size, extent, Low, box-to, max-to}
+use Rattle.folding.specs.laws.Lists.{get-past, get-greatest, greatest-below}
 
 -- ---- small numbers
 pub low-rows : (xs : List ℕ) → ((j k : ℕ) → k < row-size → extent xs j k ≤ farthest) → Low xs
@@ -58,27 +56,3 @@ max-is xs k n vs h l =
     go : (j : ℕ) → Dec (j < n) → getD vs j 0 ≤ max-to xs k n
     go j (yes lt) = rw (h j) at (max-ge xs k n j lt)
     go j (no ge) = rw (get-past vs j (omega arith)) (omega arith)
-
--- ---- what the rows that both have ask for
-clash-below : (xs : List ℕ) (k x b : ℕ) (n : ℕ) → ((j : ℕ) → j < n → (extent xs j (k + 1) - x) + extent xs j (k + 2) + 1 ≤ b) → clash-to xs k x n ≤ b
-unfolding clash-to
-clash-below xs k x b zero h = omega arith
-clash-below xs k x b (suc n) h = omega (arith, h n (omega arith), clash-below xs k x b n (λ j l. h j (omega arith)))
-
-clash-above : (xs : List ℕ) (k x n j : ℕ) → j < n → (extent xs j (k + 1) - x) + extent xs j (k + 2) + 1 ≤ clash-to xs k x n
-unfolding clash-to
-clash-above xs k x zero j l = absurd (omega arith)
-clash-above xs k x (suc n) j l =
-    ⊎-elim (λ e. subst (λ (i : ℕ). (extent xs i (k + 1) - x) + extent xs i (k + 2) + 1 ≤ clash-to xs k x (suc n)) (sym e) (omega arith)) (λ g. omega (arith, clash-above xs k x n j g)) (eq-or-lt-of-le (le-of-suc-le-suc l))
-
-pub clash-is : (xs : List ℕ) (k x n : ℕ) (rs ls : List ℕ) → ((j : ℕ) → extent xs j (k + 1) ≡ getD rs j 0) → ((j : ℕ) → extent xs j (k + 2) ≡ getD ls j 0) → n ≡ min (length rs) (length ls)
-    → clash-to xs k x n ≡ clash (map (λ v. v - x) rs) ls
-clash-is xs k x n rs ls hr hl e =
-    let up = clash-below xs k x (clash (map (λ v. v - x) rs) ls) n (λ j l. rw (hr j, hl j) (clash-at _ ls j _ _ (map-at (λ v. v - x) rs j _ (at-getD rs j 0 (omega arith))) (at-getD ls j 0 (omega arith)))) in
-    let down = clash-le (map (λ v. v - x) rs) ls (clash-to xs k x n) (λ j r l p q.
-    let (u, a, ea) = at-map (λ v. v - x) rs j r p in
-    let (e1, l1) = at-get rs j u a in
-    let (e2, l2) = at-get ls j l q in
-    let g = clash-above xs k x n j (omega arith) in
-    omega (arith, hr j, hl j)) in
-    omega arith

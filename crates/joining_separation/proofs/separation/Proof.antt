@@ -1,8 +1,9 @@
 use borrow.Author.Needs.{needs}
-use Rattle.joining.specs.Joining.{memory-of, settled-apart}
-use Rattle.joining.specs.laws.Joining.{apart-found}
-use Rattle.joining.proofs.separation.Statement.{statement}
-use Rattle.joining.proofs.separation.Tie as tie
+use Rattle.joining_cells.specs.Cells.{memory-of}
+use Rattle.joining_separation.specs.Separation.{settled-apart}
+use Rattle.joining_separation.specs.laws.Separation.{apart-found}
+use Rattle.joining_separation.proofs.separation.Statement.{statement}
+use Rattle.joining_separation.proofs.separation.Tie as tie
 
 mark-of-requires : tie.Need-mark-of-requires
 mark-of-requires c κs = search needs

@@ -9,7 +9,10 @@ use lib.ListN.{length, set, length-set}
 use lib.Seq.{getD-set-same, getD-set-other}
 use Rattle.plan.specs.Limits.{farthest}
 use Rattle.rows.specs.Rows.{Low}
-use Rattle.joining.specs.Joining.{mark, four, noted}
+use Rattle.joining_cells.specs.Cells.{mark, four, noted}
+
+pub length-four : (ms : List ℕ) (c m0 m1 m2 m3 : ℕ) → length (four ms c m0 m1 m2 m3) ≡ length ms
+length-four ms c m0 m1 m2 m3 = simp length-set
 
 module _ (ms : List ℕ) (c m0 m1 m2 m3 : ℕ) (fits : 4 * c + 4 ≤ length ms) where
   pub mark-zero : mark (four ms c m0 m1 m2 m3) c 0 ≡ m0

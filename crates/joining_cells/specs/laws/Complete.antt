@@ -15,10 +15,9 @@ use Rattle.rows.specs.laws.Rows.{box-to-length, box-left, box-right, box-above,
 use Rattle.folding.specs.laws.Fold.{Tally, boxed}
 use Rattle.folding.specs.laws.Lists.{get-box, length-box}
 use Rattle.folding.specs.laws.Held.{Held}
-use Rattle.joining.specs.Joining.{Memory, memory-of, mark, height, completed, Completing}
-use Rattle.joining.specs.laws.Joining.{length-four}
-use Rattle.joining.specs.laws.Numbers.{max-is, box-low}
-use Rattle.joining.specs.laws.Marks.{mark-zero, mark-one, mark-two, mark-three, mark-other}
+use Rattle.joining_cells.specs.Cells.{Memory, memory-of, mark, height, completed, Completing}
+use Rattle.joining_cells.specs.laws.Numbers.{max-is, box-low}
+use Rattle.joining_cells.specs.laws.Marks.{length-four, mark-zero, mark-one, mark-two, mark-three, mark-other}
 
 -- the rows xs, from the top row of the open cell c on, show in its columns k and k + 1, below its box, its children b; m is the appointed place
 pub record Under (xs ms : List ℕ) (k c d m : ℕ) (b : Tally) (n : ℕ) : Type 0 where

@@ -1,7 +1,7 @@
 use borrow.Author.Needs.{needs}
-use Rattle.joining.specs.Joining.{completed}
-use Rattle.joining.proofs.complete.Statement.{statement}
-use Rattle.joining.proofs.complete.Tie as tie
+use Rattle.joining_cells.specs.Cells.{completed}
+use Rattle.joining_cells.proofs.complete.Statement.{statement}
+use Rattle.joining_cells.proofs.complete.Tie as tie
 
 add-hs : tie.Need-add-hs
 add-hs c = search needs

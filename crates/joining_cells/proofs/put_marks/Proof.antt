@@ -1,8 +1,8 @@
 use borrow.Author.Needs.{needs}
 use native.Mathlib.Omega.{arith}
 use lib.ListN.{length-set}
-use Rattle.joining.proofs.put_marks.Statement.{statement}
-use Rattle.joining.proofs.put_marks.Tie as tie
+use Rattle.joining_cells.proofs.put_marks.Statement.{statement}
+use Rattle.joining_cells.proofs.put_marks.Tie as tie
 
 mul-b : tie.Need-mul-b
 mul-b c = search needs

@@ -1,7 +1,7 @@
 use borrow.Author.Needs.{needs}
 use mathlib.Core.Path.{refl}
-use Rattle.joining.proofs.join_side.Statement.{statement}
-use Rattle.joining.proofs.join_side.Tie as tie
+use Rattle.joining_separation.proofs.join_side.Statement.{statement}
+use Rattle.joining_separation.proofs.join_side.Tie as tie
 
 add-join-beyond : tie.Need-add-join-beyond
 add-join-beyond c = search needs
