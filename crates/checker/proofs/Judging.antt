@@ -13,8 +13,9 @@ use Rattle.plan.specs.Questions.{refusal, check, check-given}
 use Rattle.plan.specs.Columns.{table-of}
 use Rattle.rules.specs.Verdict.{verdict, answer}
 use Rattle.plan.specs.laws.Tables.{length-is, count-some}
-use Rattle.looking.specs.Passes.{Sights, Sighted, found-of, all-found}
-use Rattle.looking.specs.Sees.{Looked}
+use Rattle.looking_sights.specs.Sights.{Sights, Sighted}
+use Rattle.looking.specs.Passes.{found-of, all-found}
+use Rattle.looking_sights.specs.Sees.{Looked}
 use Rattle.checker.specs.Spread.{Bounds, Spread}
 use Rattle.rules.specs.Placement.{placed}
 use Rattle.checker.specs.Checked.{answered, unless}
@@ -22,7 +23,7 @@ use Rattle.looking.specs.laws.Meaning.{found-verdict}
 use Rattle.checker.specs.laws.Checked as laws
 use Rattle.checker.specs.declared.Checked.{Checked}
 use Rattle.checker.specs.declared.Checked.the-variants as checked
-use Rattle.looking.specs.declared.search.View.{View}
+use Rattle.looking_sights.specs.declared.View.{View}
 use Rattle.looking.specs.declared.search.Found.{Found}
 use Rattle.looking.specs.declared.search.Found.the-variants.{Kept, Broken}
 use Rattle.looking.specs.laws.Found.{found-broken, found-kept}

@@ -4,9 +4,9 @@ use Prim.Native.Nat.{ℕ, _+_, _-_, _≤_, _<_, max, min}
 use native.Mathlib.Omega.{arith}
 use native.Mathlib.Decide.{ℕ-discrete, decLe}
 use Rattle.plan.specs.Limits.{most-cells}
-use Rattle.looking.specs.Passes.{Sights}
+use Rattle.looking_sights.specs.Sights.{Sights}
 use Rattle.checker.specs.Spread.{Bounds, Spread}
-use Rattle.looking.specs.declared.search.View.{View}
+use Rattle.looking_sights.specs.declared.View.{View}
 
 -- v is the f of one of n cells
 pub record From (f : ℕ → ℕ) (n v : ℕ) : Type 0 where

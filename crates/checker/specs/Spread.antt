@@ -2,7 +2,7 @@
 use mathlib.Core.Path.{_≡_}
 use Prim.Native.Nat.{ℕ, _+_, _≤_, _<_}
 use Rattle.plan.specs.Limits.{most-cells}
-use Rattle.looking.specs.Passes.{Sights}
+use Rattle.looking_sights.specs.Sights.{Sights}
 
 -- n right edges, each beyond its x
 pub record Bounds (s : Sights) (n : ℕ) : Type 0 where

@@ -3,9 +3,9 @@ use asking::allowance_refusal;
 use asking::lent_refusal;
 use asking::near_refusal;
 use looking::search::Found;
-use looking::search::SIGHTS;
-use looking::search::see;
-use looking::sights::look;
+use looking_columns::SIGHTS;
+use looking_sights::look;
+use looking_sights::see;
 use plan::Columns;
 use plan::Refusal;
 use sweeping::find;
@@ -21,7 +21,7 @@ ghost use Rattle.plan.specs.Questions.{refusal, check, «check-given»};
 ghost use Rattle.rules.specs.Verdict.{answer};
 ghost use Rattle.rules.specs.Placement.{placed};
 ghost use Rattle.checker.specs.Checked.{«answered», «checked-of»};
-ghost use Rattle.looking.specs.Passes.{«view-in»};
+ghost use Rattle.looking_sights.specs.Sights.{«view-in»};
 ghost use Rattle.checker.specs.Spread.{Bounds, Spread};
 
 // Kept: width and rows. Broken: rule, a and b. Refused: number and cell.

@@ -1,4 +1,2 @@
 pub mod Tests
 pub mod Searching
-pub mod Looking
-pub mod Scattering

@@ -8,9 +8,10 @@ use native.Mathlib.Omega.{arith}
 use Rattle.plan.specs.Limits.{most-cells}
 use Rattle.rules.specs.Search.{Verdict, kept, broken, scan, judge}
 use Rattle.rules.specs.laws.Search.{scan-next, scan-found}
-use Rattle.looking.specs.Passes.{Sights, Sighted, passes, found-of, pair, row-found, rule-found, all-found}
+use Rattle.looking_sights.specs.Sights.{Sights, Sighted}
+use Rattle.looking.specs.Passes.{passes, found-of, pair, row-found, rule-found, all-found}
 use Rattle.looking.specs.laws.Found.{kept-found, broken-found, found-broken, found-kept}
-use Rattle.looking.specs.declared.search.View.{View}
+use Rattle.looking_sights.specs.declared.View.{View}
 use Rattle.looking.specs.declared.search.Found.{Found}
 use Rattle.looking.specs.declared.search.Found.the-variants.{Kept, Broken}
 

@@ -5,7 +5,7 @@ use mathlib.Core.Logic.{_≢_}
 use Prim.Native.Nat.{ℕ, zero, suc}
 use Rattle.whole.specs.Says.{only}
 use Rattle.looking.specs.Passes.{passes}
-use Rattle.looking.specs.declared.search.View.{View}
+use Rattle.looking_sights.specs.declared.View.{View}
 
 pub and-no : {p : Bool} (q : Bool) → p ≡ false → false ≡ p && q
 and-no q e = rw e

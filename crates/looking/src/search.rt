@@ -1,33 +1,13 @@
 // The search: each rule in turn, at each pair of cells in turn.
+use looking_columns::SIGHTS;
+use looking_sights::View;
+use looking_sights::see;
 use plan::limits::FARTHEST;
-use plan::limits::MOST_CELLS;
 ghost use mathlib.Core.Path.{_≡_};
-ghost use Prim.Native.Nat.{_+_, _*_, _^_, _<_};
-ghost use lib.ListN.{getD};
+ghost use Prim.Native.Nat.{_^_, _<_};
 ghost use Rattle.plan.specs.Limits.{«most-cells»};
-ghost use Rattle.looking.specs.Passes.{Sighted, pass1, pass2, pass3, «pass3-ends», «pass3-starts», pass4, «pass4-box», «pass4-stem», pass5, passes, sight, «view-in», «found-of», «row-found», «rule-found», «all-found»};
-
-// How many numbers the rules read of a cell. Those of all cells lie in one array, cell after cell: a `View` for each.
-pub const SIGHT: usize = 13;
-
-pub const SIGHTS: usize = SIGHT * MOST_CELLS;
-
-// The numbers of one cell, coordinates moved up so that none is negative.
-pub struct View {
-    pub parent: u32,
-    pub nth: u32,
-    pub middle: u32,
-    pub first: u32,
-    pub end: u32,
-    pub from: u32,
-    pub to: u32,
-    pub x: u32,
-    pub right: u32,
-    pub y: u32,
-    pub due: u32,
-    pub base: u32,
-    pub bottom: u32,
-}
+ghost use Rattle.looking_sights.specs.Sights.{Sighted, «view-in»};
+ghost use Rattle.looking.specs.Passes.{pass1, pass2, pass3, «pass3-ends», «pass3-starts», pass4, «pass4-box», «pass4-stem», pass5, passes, «found-of», «row-found», «rule-found», «all-found»};
 
 // Nothing broken, or a rule with the lowest a and b at which it is.
 pub enum Found {
@@ -171,35 +151,6 @@ fn passes(rule: u8, a: usize, b: usize, v: View, w: View, allowance: u32) -> boo
         return pass5(v, w, allowance);
     }
     true
-}
-
-// Number k of the cell c.
-fn number_at(sights: &[u32; SIGHTS], c: usize, k: usize) -> u32
-    requires { ⌜ (c < most-cells) × (k < sight) ⌝ }
-    ensures { λ r. ⌜ r ≡ getD (now (sights .entry)) (sight * c + k) 0 ⌝ }
-{
-    sights[SIGHT * c + k]
-}
-
-pub fn see(sights: &[u32; SIGHTS], c: usize) -> View
-    requires { ⌜ c < most-cells ⌝ }
-    ensures { λ r. ⌜ r ≡ view-in (now (sights .entry)) c ⌝ }
-{
-    View {
-        parent: number_at(sights, c, 0),
-        nth: number_at(sights, c, 1),
-        middle: number_at(sights, c, 2),
-        first: number_at(sights, c, 3),
-        end: number_at(sights, c, 4),
-        from: number_at(sights, c, 5),
-        to: number_at(sights, c, 6),
-        x: number_at(sights, c, 7),
-        right: number_at(sights, c, 8),
-        y: number_at(sights, c, 9),
-        due: number_at(sights, c, 10),
-        base: number_at(sights, c, 11),
-        bottom: number_at(sights, c, 12),
-    }
 }
 
 // A rule at a and each b in turn.

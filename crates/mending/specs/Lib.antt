@@ -1,4 +1,3 @@
-pub mod Boxes
 pub mod Mended
 pub mod Promised
 pub mod Mending

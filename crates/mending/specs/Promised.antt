@@ -8,7 +8,7 @@ use lib.ListN.{length}
 use Rattle.plan.specs.Lists.{mem}
 use Rattle.plan.specs.Questions.{none}
 use Rattle.planfile.specs.Format.{entry}
-use Rattle.mending.specs.Boxes.{new-width, new-depth}
+use Rattle.mending_boxes.specs.Boxes.{new-width, new-depth}
 use Rattle.mending.specs.Mended.{would-get, looked-at, mended, altered-cells, altered, OnlyBoxes, altered-by}
 use Rattle.mending.specs.Worked.{Rows}
 use Rattle.mending.specs.laws.Worked as rows

@@ -4,7 +4,7 @@ use mathlib.Core.List.{[], _++_}
 use Prim.Native.Nat.{ℕ, zero, suc}
 use Rattle.plan.specs.declared.Record.{Record}
 use Rattle.listing.specs.Printed.{Bytes}
-use Rattle.mending.specs.Boxes.{changed}
+use Rattle.mending_boxes.specs.Boxes.{changed}
 use Rattle.mending.specs.Mended.{alteration}
 use Rattle.mending.specs.Mending.{alteration-line}
 

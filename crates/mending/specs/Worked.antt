@@ -3,7 +3,7 @@ use mathlib.Core.Path.{_≡_}
 use mathlib.Core.List.{List, [], _∷_}
 use Prim.Native.Nat.{ℕ}
 use Rattle.plan.specs.declared.Record.{Record}
-use Rattle.mending.specs.Boxes.{new-width, new-depth}
+use Rattle.mending_boxes.specs.Boxes.{new-width, new-depth}
 use Rattle.mending.specs.Mended.{mended}
 use Rattle.mending.specs.Mending.{lines-of}
 

@@ -1,6 +1,4 @@
 pub mod Answer
-pub mod Boxes
-pub mod Bytes
 pub mod Code
 pub mod Mended
 pub mod Promised

@@ -1,12 +1,10 @@
 // MENDING (document 02, E11): boxes too narrow for their labels are widened, boxes of depth 0 get depth 1, and a line tells of each cell altered.
-mod boxes;
-
-use crate::boxes::new_depth;
-use crate::boxes::new_width;
-use crate::boxes::raise_depth;
-use crate::boxes::raise_width;
 use listing::mended_line;
 use listing::put_line;
+use mending_boxes::changed;
+use mending_boxes::mend_records;
+use mending_boxes::new_depth;
+use mending_boxes::new_width;
 use plan::Record;
 use plan::forms::Form;
 use plan::forms::form_of;
@@ -26,8 +24,7 @@ ghost use Rattle.plan.specs.Limits.{between, «most-cells», «most-file», «l
 ghost use Rattle.plan.specs.Forms.{«record-size»};
 ghost use Rattle.planfile.specs.Format.{«record-at»};
 ghost use Rattle.listing.specs.Put.{Put};
-ghost use Rattle.mending.specs.Boxes.{changed};
-ghost use Rattle.mending.specs.Mended.{«mend-record», «mend-records», «would-get», mended};
+ghost use Rattle.mending.specs.Mended.{«would-get», mended};
 ghost use Rattle.mending.specs.Mending.{Mends};
 ghost use Rattle.mending.specs.Steps.{«alteration-text», «alterations-text», «line-room»};
 
@@ -35,30 +32,6 @@ ghost use Rattle.mending.specs.Steps.{«alteration-text», «alterations
 pub enum Mended {
     Written(usize, usize),
     Refused(u8, u16),
-}
-
-// The record of the file at a place, mended in the output there.
-fn mend_record(form: Form, file: &[u8], out: &mut [u8], at: usize)
-    requires { ⌜ (at + record-size form ≤ length (now file)) × (at + record-size form ≤ length (now out)) ⌝ }
-    ensures { λ _. ⌜ now (out .exit) ≡ mend-record form at (record-at form (now (file .entry)) at) (now (out .entry)) ⌝ }
-{
-    let cursor = Cursor { at };
-    let entry = cursor.entry(file, form);
-    let r = entry.fields;
-    raise_width(form, r, out, at);
-    raise_depth(form, r, out, at);
-}
-
-// The n records from begin on.
-fn mend_records(form: Form, file: &[u8], begin: usize, n: usize, out: &mut [u8])
-    requires { ⌜ (n ≤ most-cells) × (begin + record-size form * n ≤ length (now file)) × (length (now out) ≡ length (now file)) ⌝ }
-    ensures { λ _. ⌜ now (out .exit) ≡ mend-records form begin (λ c. record-at form (now (file .entry)) (begin + record-size form * c)) (now (out .entry)) n ⌝ }
-{
-    let mut c: usize = 0;
-    while c < n {
-        mend_record(form, file, out, place(form, begin, c));
-        c += 1;
-    }
 }
 
 // The bytes of a file at the beginning of an output.
@@ -71,14 +44,6 @@ fn copy(file: &[u8], out: &mut [u8])
         out[i] = file[i];
         i += 1;
     }
-}
-
-// Whether a record's box is altered.
-fn changed(r: Record) -> bool
-    ensures { λ b. ⌜ b ≡ changed r ⌝ }
-{
-    boxes::cramped(r.kind, r.label_length, r.width)
-        | boxes::shallow(r.kind, r.label_length, r.depth)
 }
 
 // A number of two bytes, and one of one byte, for a line.

@@ -1,6 +1,6 @@
 // Where the cells of a plan stand: their x's from the marks of the walk, written out, and the width and the rows measured from them.
 // An x lies from −262,143 to 262,143, and is held here moved up by 262,143.
-use joining::mark_of;
+use joining_cells::mark_of;
 use marks::MARKS;
 use plan::Columns;
 use plan::limits::FARTHEST;

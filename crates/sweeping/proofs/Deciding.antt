@@ -6,7 +6,8 @@ use lib.ListN.{length}
 use Rattle.plan.specs.Trees.{Column}
 use Rattle.rules.specs.Search.{kept}
 use Rattle.spans.specs.Spans.{at, Deepest}
-use Rattle.looking.specs.Passes.{Sights, Sighted, all-found}
+use Rattle.looking_sights.specs.Sights.{Sights, Sighted}
+use Rattle.looking.specs.Passes.{all-found}
 use Rattle.sweeping.specs.Swept.{Seen, Ready, Alone, top, Rooted, Gathered, Small, Beside, Clear, Rows}
 use Rattle.sweeping.specs.laws.Exact as exact
 use Rattle.sweeping.specs.laws.Ready as laws

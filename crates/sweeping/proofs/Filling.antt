@@ -9,8 +9,8 @@ use lib.ListN.{length, getD, set, length-set, List·getD-eq-default}
 use Rattle.plan.specs.Limits.{most-cells, last-row, farthest}
 use Rattle.spans.specs.Spans.{at}
 use Rattle.spans.specs.laws.Columns.{all, all-long, all-at, Put, put}
-use Rattle.looking.specs.declared.search.View.{View}
-use Rattle.looking.specs.Passes.{Sights}
+use Rattle.looking_sights.specs.declared.View.{View}
+use Rattle.looking_sights.specs.Sights.{Sights}
 use Rattle.sweeping.specs.Swept.{Ready, Order, Fills, Clear, Rows, most-rows, level, Filled, Taken, Held, Settled, Blocked}
 
 -- ---- rows, one after the other

@@ -14,8 +14,9 @@ use Rattle.plan.specs.Plan.{Table, Is, parent}
 use Rattle.spans.specs.Spans.{at}
 use Rattle.spans.specs.laws.Deepest.{Sunk, sunk-start, sunk-next, deepest}
 use Rattle.spans.specs.laws.Columns.{all, all-long, all-at, Put, put}
-use Rattle.looking.specs.declared.search.View.{View}
-use Rattle.looking.specs.Passes.{Sights, pass1, pass2}
+use Rattle.looking_sights.specs.declared.View.{View}
+use Rattle.looking_sights.specs.Sights.{Sights}
+use Rattle.looking.specs.Passes.{pass1, pass2}
 use Rattle.sweeping.specs.Swept.{Ready, Alone-at, Order, top, Rooted, Gathered, Parted, Beside-at}
 
 -- ---- what is returned says a thing

@@ -11,8 +11,9 @@ use Rattle.plan.specs.Plan.{Table, Is, Sound, parent, within}
 use Rattle.plan.specs.Fit.{Fit}
 use Rattle.rules.specs.Placement.{Placement}
 use Rattle.spans.specs.Spans.{Deepest}
-use Rattle.looking.specs.Passes.{Sights, pass1, pass2}
-use Rattle.looking.specs.Sees.{Looked}
+use Rattle.looking_sights.specs.Sights.{Sights}
+use Rattle.looking.specs.Passes.{pass1, pass2}
+use Rattle.looking_sights.specs.Sees.{Looked}
 
 -- the numbers are those of a table that the questions do not refuse, and of a placement
 pub record Seen (s : Sights) (n : ℕ) : Type 0 where

@@ -1,11 +1,11 @@
 // All five rules decided at once: each cell with its parent, each with the sibling right before it, and a sweep of the cells in preorder over the
 // rows. Only where that fails is the lowest pair searched for.
 use looking::search::Found;
-use looking::search::SIGHTS;
 use looking::search::pass1;
 use looking::search::pass2;
 use looking::search::search;
-use looking::search::see;
+use looking_columns::SIGHTS;
+use looking_sights::see;
 use plan::limits::FARTHEST;
 use plan::limits::LAST_ROW;
 use plan::limits::MOST_CELLS;
@@ -21,7 +21,8 @@ ghost use Rattle.plan.specs.Limits.{farthest, «last-row», «most-cells»};
 ghost use Rattle.plan.specs.Trees.{Column};
 ghost use Rattle.rules.specs.Search.{kept};
 ghost use Rattle.spans.specs.Spans.{at};
-ghost use Rattle.looking.specs.Passes.{Sighted, «view-in», «found-of», «all-found»};
+ghost use Rattle.looking_sights.specs.Sights.{Sighted, «view-in»};
+ghost use Rattle.looking.specs.Passes.{«found-of», «all-found»};
 ghost use Rattle.sweeping.specs.Swept.{Seen, Ready, «Alone-at», Alone, Order, top, Gathered, Small, «Beside-at», Beside, Clear, Rows, «most-rows», Filled, Taken, Settled, Blocked};
 
 // A number that no coordinate passes: what is left to it of an x is greatest where the x is least.

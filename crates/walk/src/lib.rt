@@ -1,8 +1,8 @@
 // The walk of the tree: a loop over the chain of open cells. Each cell is opened, its children are joined one after another, and it is closed.
 
-use joining::complete;
-use joining::joined_rows;
 use joining::settle;
+use joining_cells::complete;
+use joining_cells::joined_rows;
 use links::link_of;
 use rows::ROW;
 use rows::box_rows;

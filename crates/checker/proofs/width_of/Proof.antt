@@ -1,5 +1,5 @@
 use Rattle.checker.proofs.Widening.{Widening, widening-starts, low-high, widening-turns, widening-ends}
-use Rattle.looking.specs.Passes.{view-in}
+use Rattle.looking_sights.specs.Sights.{view-in}
 use Prim.Native.Nat.{_-_}
 use native.Mathlib.Omega.{arith}
 use borrow.Author.Needs.{needs}

@@ -26,9 +26,9 @@ use Rattle.rules.specs.Verdict.{verdict, answer}
 use Rattle.rules.specs.laws.Verdict.{kept-keeps, fine-answer}
 use Rattle.rules.specs.laws.Extents.{width-le, width-ge, rows-plan}
 use Rattle.checker.specs.declared.Checked.the-variants.{Kept, Broken}
-use Rattle.looking.specs.Passes.{Sights}
+use Rattle.looking_sights.specs.Sights.{Sights}
 use Rattle.checker.specs.Checked.{answered}
-use Rattle.looking.specs.Sees.{Lifts, Looked}
+use Rattle.looking_sights.specs.Sees.{Lifts, Looked}
 use Rattle.checker.specs.Spread.{Bounds, Spread}
 use Rattle.looking.specs.laws.Meaning.{right-lift, bottom-lift}
 

@@ -10,8 +10,7 @@ use lib.Seq.{getD-set-same, getD-take, set-set, set-getD, take-length}
 use lib.Dec.{T}
 use Rattle.contours.specs.Sheet.{sheet}
 use Rattle.joining.specs.Joining.{Memory, memory-of, mark, noted, height, joined-rows, completed, settled, settled-at, settled-apart}
-use Rattle.joining.specs.laws.Joining.{length-four}
-use Rattle.joining.specs.laws.Marks.{mark-other, noted-else}
+use Rattle.joining_cells.specs.laws.Marks.{length-four, mark-other, noted-else}
 use Rattle.least.specs.laws.Measures.{sheet-left, sheet-right}
 use Rattle.links.specs.laws.Linked.{zeros-get}
 use Rattle.plan.specs.Limits.{scratch-size, second-size}

@@ -14,9 +14,8 @@ use Rattle.plan.specs.Limits.{scratch-size, second-size, last-row, farthest}
 use Rattle.rows.specs.Rows.{row-size, Low, box-to, max-to}
 use Rattle.rows.specs.laws.Rows.{box-to-length}
 use Rattle.joining.specs.Joining.{Memory, memory-of, mark, four, height, joined-rows, completed, Settling}
-use Rattle.joining.specs.laws.Joining.{length-four}
-use Rattle.joining.specs.laws.Numbers.{box-low, max-le}
-use Rattle.joining.specs.laws.Marks.{mark-one, mark-other}
+use Rattle.joining_cells.specs.laws.Numbers.{box-low, max-le}
+use Rattle.joining_cells.specs.laws.Marks.{length-four, mark-one, mark-other}
 use Rattle.folding.specs.laws.Lists.{get-past}
 use Rattle.walk.specs.Machine.{Chart, wide, deep, top, stretch, closed, root-closed, Closing, Ending, Rooting}
 use Rattle.walk.specs.laws.Stretch.{stretch-length}

@@ -2,26 +2,11 @@
 use mathlib.Core.Path.{_≡_, refl}
 use mathlib.Core.List.{List}
 use mathlib.Core.Bool.{Bool, cond}
-use Prim.Native.Nat.{ℕ, zero, suc, _+_, _*_, _≤_, _<_, max, min}
+use Prim.Native.Nat.{ℕ, zero, suc, _+_, _<_, max}
 use native.Mathlib.Omega.{arith}
-use lib.ListN.{length, length-set}
 use lib.Dec.{ltb}
-use Rattle.plan.specs.Limits.{farthest}
-use Rattle.rows.specs.Rows.{row-size, Low, clash-to, upto-rows, beyond-rows}
-use Rattle.joining.specs.Joining.{Memory, memory-of, mark, four, noted, settled-apart, settled-first, settled-by, settled, Settling}
-
--- ---- the separation is small
-clash-low : (xs : List ℕ) (k x n : ℕ) → Low xs → clash-to xs k x n ≤ 2 * farthest + 1
-unfolding clash-to
-clash-low xs k x zero h = omega arith
-clash-low xs k x (suc n) h = omega (arith, clash-low xs k x n h, h (row-size * n + (k + 1)), h (row-size * n + (k + 2)))
-
-apart-low : (m : Memory) (at f c hs al : ℕ) → Settling m at f c hs → settled-apart m at f c hs al ≤ 2 * farthest + 1
-unfolding settled-apart
-apart-low m at f c hs al h = omega (arith, clash-low (m .rows) at (mark (m .marks) f 2) (min (mark (m .marks) f 0) hs) (h .low), h .edge, h .left)
-
-pub apart-found : (m : Memory) (at f c hs al : ℕ) {g : ℕ} → Settling m at f c hs → g ≡ settled-apart m at f c hs al → (g ≡ settled-apart m at f c hs al) × (g ≤ 2 * farthest + 1)
-apart-found m at f c hs al h e = (e, omega (arith, apart-low m at f c hs al h))
+use Rattle.rows.specs.Rows.{upto-rows, beyond-rows}
+use Rattle.joining.specs.Joining.{Memory, memory-of, mark, four, noted, settled-apart, settled-first, settled-by, settled}
 
 -- ---- a place is the first, or not
 pub at-first : (m : Memory) (at f c hs p apt al : ℕ) → p ≡ 0 → settled m at f c hs p apt al ≡ settled-first m at f c hs
@@ -32,9 +17,6 @@ pub at-later : (m : Memory) (at f c hs p apt al : ℕ) → 0 < p → settled m a
 unfolding settled
 at-later m at f c hs zero apt al l = absurd (omega arith)
 at-later m at f c hs (suc p) apt al l = refl
-
-pub length-four : (ms : List ℕ) (c m0 m1 m2 m3 : ℕ) → length (four ms c m0 m1 m2 m3) ≡ length ms
-length-four ms c m0 m1 m2 m3 = simp length-set
 
 -- ---- the numbers that the code finds on its way
 pub later-found : (xs ms : List ℕ) (at f c hs : ℕ) (beyond : Bool) (al : ℕ) {g x h hf p past r all : ℕ} {xs′ ms₁ ms₂ : List ℕ} → g ≡ settled-apart (memory-of xs ms) at f c hs al → x ≡ mark ms f 3 → h ≡ mark ms f 0

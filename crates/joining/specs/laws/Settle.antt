@@ -1,26 +1,25 @@
 -- A complete cell joins its parent: the scratch and the marks then show the children joined so far, with it. Assumes nothing.
-use mathlib.Core.Path.{_≡_, refl, _∙_, ap, sym}
+use mathlib.Core.Path.{_≡_, refl, _∙_, sym}
 use mathlib.Core.Logic.{_≢_}
-use mathlib.Core.List.{List, map}
+use mathlib.Core.List.{List}
 use mathlib.Core.Bool.{Bool, true, false, cond}
-use Prim.Native.Nat.{ℕ, zero, suc, _+_, _-_, _*_, _≤_, _<_, max, min}
+use Prim.Native.Nat.{ℕ, zero, suc, _+_, _-_, _*_, _≤_, _<_, max}
 use native.Mathlib.Omega.{arith}
 use lib.ListN.{length, getD, length-set}
 use lib.Dec.{ltb}
 use borrow.Author.Tests.{ltb-true, ltb-false, lt-ltb, le-ltb}
 use Rattle.plan.specs.Limits.{last-row, farthest}
-use Rattle.contours.specs.Contour.{Contour, greatest, clash, separation}
-use Rattle.folding.specs.laws.Join.{upto, beyond, near, separationTo}
-use Rattle.rows.specs.Rows.{row-size, extent, Low, clash-to, put-to}
+use Rattle.contours.specs.Contour.{Contour, greatest}
+use Rattle.folding.specs.laws.Join.{upto, beyond, separationTo}
+use Rattle.rows.specs.Rows.{row-size, extent, Low, put-to}
 use Rattle.rows.specs.laws.Rows.{put-to-length, put-to-above, put-to-else, put-to-left, put-to-right, put-to-left-off, put-to-right-off}
 use Rattle.folding.specs.laws.Fold.{Tally, first, later, side, add-at, add, boxed}
 use Rattle.folding.specs.laws.Lists.{get-past}
 use Rattle.folding.specs.laws.Held.{Held, Fits, Between, between, upto-left, upto-past, beyond-past, upto-tall, beyond-tall, held-upto-right, held-beyond-left, held-beyond-right, held-add, box-fits}
 use Rattle.joining.specs.Joining.{Memory, memory-of, mark, noted, height, completed, settled-apart, settled-first, settled-by, settled-at, settled, Settling, finished}
-use Rattle.joining.specs.laws.Joining.{length-four}
-use Rattle.joining.specs.laws.Numbers.{clash-is}
-use Rattle.joining.specs.laws.Marks.{mark-zero, mark-one, mark-two, mark-three, mark-other, noted-three, noted-else}
-use Rattle.joining.specs.laws.Complete.{Under, Complete, complete, height-is, left-tall, right-tall}
+use Rattle.joining_separation.specs.laws.Separation.{apart-is}
+use Rattle.joining_cells.specs.laws.Marks.{length-four, mark-zero, mark-one, mark-two, mark-three, mark-other, noted-three, noted-else}
+use Rattle.joining_cells.specs.laws.Complete.{Under, Complete, complete, height-is, left-tall, right-tall}
 
 -- the rows xs, from the top row of the child c on, show in the columns of its parent f the children a joined so far, and in its own its children b
 pub record Given (xs ms : List ℕ) (at f c d w m k : ℕ) (a b : Tally) (s n : ℕ) : Type 0 where
@@ -171,12 +170,7 @@ module _ (al : ℕ) (xs ms : List ℕ) (at f c d w m k : ℕ) (a b : Tally) (s n
 
   -- the distance
   g-is : settled-apart C at f c hs al ≡ separationTo al (a .merge) p
-  unfolding settled-apart separationTo separation near
-  g-is =
-      let q : min (mark (C .marks) f 0) hs ≡ min (length (a .merge .right)) (length (p .left)) = omega (arith, n-tall, p-left, h .held .even) in
-      let g : clash-to (C .rows) at (mark (C .marks) f 2) (min (mark (C .marks) f 0) hs) ≡ clash (near (a .merge)) (p .left) =
-      clash-is (C .rows) at (mark (C .marks) f 2) (min (mark (C .marks) f 0) hs) (a .merge .right) (p .left) x-second (done .left) q ∙ ap (λ (v : ℕ). clash (map (λ u. u - v) (a .merge .right)) (p .left)) n-past in
-      rw (g, n-edge, done .mark1, h .held .seen)
+  g-is = apart-is C at f c hs al (a .merge) p x-second (done .left) (omega (arith, n-tall, h .held .even)) p-left (n-edge ∙ h .held .seen) n-past (done .mark1)
 
   -- ---- the ways to join
   joined-first : a .done ≡ 0 → Joined xs (settled-first C at f c hs .rows) at (first p)

@@ -25,8 +25,9 @@ use Rattle.rules.specs.Tests.{share, flush, kept1, meets, box4, stem4, test}
 use Rattle.rules.specs.Verdict.{verdict}
 use Rattle.spans.specs.laws.Counted.{flush-is}
 use Rattle.spans.specs.laws.Spans.{earlier-is, after-one-is, before-one-is}
-use Rattle.looking.specs.Sees.{Lifts, Sees, Looked}
-use Rattle.looking.specs.Passes.{Sights, pass1, pass2, pass3, pass3-ends, pass3-starts, pass4, pass4-box, pass4-stem, pass5, passes, pair, row-found, rule-found, all-found}
+use Rattle.looking_sights.specs.Sees.{Lifts, Sees, Looked}
+use Rattle.looking_sights.specs.Sights.{Sights}
+use Rattle.looking.specs.Passes.{pass1, pass2, pass3, pass3-ends, pass3-starts, pass4, pass4-box, pass4-stem, pass5, passes, pair, row-found, rule-found, all-found}
 
 -- ---- tests put together
 only-same : {p q p′ q′ : Bool} → p ≡ p′ → q ≡ q′ → only p q ≡ only p′ q′

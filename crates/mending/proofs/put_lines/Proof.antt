@@ -6,7 +6,8 @@ use Rattle.plan.specs.Forms.{record-size}
 use Rattle.planfile.specs.Format.{record-at}
 use Rattle.listing.specs.Put.{Put}
 use Rattle.mending.specs.Steps.{line-room, alterations-text}
-use Rattle.mending.specs.laws.Code.{place-room, lines-start, lines-next, lines-end}
+use Rattle.mending_boxes.specs.laws.Code.{place-room}
+use Rattle.mending.specs.laws.Code.{lines-start, lines-next, lines-end}
 use borrow.Author.Needs.{needs}
 use Rattle.mending.proofs.put_lines.Statement.{statement}
 use Rattle.mending.proofs.put_lines.Tie as tie

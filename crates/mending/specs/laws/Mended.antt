@@ -25,10 +25,11 @@ use Rattle.planfile.specs.Format.{trailer-of, form, place, record-at, entry}
 use Rattle.planfile.specs.FileSteps.{counted, record-refusal, entry-refusal, formed-refusal, header-refusal, body-refusal, file-refusal}
 use Rattle.planfile.specs.laws.File.{read-refusal}
 use Rattle.planfile.specs.laws.Examined.{Full, full-read}
-use Rattle.mending.specs.Boxes.{changed}
-use Rattle.mending.specs.Mended.{mend-records, would-get, looked-at, mended, alteration, altered-cells, altered, OnlyBoxes, differs, altered-by}
-use Rattle.mending.specs.laws.Boxes.{Sound, sound-unchanged, passed-sound, mended-record, mended-sound}
-use Rattle.mending.specs.laws.Bytes.{after, record-boxed, mends-length, mends-off, mends-sound, mends-read}
+use Rattle.mending_boxes.specs.Boxes.{changed}
+use Rattle.mending_boxes.specs.Raised.{mend-records}
+use Rattle.mending.specs.Mended.{would-get, looked-at, mended, alteration, altered-cells, altered, OnlyBoxes, differs, altered-by}
+use Rattle.mending_boxes.specs.laws.Boxes.{Sound, sound-unchanged, passed-sound, mended-record, mended-sound}
+use Rattle.mending_boxes.specs.laws.Bytes.{after, record-boxed, mends-length, mends-off, mends-sound, mends-read}
 
 -- ---- questions 2 to 4
 -- what Read says of a file is what 2 to 14 say of it

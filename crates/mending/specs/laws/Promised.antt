@@ -14,9 +14,9 @@ use Rattle.plan.specs.declared.Record.{Record}
 use Rattle.plan.specs.declared.Refusal.{Refusal}
 use Rattle.planfile.specs.Format.{trailer-of, entry}
 use Rattle.planfile.specs.FileSteps.{file-refusal}
-use Rattle.mending.specs.Boxes.{new-width, new-depth, changed}
+use Rattle.mending_boxes.specs.Boxes.{new-width, new-depth, changed}
 use Rattle.mending.specs.Mended.{would-get, looked-at, mended, altered-cells, altered, OnlyBoxes, differs, altered-by}
-use Rattle.mending.specs.laws.Boxes.{changed-differs}
+use Rattle.mending_boxes.specs.laws.Boxes.{changed-differs}
 use Rattle.mending.specs.laws.Mended as law
 
 -- accepted, as the questions say it

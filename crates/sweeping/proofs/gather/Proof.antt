@@ -1,5 +1,5 @@
 use Rattle.sweeping.proofs.Passing.{Gathering, gathering-starts, gathering-low, gathering-turns, gathering-ends}
-use Rattle.looking.specs.Passes.{view-in}
+use Rattle.looking_sights.specs.Sights.{view-in}
 use native.Mathlib.Omega.{arith}
 use borrow.Author.Needs.{needs}
 use Rattle.sweeping.proofs.gather.Statement.{statement}

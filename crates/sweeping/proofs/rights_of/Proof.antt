@@ -1,6 +1,6 @@
 use Rattle.sweeping.proofs.Passing.{Making, making-starts, making-turns, making-ends}
-use Rattle.looking.specs.Passes.{view-in}
-use Rattle.looking.specs.declared.search.View.{View}
+use Rattle.looking_sights.specs.Sights.{view-in}
+use Rattle.looking_sights.specs.declared.View.{View}
 use mathlib.Core.Path.{ap}
 use Prim.Native.Nat.{_-_}
 use borrow.Author.Needs.{needs}

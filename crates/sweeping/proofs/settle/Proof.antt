@@ -1,7 +1,7 @@
 use Rattle.sweeping.proofs.Passing.{not-both, parent-low}
 use Rattle.sweeping.proofs.Filling.{box-fits, stem-fits, settled-root, settled-other, settled-heir, heir-blocked, box-blocked}
-use Rattle.looking.specs.Passes.{view-in}
-use Rattle.looking.specs.declared.search.View.{View}
+use Rattle.looking_sights.specs.Sights.{view-in}
+use Rattle.looking_sights.specs.declared.View.{View}
 use mathlib.Core.Path.{_∙_, ap, refl}
 use native.Mathlib.Omega.{arith}
 use borrow.Author.Tests.{not-true, not-false}

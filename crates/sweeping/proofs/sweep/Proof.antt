@@ -1,6 +1,6 @@
 use Rattle.sweeping.proofs.Passing.{said-yes, said-no}
 use Rattle.sweeping.proofs.Filling.{Sweeping, last-few, sweeping-starts, cell-low, sweeping-turns, sweeping-stops, sweeping-ends}
-use Rattle.looking.specs.Passes.{view-in}
+use Rattle.looking_sights.specs.Sights.{view-in}
 use Prim.Native.Nat.{_-_}
 use borrow.Author.Tests.{not-true, not-false}
 use borrow.Author.Needs.{needs}

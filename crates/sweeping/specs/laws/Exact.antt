@@ -9,8 +9,9 @@ use Rattle.rules.specs.Placement.{Placement}
 use Rattle.rules.specs.Search.{kept, lowest}
 use Rattle.rules.specs.laws.Search.{lowest-kept, kept-lowest}
 use Rattle.spans.specs.Spans.{Reaches}
-use Rattle.looking.specs.Passes.{Sights, passes, pair, row-found, rule-found, all-found}
-use Rattle.looking.specs.Sees.{Looked}
+use Rattle.looking_sights.specs.Sights.{Sights}
+use Rattle.looking.specs.Passes.{passes, pair, row-found, rule-found, all-found}
+use Rattle.looking_sights.specs.Sees.{Looked}
 use Rattle.sweeping.specs.Swept.{Alone, top, Extremes, Beside, Fills, Clear}
 use Rattle.sweeping.specs.laws.Kept as enough
 use Rattle.sweeping.specs.laws.Needed as needed

@@ -19,9 +19,10 @@ use Rattle.plan.specs.laws.Siblings.{Earlier, says-earlier, Neighbours, says-ne
 use Rattle.rules.specs.Placement.{Placement}
 use Rattle.rules.specs.Tests.{after-one, before-one}
 use Rattle.spans.specs.laws.Spans.{earlier-is, after-one-is, before-one-is}
-use Rattle.looking.specs.declared.search.View.{View}
-use Rattle.looking.specs.Passes.{Sights, pass1, pass2, pass3, pass3-ends, pass3-starts, pass4, pass4-box, pass4-stem, pass5, passes}
-use Rattle.looking.specs.Sees.{Sees}
+use Rattle.looking_sights.specs.declared.View.{View}
+use Rattle.looking_sights.specs.Sights.{Sights}
+use Rattle.looking.specs.Passes.{pass1, pass2, pass3, pass3-ends, pass3-starts, pass4, pass4-box, pass4-stem, pass5, passes}
+use Rattle.looking_sights.specs.Sees.{Sees}
 use Rattle.sweeping.specs.Swept.{Alone, top, Extremes, Parted, Beside, Fills, Clear}
 
 -- ---- what each test says

@@ -18,8 +18,9 @@ use Rattle.rules.specs.Placement.{Placement}
 use Rattle.spans.specs.Spans.{Reaches}
 use Rattle.spans.specs.laws.Kin.{Kin, kin, within-trans}
 use Rattle.spans.specs.laws.Spans.{says-within, earlier-is, first-once}
-use Rattle.looking.specs.Passes.{Sights, pass1, pass2, passes}
-use Rattle.looking.specs.Sees.{Sees}
+use Rattle.looking_sights.specs.Sights.{Sights}
+use Rattle.looking.specs.Passes.{pass1, pass2, passes}
+use Rattle.looking_sights.specs.Sees.{Sees}
 use Rattle.sweeping.specs.Swept.{Alone, top, Parted, Beside, Fills, Clear}
 use Rattle.sweeping.specs.laws.Kept.{says1, says2, says3, says4, says5, Ends, Starts, BoxApart, StemApart}
 

@@ -17,8 +17,8 @@ use Rattle.plan.specs.Fit.{Fit}
 use Rattle.rules.specs.Placement.{Placement}
 use Rattle.spans.specs.Spans.{at, Numbered, Reaches, Deepest}
 use Rattle.spans.specs.laws.Spans.{says-within, first-once}
-use Rattle.looking.specs.Passes.{Sights, Sighted}
-use Rattle.looking.specs.Sees.{Sees, Looked}
+use Rattle.looking_sights.specs.Sights.{Sights, Sighted}
+use Rattle.looking_sights.specs.Sees.{Sees, Looked}
 use Rattle.sweeping.specs.Swept.{Has, Ready, Alone, top, Extremes, Small, Rows}
 use Rattle.sweeping.specs.laws.Exact.{parent-is}
 use Rattle.sweeping.specs.laws.Kept.{says1}

@@ -17,9 +17,9 @@ use Rattle.folding.specs.laws.Fold.{Tally, fresh, add, boxed}
 use Rattle.folding.specs.laws.Lists.{get-greatest, get-past, length-box}
 use Rattle.folding.specs.laws.Held.{Held, held-fresh, add-tall, box-fits}
 use Rattle.joining.specs.Joining.{Memory, memory-of, mark, finished}
-use Rattle.joining.specs.laws.Numbers.{low-rows}
-use Rattle.joining.specs.laws.Marks.{low-marks, low-four}
-use Rattle.joining.specs.laws.Complete.{Under, completing}
+use Rattle.joining_cells.specs.laws.Numbers.{low-rows}
+use Rattle.joining_cells.specs.laws.Marks.{low-marks, low-four}
+use Rattle.joining_cells.specs.laws.Complete.{Under, completing}
 use Rattle.joining.specs.laws.Settle.{Given, Joined, Marked, Settled, settling, settle-adds, held-after}
 use Rattle.links.specs.Links.{link}
 use Rattle.walk.specs.Machine.{Chart, wide, deep, top, apt, stretch, with-stretch, stretch-rows, joined-in, closed, Closing}

@@ -27,8 +27,8 @@ use Rattle.folding.specs.laws.Folded.{partial-none, partial-box, partial-middle
 use Rattle.folding.specs.laws.Lists.{get-past}
 use Rattle.folding.specs.laws.Held.{held-fresh, box-fits}
 use Rattle.joining.specs.Joining.{Memory, memory-of, mark, height, completed}
-use Rattle.joining.specs.laws.Marks.{low-marks, low-four}
-use Rattle.joining.specs.laws.Complete.{Under, Complete, complete, completing, height-is, left-tall, right-tall}
+use Rattle.joining_cells.specs.laws.Marks.{low-marks, low-four}
+use Rattle.joining_cells.specs.laws.Complete.{Under, Complete, complete, completing, height-is, left-tall, right-tall}
 use Rattle.links.specs.Links.{link}
 use Rattle.walk.specs.Machine.{Chart, State, wide, deep, root-closed, step, Turning}
 use Rattle.walk.specs.laws.Machine.{step-end, Safe, most-turns, turns, turns-are}

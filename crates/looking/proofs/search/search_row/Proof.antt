@@ -1,5 +1,5 @@
 use Rattle.looking.proofs.Searching.{Rowing, rowing-starts, right-small, x-small, rowing-turns, rowing-stops, rowing-ends}
-use Rattle.looking.specs.Passes.{view-in}
+use Rattle.looking_sights.specs.Sights.{view-in}
 use Prim.Native.Nat.{_-_}
 use native.Mathlib.Omega.{arith}
 use borrow.Author.Tests.{not-true, not-false}

@@ -1,5 +1,5 @@
 use Rattle.looking.proofs.Searching.{Ruling, ruling-starts, ruling-turns, ruling-stops, ruling-ends}
-use Rattle.looking.specs.Passes.{view-in}
+use Rattle.looking_sights.specs.Sights.{view-in}
 use Prim.Native.Nat.{_-_}
 use borrow.Author.Needs.{needs}
 use Rattle.looking.proofs.search.search_rule.Statement.{statement}

@@ -1,0 +1,39 @@
+use mathlib.Core.Path.{refl}
+use Rattle.planfile.specs.Fields.{set-pair}
+use borrow.Author.Needs.{needs}
+use Rattle.mending_boxes.proofs.put_pair.Statement.{statement}
+use Rattle.mending_boxes.proofs.put_pair.Tie as tie
+
+cast-put : tie.Need-cast-put
+cast-put c = search needs
+
+put-requires : tie.Need-put-requires
+put-requires c κs = search needs
+
+add-put : tie.Need-add-put
+add-put c = search needs
+
+cast-put-2 : tie.Need-cast-put-2
+cast-put-2 c = search needs
+
+put-requires-2 : tie.Need-put-requires-2
+put-requires-2 c κs = search needs
+
+same-length : tie.Need-same-length
+same-length c = search needs
+
+returns : tie.Need-returns
+unfolding set-pair
+returns c = rw (c .before .before .put2 .ensures, c .before .before .before .before .before .before .put .ensures) refl
+
+pub put-pair-spec : {M : Type 1} → statement M
+put-pair-spec =
+    tie.close
+    (tie.spec
+    cast-put
+    put-requires
+    add-put
+    cast-put-2
+    put-requires-2
+    same-length
+    returns)
