@@ -25,7 +25,7 @@ ENTRIES = {'capi'}
 WALK = {'Visits', 'Walks', 'Stretch'}  # the files of the statements about the walk: E5's, and document 01's about the rows that are written
 # crate, file, name: (the definitions that may name it, what it is, the theorems that tell what comes of it)
 TOLD = {
-    ('finishing', 'Made', 'made'): (
+    ('finishing_cell', 'Made', 'made'): (
         {'Holds', 'StepAt'}, 'the numbers of both scratches after k steps, of a table, an allowance and k: what the calls of E9 hand on from one to the next',
         ['start-begins', 'after-exists', 'after-step', 'after-any', 'after-holds', 'after-told', 'after-answers', 'after-done', 'after-writes', 'after-waits', 'reach-final', 'reach-waits']),
 }

@@ -29,10 +29,10 @@ use Rattle.following.specs.declared.Drilled.{Drilled}
 use Rattle.following.specs.declared.Drilled.the-variants.{Finished, Spent, Wrong, Full, Refused as Undrilled}
 use Rattle.finishing.specs.declared.Started.{Started}
 use Rattle.finishing.specs.declared.Started.the-variants.{Begun, Refused as Unbegun}
-use Rattle.finishing.specs.declared.Stepped.{Stepped}
-use Rattle.finishing.specs.declared.Stepped.the-variants.{Cell, Done, Refused as Unstepped}
-use Rattle.finishing.specs.declared.Reached.{Reached}
-use Rattle.finishing.specs.declared.Reached.the-variants.{Sides, Refused as Unreached}
+use Rattle.finishing_step.specs.declared.Stepped.{Stepped}
+use Rattle.finishing_step.specs.declared.Stepped.the-variants.{Cell, Done, Refused as Unstepped}
+use Rattle.finishing_reach.specs.declared.Reached.{Reached}
+use Rattle.finishing_reach.specs.declared.Reached.the-variants.{Sides, Refused as Unreached}
 use Rattle.read_entry.specs.declared.ReadAnswer.{ReadAnswer as Read}
 use Rattle.read_entry.specs.declared.ReadAnswer.the-variants.{Plan, Refused as Unread}
 use Rattle.season.specs.Report.{nothing}

@@ -2,9 +2,9 @@
 use checker::Checked;
 use copying::Copied;
 use ends::Ended;
-use finishing::Reached;
 use finishing::Started;
-use finishing::Stepped;
+use finishing_reach::Reached;
+use finishing_step::Stepped;
 use fitting::Fitted;
 use following::Drilled;
 use layout::Laid;

@@ -122,17 +122,20 @@ use Rattle.plan.specs.Lists.{At, mem}
 use Rattle.plan.specs.Plan.{children, cells, earlier}
 use Rattle.plan.specs.Fit.{Fit}
 use Rattle.positions.specs.Written.{written}
-use Rattle.finishing.specs.Postorder.{postorder}
-use Rattle.finishing.specs.Finishing.{start-no, step-no, reach-no, Starts, Holds, Unaltered, Steps, Reaches}
+use Rattle.finishing_order.specs.Postorder.{postorder}
+use Rattle.finishing_asks.specs.Asks.{start-no, step-no, reach-no}
+use Rattle.finishing.specs.Finishing.{Starts}
+use Rattle.finishing_reach.specs.Reaching.{Reaches}
+use Rattle.finishing_step.specs.Stepping.{Holds, Unaltered, Steps}
 use Rattle.finishing.specs.declared.Started.{Started}
 use Rattle.finishing.specs.declared.Started.the-variants as started
-use Rattle.finishing.specs.declared.Stepped.{Stepped}
-use Rattle.finishing.specs.declared.Stepped.the-variants as stepped
-use Rattle.finishing.specs.declared.Reached.{Reached as ReachAnswer}
-use Rattle.finishing.specs.declared.Reached.the-variants as reached
+use Rattle.finishing_step.specs.declared.Stepped.{Stepped}
+use Rattle.finishing_step.specs.declared.Stepped.the-variants as stepped
+use Rattle.finishing_reach.specs.declared.Reached.{Reached as ReachAnswer}
+use Rattle.finishing_reach.specs.declared.Reached.the-variants as reached
 use Rattle.finishing.specs.After.{After, counted}
 use Rattle.finishing.specs.laws.After as after
-use Rattle.finishing.specs.laws.Promised as finishing
+use Rattle.finishing_order.specs.laws.Promised as finishing
 use Rattle.demands.specs.laws.Making as making
 
 -- ==== DEMAND 1: A CALL REFUSES BY THE FIRST "NO"

@@ -4,10 +4,11 @@ use mathlib.Core.List.{List}
 use Prim.Native.Nat.{ℕ, zero, suc}
 use lib.IntN.{ℤ}
 use Rattle.plan.specs.Plan.{Table}
-use Rattle.finishing.specs.Finishing.{Starts, Steps}
+use Rattle.finishing.specs.Finishing.{Starts}
+use Rattle.finishing_step.specs.Stepping.{Steps}
 use Rattle.finishing.specs.declared.Started.the-variants.{Begun}
-use Rattle.finishing.specs.declared.Stepped.{Stepped}
-use Rattle.finishing.specs.declared.Stepped.the-variants.{Cell, Done, Refused}
+use Rattle.finishing_step.specs.declared.Stepped.{Stepped}
+use Rattle.finishing_step.specs.declared.Stepped.the-variants.{Cell, Done, Refused}
 
 -- the scratches are those after a start that has begun and so many steps that answered a cell
 pub data After (t : Table) (al : ℕ) : ℕ → List ℕ → List ℕ → Type 0 where

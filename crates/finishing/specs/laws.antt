@@ -1,12 +1,2 @@
-pub mod Postorder
-pub mod Members
-pub mod Siblings
-pub mod Passed
-pub mod Whole
-pub mod Order
-pub mod Final
-pub mod Guard
-pub mod Taking
-pub mod Stepping
-pub mod Promised
+pub mod Finishing
 pub mod After

@@ -1,11 +1,13 @@
 // A SHEET MADE A CELL A STEP, over lent records (document 02, E9): a library above the engine. It asks nothing of its caller.
-use finishing::Reached;
 use finishing::Started;
-use finishing::Stepped;
+use finishing_reach::Reached;
+use finishing_step::Stepped;
 use plan::Record;
 use records::columns_of;
 ghost use Rattle.plan.specs.Records.{«cells-of»};
-ghost use Rattle.finishing.specs.Finishing.{Starts, Steps, Reaches};
+ghost use Rattle.finishing.specs.Finishing.{Starts};
+ghost use Rattle.finishing_reach.specs.Reaching.{Reaches};
+ghost use Rattle.finishing_step.specs.Stepping.{Steps};
 
 // Start: both scratches are cleared, for a sheet that is made a cell a step; or the refusal.
 pub fn start(table: &[Record], allowance: u32, scratch: &mut [u32], second: &mut [u32]) -> Started
@@ -40,5 +42,5 @@ pub fn reach(
     ensures { λ r. ⌜ Reaches (cells-of (now (table .entry))) allowance (now (scratch .entry)) (now (second .entry)) cell r ⌝ }
 {
     let t = columns_of(table);
-    finishing::reach(t, allowance, scratch, second, cell)
+    finishing_reach::reach(t, allowance, scratch, second, cell)
 }

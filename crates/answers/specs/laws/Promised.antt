@@ -62,12 +62,13 @@ use Rattle.grafting.specs.Joins.{join-answered}
 use Rattle.grafting.specs.declared.JoinAnswer.the-variants.{Refused as Unjoined}
 use Rattle.following.specs.Drilled.{told-as, drill-told, drilled-of}
 use Rattle.following.specs.declared.Drilled.the-variants.{Refused as Undrilled}
-use Rattle.finishing.specs.Finishing.{started-of, start-no, step-no, reach-no}
+use Rattle.finishing.specs.Finishing.{started-of}
+use Rattle.finishing_asks.specs.Asks.{start-no, step-no, reach-no}
 use Rattle.finishing.specs.declared.Started.the-variants.{Refused as Unbegun}
-use Rattle.finishing.specs.declared.Stepped.{Stepped}
-use Rattle.finishing.specs.declared.Stepped.the-variants.{Cell, Done, Refused as Unstepped}
-use Rattle.finishing.specs.declared.Reached.{Reached}
-use Rattle.finishing.specs.declared.Reached.the-variants.{Sides, Refused as Unreached}
+use Rattle.finishing_step.specs.declared.Stepped.{Stepped}
+use Rattle.finishing_step.specs.declared.Stepped.the-variants.{Cell, Done, Refused as Unstepped}
+use Rattle.finishing_reach.specs.declared.Reached.{Reached}
+use Rattle.finishing_reach.specs.declared.Reached.the-variants.{Sides, Refused as Unreached}
 use Rattle.read_entry.specs.Read.{read-answered, read-refusal}
 use Rattle.read_entry.specs.declared.ReadAnswer.the-variants.{Refused as Unread}
 use Rattle.reporting.specs.Reporting.{reported-of, report-refusal}

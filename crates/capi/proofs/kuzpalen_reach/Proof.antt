@@ -17,11 +17,11 @@ use denote.Slice.{sliceVal, slice-vals, shr-slice-tells}
 use denote.Enum.Laws as EL
 use denote.Struct.Laws as LL
 use Rattle.plan.specs.Records.{cells-of}
-use Rattle.finishing.specs.Finishing.{Reaches}
+use Rattle.finishing_reach.specs.Reaching.{Reaches}
 use Rattle.answers.specs.Answers.{reach-answer, Reaching}
 use Rattle.plan.proofs.Record as T
-use Rattle.finishing.proofs.Reached as B
-use Rattle.finishing.proofs.Reached.Laws as B′
+use Rattle.finishing_reach.proofs.Reached as B
+use Rattle.finishing_reach.proofs.Reached.Laws as B′
 use Rattle.answers.proofs.ReachAnswer as L
 use Rattle.answers.proofs.ReachAnswer.Laws as L′
 use Rattle.entry_laws.proofs.InTurn.{Told, Answered, Calling}

@@ -18,11 +18,11 @@ use denote.Slice.{sliceVal, slice-vals, shr-slice-tells, mut-slice-tells}
 use denote.Enum.Laws as EL
 use denote.Struct.Laws as LL
 use Rattle.plan.specs.Records.{cells-of}
-use Rattle.finishing.specs.Finishing.{Steps}
+use Rattle.finishing_step.specs.Stepping.{Steps}
 use Rattle.answers.specs.Answers.{step-answer, Stepping}
 use Rattle.plan.proofs.Record as T
-use Rattle.finishing.proofs.Stepped as B
-use Rattle.finishing.proofs.Stepped.Laws as B′
+use Rattle.finishing_step.proofs.Stepped as B
+use Rattle.finishing_step.proofs.Stepped.Laws as B′
 use Rattle.answers.proofs.StepAnswer as L
 use Rattle.answers.proofs.StepAnswer.Laws as L′
 use Rattle.entry_laws.proofs.InTurn.{Told, Answered, Calling}

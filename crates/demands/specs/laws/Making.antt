@@ -21,18 +21,21 @@ use Rattle.plan.specs.laws.Calls.{reach-refusal}
 use Rattle.plan.specs.declared.Refusal.{Refusal}
 use Rattle.rules.specs.Placement.{left-extent, right-extent}
 use Rattle.contours.specs.Sheet.{sheet}
-use Rattle.finishing.specs.Postorder.{postorder}
-use Rattle.finishing.specs.Finishing.{start-no, step-no, reach-no, started-of, started-as, Starts, Unaltered, Steps, reached-of, Reaches}
-use Rattle.finishing.specs.laws.Stepping.{step-asks}
+use Rattle.finishing_order.specs.Postorder.{postorder}
+use Rattle.finishing_asks.specs.Asks.{start-no, step-no, reach-no}
+use Rattle.finishing.specs.Finishing.{started-of, started-as, Starts}
+use Rattle.finishing_reach.specs.Reaching.{reached-of, Reaches}
+use Rattle.finishing_step.specs.Stepping.{Unaltered, Steps}
+use Rattle.finishing_step.specs.laws.Stepping.{step-asks}
 use Rattle.finishing.specs.After.{After}
 use Rattle.finishing.specs.laws.After.{after-holds, after-fit, after-some, next-answers, next-done}
-use Rattle.finishing.specs.laws.Promised.{size, finished-by, finished-once, children-first, siblings-first}
+use Rattle.finishing_order.specs.laws.Promised.{size, finished-by, finished-once, children-first, siblings-first}
 use Rattle.finishing.specs.declared.Started.{Started}
 use Rattle.finishing.specs.declared.Started.the-variants as started
-use Rattle.finishing.specs.declared.Stepped.{Stepped}
-use Rattle.finishing.specs.declared.Stepped.the-variants.{Cell, Done, Refused}
-use Rattle.finishing.specs.declared.Reached.{Reached}
-use Rattle.finishing.specs.declared.Reached.the-variants as reached
+use Rattle.finishing_step.specs.declared.Stepped.{Stepped}
+use Rattle.finishing_step.specs.declared.Stepped.the-variants.{Cell, Done, Refused}
+use Rattle.finishing_reach.specs.declared.Reached.{Reached}
+use Rattle.finishing_reach.specs.declared.Reached.the-variants as reached
 use Rattle.demands.specs.Outcomes.{told}
 
 -- ---- a start

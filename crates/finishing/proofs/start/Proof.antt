@@ -3,7 +3,8 @@ use borrow.Author.Needs.{needs}
 use lib.Seq.{length-take-le}
 use Rattle.plan.specs.Limits.{scratch-size, second-size}
 use Rattle.plan.specs.Columns.{table-of}
-use Rattle.finishing.specs.laws.Stepping.{start-refused, start-asks, start-done}
+use Rattle.finishing_asks.specs.laws.Asks.{start-asks}
+use Rattle.finishing.specs.laws.Finishing.{start-refused, start-done}
 use Rattle.finishing.proofs.start.Statement.{statement}
 use Rattle.finishing.proofs.start.Tie as tie
 

@@ -3,7 +3,7 @@ use borrow.Author.Needs.{needs}
 use lib.Seq.{length-take-le}
 use Rattle.plan.specs.Limits.{scratch-size, second-size}
 use Rattle.plan.specs.Columns.{table-of}
-use Rattle.finishing.specs.laws.Stepping.{step-refused, step-asks, step-taken}
+use Rattle.finishing_step.specs.laws.Stepping.{step-refused, step-asks, step-taken}
 use Rattle.finishing.proofs.step.Statement.{statement}
 use Rattle.finishing.proofs.step.Tie as tie
 

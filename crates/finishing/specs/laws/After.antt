@@ -15,16 +15,21 @@ use Rattle.plan.specs.declared.Refusal.{Refusal}
 use Rattle.contours.specs.Sheet.{sheet}
 use Rattle.positions.specs.Written.{written}
 use Rattle.joining.specs.Joining.{Memory, memory-of}
-use Rattle.finishing.specs.Postorder.{postorder}
-use Rattle.finishing.specs.Made.{cleared, count-at, made}
-use Rattle.finishing.specs.Finishing.{start-no, step-no, started-of, started-as, Starts, Holds, stepped-at, finished-after, positions-after, Unaltered, Steps}
-use Rattle.finishing.specs.Guard.{Advances}
+use Rattle.finishing_order.specs.Postorder.{postorder}
+use Rattle.finishing_cell.specs.Made.{cleared, made}
+use Rattle.finishing_guard.specs.Guard.{count-at}
+use Rattle.finishing_asks.specs.Asks.{start-no, step-no}
+use Rattle.finishing.specs.Finishing.{started-of, started-as, Starts}
+use Rattle.finishing_step.specs.Stepping.{Holds, stepped-at, finished-after, positions-after, Unaltered, Steps}
+use Rattle.finishing_step.specs.Advancing.{Advances}
 use Rattle.finishing.specs.After.{After, counted}
-use Rattle.finishing.specs.laws.Final.{count-read}
-use Rattle.finishing.specs.laws.Stepping.{made-none, made-long, held, start-asks, start-done, step-refused, step-taken}
+use Rattle.finishing_cell.specs.laws.Final.{count-read}
+use Rattle.finishing_step.specs.laws.Stepping.{made-none, made-long, held, step-refused, step-taken}
+use Rattle.finishing_asks.specs.laws.Asks.{start-asks}
+use Rattle.finishing.specs.laws.Finishing.{start-done}
 use Rattle.finishing.specs.declared.Started.the-variants as started
-use Rattle.finishing.specs.declared.Stepped.{Stepped}
-use Rattle.finishing.specs.declared.Stepped.the-variants.{Cell, Done, Refused}
+use Rattle.finishing_step.specs.declared.Stepped.{Stepped}
+use Rattle.finishing_step.specs.declared.Stepped.the-variants.{Cell, Done, Refused}
 
 -- ---- lent scratches from call to call
 drop-front : (n : ℕ) (us vs : List ℕ) → length us ≡ n → drop n (us ++ vs) ≡ vs

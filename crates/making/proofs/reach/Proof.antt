@@ -1,4 +1,4 @@
--- `making::reach` meets its contract: `columns_of` is called on the table, and `finishing::reach` on the columns and on the other parameters. Assumes nothing.
+-- `making::reach` meets its contract: `columns_of` is called on the table, and `finishing_reach::reach` on the columns and on the other parameters. Assumes nothing.
 use mathlib.Core.Path.{refl}
 use Prim.Native.Nat.{ℕ, _<_, _^_}
 use mathlib.Core.List.{[], _∷_, List}
@@ -16,17 +16,17 @@ use denote.Signature.{Slot, plain}
 use denote.Builtin.{u32, SliceRefOf}
 use denote.Slice.{sliceVal, slice-vals, shr-slice-tells}
 use denote.Enum.Laws as EL
-use Rattle.finishing.specs.Finishing.{Reaches}
+use Rattle.finishing_reach.specs.Reaching.{Reaches}
 use Rattle.making.specs.laws.Lent.{reach-lent}
 use Rattle.plan.proofs.Columns.Laws as B′
-use Rattle.finishing.proofs.Reached as L
-use Rattle.finishing.proofs.Reached.Laws as L′
+use Rattle.finishing_reach.proofs.Reached as L
+use Rattle.finishing_reach.proofs.Reached.Laws as L′
 use Rattle.entry_laws.proofs.InTurn.{Told, Answered, Calling, Follows}
 use Rattle.entry_laws.proofs.Lent.{by-columns, columned, meets-lent}
 use Rattle.records.proofs.columns_of.Symbol as apart
 use Rattle.records.proofs.columns_of.Met as apart-thm
-use Rattle.finishing.proofs.reach.Symbol as core
-use Rattle.finishing.proofs.reach.Met as core-thm
+use Rattle.finishing_reach.proofs.reach.Symbol as core
+use Rattle.finishing_reach.proofs.reach.Met as core-thm
 use Rattle.making.proofs.reach.Key as own
 use Rattle.making.proofs.reach.Statement as stated
 use Rattle.making.proofs.reach.Code as code
@@ -55,7 +55,7 @@ module _ {M : Type 1} (𝓤 : URA M) (H : Heap 𝓤) (A : Atoms 𝓤) (W : Given
 pub reach-spec : {M : Type 1} → stated.statement M
 unfolding code.routine
 reach-spec 𝓤 H 𝓜 𝓖 𝓡 =
-    meets-lent by-columns 𝓤 H 𝓜 𝓖 𝓡 code.env own.name core.name code.function (code.unfolded 𝓤 H 𝓜 𝓡) apart.routine core.routine code.calls-records·columns-of code.calls-finishing·reach (apart-thm.met 𝓤 H 𝓜 𝓖 𝓡) (columned 𝓤 H (𝓖 .A) (givenOf 𝓤 H 𝓜 𝓖)) L′.mir
+    meets-lent by-columns 𝓤 H 𝓜 𝓖 𝓡 code.env own.name core.name code.function (code.unfolded 𝓤 H 𝓜 𝓡) apart.routine core.routine code.calls-records·columns-of code.calls-finishing_reach·reach (apart-thm.met 𝓤 H 𝓜 𝓖 𝓡) (columned 𝓤 H (𝓖 .A) (givenOf 𝓤 H 𝓜 𝓖)) L′.mir
     2 others L.the-row (λ r u is. EL.lawful L.the-type L′.the-laws 𝓤 H (𝓖 .A) (givenOf 𝓤 H 𝓜 𝓖) tt .typed r _ is .0)
     (λ κs t a e r. Reaches t (a .0) (a .1 .0 .now) (a .1 .1 .0 .now) (a .1 .1 .1 .0) r)
     (λ κs t c q a e r. reach-lent t c q (a .0) (a .1 .0 .now) (a .1 .1 .0 .now) (a .1 .1 .1 .0) r) (λ κ. core-thm.met 𝓤 H 𝓜 𝓖 𝓡)

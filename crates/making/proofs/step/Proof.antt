@@ -17,11 +17,11 @@ use denote.Signature.{Slot, plain}
 use denote.Builtin.{u32, i32, SliceRefMutOf}
 use denote.Slice.{sliceVal, slice-vals, mut-slice-tells}
 use denote.Enum.Laws as EL
-use Rattle.finishing.specs.Finishing.{Steps}
+use Rattle.finishing_step.specs.Stepping.{Steps}
 use Rattle.making.specs.laws.Lent.{step-lent}
 use Rattle.plan.proofs.Columns.Laws as B′
-use Rattle.finishing.proofs.Stepped as L
-use Rattle.finishing.proofs.Stepped.Laws as L′
+use Rattle.finishing_step.proofs.Stepped as L
+use Rattle.finishing_step.proofs.Stepped.Laws as L′
 use Rattle.entry_laws.proofs.InTurn.{Told, Answered, Calling, Follows}
 use Rattle.entry_laws.proofs.Lent.{by-columns, columned, meets-lent}
 use Rattle.records.proofs.columns_of.Symbol as apart

@@ -15,13 +15,16 @@ use Rattle.plan.specs.declared.Columns.{Columns}
 use Rattle.plan.specs.Questions.{scratch, second-scratch, in-file, puts, start, step, reach, start-given, step-given, reach-given}
 use Rattle.plan.specs.laws.Crowded.{refusal-crowded, crowded-refuses}
 use Rattle.plan.specs.declared.Refusal.{Refusal}
-use Rattle.finishing.specs.Postorder.{postorder}
-use Rattle.finishing.specs.Finishing.{start-no, step-no, reach-no, started-of, started-as, Starts, Steps, reached-of, Reaches}
+use Rattle.finishing_order.specs.Postorder.{postorder}
+use Rattle.finishing_asks.specs.Asks.{start-no, step-no, reach-no}
+use Rattle.finishing.specs.Finishing.{started-of, started-as, Starts}
+use Rattle.finishing_reach.specs.Reaching.{reached-of, Reaches}
+use Rattle.finishing_step.specs.Stepping.{Steps}
 use Rattle.finishing.specs.declared.Started.{Started}
-use Rattle.finishing.specs.declared.Stepped.{Stepped}
-use Rattle.finishing.specs.declared.Stepped.the-variants as stepped
-use Rattle.finishing.specs.declared.Reached.{Reached}
-use Rattle.finishing.specs.declared.Reached.the-variants as reached
+use Rattle.finishing_step.specs.declared.Stepped.{Stepped}
+use Rattle.finishing_step.specs.declared.Stepped.the-variants as stepped
+use Rattle.finishing_reach.specs.declared.Reached.{Reached}
+use Rattle.finishing_reach.specs.declared.Reached.the-variants as reached
 use Rattle.records.specs.Apart.{lent-columns}
 use Rattle.records.specs.laws.Apart.{of-records}
 use Rattle.entry_laws.specs.laws.Lent.{no}

@@ -1,0 +1,4 @@
+pub mod Passed
+pub mod Whole
+pub mod Final
+pub mod Taking
