@@ -13,8 +13,8 @@ use Rattle.plan.specs.Questions.{to-fill, nothing, read, refusal}
 use Rattle.plan.specs.declared.Record.{Record}
 use Rattle.plan.specs.declared.Refusal.{Refusal}
 use Rattle.plan.specs.declared.forms.Form.{Form}
-use Rattle.planfile.specs.Fields.{Place, nowhere, byte, two, set-number, width-place, depth-place}
-use Rattle.planfile.specs.Format.{trailer-of, form, place, entry, file-given}
+use Rattle.planfile_spec.specs.Fields.{Place, nowhere, byte, two, set-number, width-place, depth-place}
+use Rattle.planfile_spec.specs.Format.{trailer-of, form, place, entry, file-given}
 use Rattle.mending.specs.Boxes.{least-width, narrow, flat, new-width, new-depth, changed}
 
 -- ---- the bytes

@@ -9,7 +9,7 @@ ghost use mathlib.Core.Path.{_≡_};
 ghost use Prim.Native.Nat.{_+_, _≤_, _<_};
 ghost use lib.ListN.{length, set};
 ghost use Rattle.plan.specs.Forms.{«record-size»};
-ghost use Rattle.planfile.specs.Fields.{«set-pair», «set-number», «width-place», «depth-place»};
+ghost use Rattle.planfile_spec.specs.Fields.{«set-pair», «set-number», «width-place», «depth-place»};
 ghost use Rattle.mending.specs.Boxes.{«least-width», mendable, cramped, shallow, «new-width», «new-depth»};
 ghost use Rattle.mending.specs.Mended.{«raise-width», «raise-depth»};
 

@@ -12,8 +12,8 @@ use Rattle.plan.specs.Pages.{fair}
 use Rattle.plan.specs.declared.Page.{Page}
 use Rattle.rules.specs.Placement.{placed, width, rows}
 use Rattle.positions.specs.Written.{written}
-use Rattle.planfile.specs.declared.Reading.{Reading}
-use Rattle.planfile.specs.Reading.{reading-of}
+use Rattle.planfile_spec.specs.declared.Reading.{Reading}
+use Rattle.planfile_spec.specs.Reading.{reading-of}
 use Rattle.listing.specs.Printed.{Bytes, space, refused-line}
 use Rattle.printing.specs.Printing.{label-bytes, read-table, ours}
 use Rattle.decimals.specs.Fixed.{millimetres}

@@ -9,7 +9,7 @@ use plan::Columns;
 use plan::Page;
 use plan::limits::MOST_CELLS;
 use plan::limits::SCRATCH_SIZE;
-use planfile::Reading;
+use planfile_spec::Reading;
 use strokes::drawn;
 use strokes::fair;
 ghost use mathlib.Core.Path.{_≡_};

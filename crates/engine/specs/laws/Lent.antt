@@ -32,7 +32,7 @@ use Rattle.checker.specs.declared.Checked.the-variants as checks
 use Rattle.ends.specs.Ended.{ended-of}
 use Rattle.ends.specs.declared.Ended.{Ended}
 use Rattle.ends.specs.declared.Ended.the-variants as ended
-use Rattle.planfile.specs.Format.{label-in}
+use Rattle.planfile_spec.specs.Format.{label-in}
 use Rattle.content.specs.Clean.{copy-refusal}
 use Rattle.copying.specs.Copied.{copied-of, output-after, Copies}
 use Rattle.copying.specs.declared.Copied.{Copied}

@@ -26,14 +26,14 @@ use Rattle.plan.specs.declared.forms.Form.the-variants.{Old, Wide}
 use Rattle.plan.specs.declared.kinds.Kind.{Kind}
 use Rattle.plan.specs.declared.kinds.Lookup.{Lookup}
 use Rattle.plan.specs.declared.kinds.Lookup.the-variants.{Known}
-use Rattle.planfile.specs.declared.Reading.{Reading}
-use Rattle.planfile.specs.declared.Trailer.{Trailer}
-use Rattle.planfile.specs.Fields.{set-number, width-place, depth-place}
-use Rattle.planfile.specs.Format.{trailer-of, form, record-at, entry}
-use Rattle.planfile.specs.Reading.{columns-of, reading-of}
-use Rattle.planfile.specs.FileSteps.{file-refusal}
-use Rattle.planfile.specs.laws.File as file
-use Rattle.planfile.specs.laws.Examined.{Full}
+use Rattle.planfile_spec.specs.declared.Reading.{Reading}
+use Rattle.planfile_spec.specs.declared.Trailer.{Trailer}
+use Rattle.planfile_spec.specs.Fields.{set-number, width-place, depth-place}
+use Rattle.planfile_spec.specs.Format.{trailer-of, form, record-at, entry}
+use Rattle.planfile_spec.specs.Reading.{columns-of, reading-of}
+use Rattle.planfile_spec.specs.FileSteps.{file-refusal}
+use Rattle.planfile_spec.specs.laws.File as file
+use Rattle.planfile_spec.specs.laws.Examined.{Full}
 use Rattle.listing.specs.Printed.{Bytes, mended-line, lines-joined}
 use Rattle.listing.specs.laws.Printed.{at-most}
 use Rattle.listing.specs.Line.{line-of, text}

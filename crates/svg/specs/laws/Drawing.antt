@@ -28,8 +28,8 @@ use Rattle.positions.specs.Written.{written}
 use Rattle.positions.specs.laws.Written.{written-agree}
 use Rattle.layout.specs.Laid.{Drawn}
 use Rattle.layout.specs.declared.Measures.{Measures}
-use Rattle.planfile.specs.declared.Reading.{Reading}
-use Rattle.planfile.specs.Reading.{reading-of}
+use Rattle.planfile_spec.specs.declared.Reading.{Reading}
+use Rattle.planfile_spec.specs.Reading.{reading-of}
 use Rattle.listing.specs.Printed.{Bytes, refused-line}
 use Rattle.listing.specs.Put.{Put}
 use Rattle.listing.specs.laws.Put.{then, put-none}
