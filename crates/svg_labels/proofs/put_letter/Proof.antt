@@ -1,8 +1,8 @@
 use native.Mathlib.Omega.{arith}
-use Rattle.svg.specs.laws.Drawing.{letter-amp, letter-lt, letter-gt, letter-plain, put-as}
+use Rattle.svg_labels.specs.laws.Labels.{letter-amp, letter-lt, letter-gt, letter-plain, put-as}
 use borrow.Author.Needs.{needs}
-use Rattle.svg.proofs.put_letter.Statement.{statement}
-use Rattle.svg.proofs.put_letter.Tie as tie
+use Rattle.svg_labels.proofs.put_letter.Statement.{statement}
+use Rattle.svg_labels.proofs.put_letter.Tie as tie
 
 slice-aggregate-put-text : tie.Need-slice-aggregate-put-text
 slice-aggregate-put-text c = search needs

@@ -1,9 +1,9 @@
 use native.Mathlib.Omega.{arith}
-use Rattle.svg.specs.Drawing.{head-text}
+use Rattle.svg_strokes.specs.Strokes.{head-text}
 use Rattle.listing.specs.laws.Put.{then}
 use borrow.Author.Needs.{needs}
-use Rattle.svg.proofs.put_head.Statement.{statement}
-use Rattle.svg.proofs.put_head.Tie as tie
+use Rattle.svg_strokes.proofs.put_head.Statement.{statement}
+use Rattle.svg_strokes.proofs.put_head.Tie as tie
 
 slice-aggregate-put-text : tie.Need-slice-aggregate-put-text
 slice-aggregate-put-text c = search needs

@@ -1,11 +1,11 @@
 use mathlib.Core.Path.{sym}
 use native.Mathlib.Omega.{arith}
-use Rattle.svg.specs.Drawing.{stroke-text}
+use Rattle.svg_strokes.specs.Strokes.{stroke-text}
 use Rattle.listing.specs.laws.Put.{then}
-use Rattle.svg.specs.laws.Drawing.{stroke-as}
+use Rattle.svg_strokes.specs.laws.Strokes.{stroke-as}
 use borrow.Author.Needs.{needs}
-use Rattle.svg.proofs.put_stroke.Statement.{statement}
-use Rattle.svg.proofs.put_stroke.Tie as tie
+use Rattle.svg_strokes.proofs.put_stroke.Statement.{statement}
+use Rattle.svg_strokes.proofs.put_stroke.Tie as tie
 
 enum-known-stroke : tie.Need-enum-known-stroke
 enum-known-stroke c = search needs

@@ -1,9 +1,9 @@
 use native.Mathlib.Omega.{arith}
-use Rattle.svg.specs.Drawing.{point-text}
+use Rattle.svg_strokes.specs.Strokes.{point-text}
 use Rattle.listing.specs.laws.Put.{then}
 use borrow.Author.Needs.{needs}
-use Rattle.svg.proofs.put_point.Statement.{statement}
-use Rattle.svg.proofs.put_point.Tie as tie
+use Rattle.svg_strokes.proofs.put_point.Statement.{statement}
+use Rattle.svg_strokes.proofs.put_point.Tie as tie
 
 put-millimetres-requires : tie.Need-put-millimetres-requires
 put-millimetres-requires c κs = search needs

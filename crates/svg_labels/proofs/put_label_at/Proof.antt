@@ -1,9 +1,9 @@
 use native.Mathlib.Omega.{arith}
-use Rattle.svg.specs.Drawing.{label-at}
+use Rattle.svg_labels.specs.Labels.{label-at}
 use Rattle.listing.specs.laws.Put.{then}
 use borrow.Author.Needs.{needs}
-use Rattle.svg.proofs.put_label_at.Statement.{statement}
-use Rattle.svg.proofs.put_label_at.Tie as tie
+use Rattle.svg_labels.proofs.put_label_at.Statement.{statement}
+use Rattle.svg_labels.proofs.put_label_at.Tie as tie
 
 slice-aggregate-put-text : tie.Need-slice-aggregate-put-text
 slice-aggregate-put-text c = search needs

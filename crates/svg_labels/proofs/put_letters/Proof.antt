@@ -3,11 +3,11 @@ use mathlib.Core.Path.{_≡_, refl}
 use native.Mathlib.Omega.{arith}
 use lib.ListN.{length, take}
 use Rattle.listing.specs.Put.{Put}
-use Rattle.svg.specs.Drawing.{escaped}
-use Rattle.svg.specs.laws.Drawing.{letters-start, letters-more, letters-done}
+use Rattle.svg_labels.specs.Labels.{escaped}
+use Rattle.svg_labels.specs.laws.Labels.{letters-start, letters-more, letters-done}
 use borrow.Author.Needs.{needs}
-use Rattle.svg.proofs.put_letters.Statement.{statement}
-use Rattle.svg.proofs.put_letters.Tie as tie
+use Rattle.svg_labels.proofs.put_letters.Statement.{statement}
+use Rattle.svg_labels.proofs.put_letters.Tie as tie
 
 abbrev Inv-loop : tie.InvT-loop
 Inv-loop label out₀ at next₀ i₀ out next i = (i ≤ length label) × (length out ≡ length out₀) × (next ≤ at + 5 * i) × Put out₀ at (escaped (take i label)) out next

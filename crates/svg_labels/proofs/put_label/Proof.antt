@@ -1,9 +1,9 @@
 use native.Mathlib.Omega.{arith}
 use Rattle.listing.specs.laws.Put.{put-none}
-use Rattle.svg.specs.laws.Drawing.{label-empty, label-move, label-line, label-lift, put-as}
+use Rattle.svg_labels.specs.laws.Labels.{label-empty, label-move, label-line, label-lift, put-as}
 use borrow.Author.Needs.{needs}
-use Rattle.svg.proofs.put_label.Statement.{statement}
-use Rattle.svg.proofs.put_label.Tie as tie
+use Rattle.svg_labels.proofs.put_label.Statement.{statement}
+use Rattle.svg_labels.proofs.put_label.Tie as tie
 
 returns : tie.Need-returns
 returns c = (put-as _ _ (label-empty _ _ (c .if1 .taken)) (put-none _ _), omega arith)
