@@ -38,7 +38,7 @@ use plan::Record;
 use season::Report;
 ghost use mathlib.Core.Path.{_≡_};
 ghost use Rattle.plan.specs.Records.{«cells-of»};
-ghost use Rattle.planfile.specs.Reading.{«label-refusal», «label-part»};
+ghost use Rattle.planfile_spec.specs.Reading.{«label-refusal», «label-part»};
 ghost use Rattle.checker.specs.Checked.{«checked-of»};
 ghost use Rattle.ends.specs.Ended.{«ended-of»};
 ghost use Rattle.strokes.specs.Stroked.{«stroked-of»};

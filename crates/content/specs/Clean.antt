@@ -13,9 +13,9 @@ use Rattle.plan.specs.declared.Record.{Record}
 use Rattle.plan.specs.declared.Refusal.{Refusal}
 use Rattle.plan.specs.declared.forms.Form.{Form}
 use Rattle.plan.specs.declared.forms.Form.the-variants.{Old, Wide}
-use Rattle.planfile.specs.declared.Trailer.{Trailer}
-use Rattle.planfile.specs.Fields.{set-record, set-trailer}
-use Rattle.planfile.specs.Format.{label-in}
+use Rattle.planfile_spec.specs.declared.Trailer.{Trailer}
+use Rattle.planfile_spec.specs.Fields.{set-record, set-trailer}
+use Rattle.planfile_spec.specs.Format.{label-in}
 use Rattle.content.specs.Content.{Item, Content, content, file-content}
 
 -- ---- the form (document 02, E7 and E13): old where every width fits it and every rank is 0, the root's too

@@ -6,7 +6,7 @@ use lib.ListN.{take, drop}
 use Rattle.plan.specs.Plan.{Cell}
 use Rattle.plan.specs.Records.{bare}
 use Rattle.plan.specs.declared.Record.{Record}
-use Rattle.planfile.specs.Format.{trailer-of, records-of}
+use Rattle.planfile_spec.specs.Format.{trailer-of, records-of}
 
 pub record Item : Type 0 where
   pub cell : Cell

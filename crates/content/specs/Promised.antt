@@ -5,7 +5,7 @@ use Prim.Native.Nat.{ℕ, _≤_}
 use Rattle.plan.specs.Limits.{most-cells, most-file}
 use Rattle.plan.specs.Questions.{to-fill, nothing, none, read, refusal}
 use Rattle.plan.specs.declared.Record.{Record}
-use Rattle.planfile.specs.Format.{trailer-of, records-of, file-given}
+use Rattle.planfile_spec.specs.Format.{trailer-of, records-of, file-given}
 use Rattle.content.specs.Content.{content, letters-of, file-content}
 use Rattle.content.specs.Clean.{clean, copy, file-copy, copy-refusal}
 use Rattle.content.specs.laws.Clean.{clean-content}

@@ -5,8 +5,8 @@ use Prim.Native.Nat.{ℕ}
 use Rattle.plan.specs.Lists.{from}
 use Rattle.plan.specs.Forms as forms
 use Rattle.plan.specs.Records.{bare}
-use Rattle.planfile.specs.Fields as fields
-use Rattle.planfile.specs.Format.{trailer-of, record-at, entry, records-of}
+use Rattle.planfile_spec.specs.Fields as fields
+use Rattle.planfile_spec.specs.Format.{trailer-of, record-at, entry, records-of}
 use Rattle.content.specs.Content.{text-of, item-of, content, letters-of, file-content}
 use Rattle.content.specs.Clean.{narrow, all-narrow, form-for, mark-of, labels, record-of, entries, record-bytes, records-bytes, trailer-bytes, clean-end, clean, file-copy}
 

@@ -9,7 +9,7 @@ use Rattle.plan.specs.Limits.{most-cells, most-file}
 use Rattle.plan.specs.Questions.{to-fill, nothing, read, refusal}
 use Rattle.plan.specs.declared.Record.{Record}
 use Rattle.plan.specs.declared.Refusal.{Refusal}
-use Rattle.planfile.specs.Format.{file-given}
+use Rattle.planfile_spec.specs.Format.{file-given}
 use Rattle.content.specs.Clean.{copy, file-copy, copy-refusal}
 use Rattle.copying.specs.declared.Copied.{Copied}
 use Rattle.copying.specs.declared.Copied.the-variants.{Written, Refused}

@@ -16,7 +16,7 @@ use Rattle.plan.specs.declared.Lettered.{Lettered}
 use Rattle.plan.specs.declared.Refusal.{Refusal}
 use Rattle.plan.specs.declared.forms.Form.{Form}
 use Rattle.plan.specs.declared.forms.Form.the-variants.{Old, Wide}
-use Rattle.planfile.specs.FileSteps.{records-at}
+use Rattle.planfile_spec.specs.FileSteps.{records-at}
 use Rattle.content.specs.Clean.{record-bytes}
 
 -- the text stored byte by byte from a place, and the place after it handed back; the rest is as it was

@@ -27,8 +27,8 @@ use Rattle.least.specs.Alike.{Alike, Twins}
 use Rattle.least.specs.NoLess.{NoLess}
 use Rattle.least.specs.Frame.{Least}
 use Rattle.least.specs.Worked.{sheets}
-use Rattle.planfile.specs.Format.{trailer-of, entry, records-of}
-use Rattle.planfile.specs.Reading.{label-refusal}
+use Rattle.planfile_spec.specs.Format.{trailer-of, entry, records-of}
+use Rattle.planfile_spec.specs.Reading.{label-refusal}
 use Rattle.planfile.specs.laws.Place as placing
 use Rattle.layout.specs.Laid.{Lays}
 use Rattle.layout.specs.laws.Promised as promised

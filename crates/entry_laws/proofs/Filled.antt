@@ -39,10 +39,10 @@ use denote.Triple.Walked.{says}
 use Rattle.plan.specs.Limits.{most-cells}
 use Rattle.records.specs.Together.{filled}
 use Rattle.plan.specs.declared.Record.{Record}
-use Rattle.planfile.specs.declared.Reading.{Reading}
+use Rattle.planfile_spec.specs.declared.Reading.{Reading}
 use Rattle.plan.proofs.Record as T
-use Rattle.planfile.proofs.Reading as R
-use Rattle.planfile.proofs.Reading.Laws as R′
+use Rattle.planfile_spec.proofs.Reading as R
+use Rattle.planfile_spec.proofs.Reading.Laws as R′
 use Rattle.records.proofs.fill as fill
 use Rattle.records.proofs.fill.Symbol as fill-def
 use Rattle.records.proofs.fill.Met as fill-thm

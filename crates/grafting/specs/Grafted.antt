@@ -11,8 +11,8 @@ use Rattle.plan.specs.Questions.{none, asked, or-else}
 use Rattle.plan.specs.declared.Columns.{Columns}
 use Rattle.plan.specs.declared.Lettered.{Lettered}
 use Rattle.plan.specs.declared.Refusal.{Refusal}
-use Rattle.planfile.specs.Reading.{column}
-use Rattle.planfile.specs.FileSteps.{blank-reading}
+use Rattle.planfile_spec.specs.Reading.{column}
+use Rattle.planfile_spec.specs.FileSteps.{blank-reading}
 use Rattle.graft.specs.Sequence.{join-refusal}
 use Rattle.graft.specs.laws.Sequence.{counted, part-refusal}
 use Rattle.grafting.specs.declared.Graft.{Graft}

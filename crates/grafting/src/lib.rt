@@ -7,14 +7,14 @@ use plan::Columns;
 use plan::Lettered;
 use plan::Refusal;
 use plan::limits::MOST_CELLS;
-use planfile::Reading;
 use planfile::questions::refused;
+use planfile_spec::Reading;
 ghost use mathlib.Core.Path.{_≡_};
 ghost use Prim.Native.Nat.{_+_, _-_, _≤_, _<_};
 ghost use lib.ListN.{getD};
 ghost use Rattle.plan.specs.Limits.{most-cells};
 ghost use Rattle.plan.specs.Columns.{table-of};
-ghost use Rattle.planfile.specs.Reading.{column};
+ghost use Rattle.planfile_spec.specs.Reading.{column};
 ghost use Rattle.graft.specs.laws.Sequence.{part-refusal};
 ghost use Rattle.grafting.specs.Grafted.{picked, picked-parent, grafted, Hangs, Graftable, ready-refusal, refused, accepted, graft-of};
 

@@ -2,7 +2,8 @@
 use mathlib.Core.List.{List}
 use Prim.Native.Nat.{ℕ}
 use denote.Ref.{RefT}
-use Rattle.planfile.specs.Reading.{label-part, bytes-in, Subslice}
+use Rattle.planfile_spec.specs.Reading.{label-part}
+use Rattle.planfile.specs.Subslice.{bytes-in, Subslice}
 
 -- the bytes of the file from the start of the label to its end; refused, none
 abbrev pub label-of : List ℕ → (cell : ℕ) → List ℕ

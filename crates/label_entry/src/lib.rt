@@ -1,7 +1,7 @@
 // LABEL, over a lent file. It asks nothing of its caller.
 use plan::Refusal;
 ghost use mathlib.Core.Path.{_≡_};
-ghost use Rattle.planfile.specs.Reading.{«label-refusal»};
+ghost use Rattle.planfile_spec.specs.Reading.{«label-refusal»};
 ghost use Rattle.label_entry.specs.Label.{Labels};
 
 // Label: a cell's label, as that part of the file's own bytes; refused, the empty part at byte 0.

@@ -10,7 +10,7 @@ use Rattle.plan.specs.Lists.{from, keep}
 use Rattle.plan.specs.Questions.{to-fill, nothing, read, refusal}
 use Rattle.plan.specs.declared.Record.{Record}
 use Rattle.plan.specs.declared.Refusal.{Refusal}
-use Rattle.planfile.specs.Format.{trailer-of, form, place, entry, file-given}
+use Rattle.planfile_spec.specs.Format.{trailer-of, form, place, entry, file-given}
 use Rattle.mending_boxes.specs.Boxes.{new-width, new-depth, changed}
 use Rattle.mending_boxes.specs.Raised.{mend-records, Off}
 

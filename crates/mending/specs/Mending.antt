@@ -8,7 +8,7 @@ use lib.ListN.{length, drop}
 use Rattle.plan.specs.Limits.{most-file, lines-size}
 use Rattle.plan.specs.Questions.{copy-output, lines-output, nothing, none, Given, mend, refusal}
 use Rattle.plan.specs.declared.Refusal.{Refusal}
-use Rattle.planfile.specs.Format.{file-given}
+use Rattle.planfile_spec.specs.Format.{file-given}
 use Rattle.listing.specs.Printed.{Bytes, mended-line, lines-joined}
 use Rattle.mending.specs.Mended.{would-get, mended, Alteration, altered}
 use Rattle.mending.specs.declared.Mended.{Mended}

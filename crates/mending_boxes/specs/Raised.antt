@@ -6,7 +6,7 @@ use Prim.Native.Nat.{ℕ, zero, suc, _+_, _*_}
 use Rattle.plan.specs.Forms.{record-size}
 use Rattle.plan.specs.declared.Record.{Record}
 use Rattle.plan.specs.declared.forms.Form.{Form}
-use Rattle.planfile.specs.Fields.{Place, nowhere, byte, two, set-number, width-place, depth-place}
+use Rattle.planfile_spec.specs.Fields.{Place, nowhere, byte, two, set-number, width-place, depth-place}
 use Rattle.mending_boxes.specs.Boxes.{least-width, narrow, flat}
 
 -- a record r whose bytes begin at a place: "raises each such width to label length plus border and each depth 0 to 1"

@@ -1,6 +1,2 @@
-pub mod Fields
-pub mod Format
-pub mod Reading
-pub mod FileSteps
-pub mod Promised
+pub mod Subslice
 pub mod laws

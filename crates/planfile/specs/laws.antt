@@ -1,7 +1,1 @@
-pub mod Every
-pub mod Examined
-pub mod File
-pub mod Format
-pub mod Label
 pub mod Place
-pub mod ReadThen

@@ -1,45 +1,20 @@
 // The plan file: Read, Label and Label's refusal.
-pub mod cursor;
 pub mod questions;
-pub mod table;
 
-use crate::cursor::Cursor;
 use crate::questions::examined;
-pub use crate::questions::formed_refusal;
 pub use crate::questions::refused;
-use crate::table::place;
-pub use crate::table::trailer as trailer_of;
-use crate::table::trailer;
 use asking::asked;
-use plan::Columns;
 use plan::Refusal;
 use plan::forms::form_of;
 use plan::limits::MOST_CELLS;
+use planfile_cursor::Cursor;
+use planfile_cursor::place;
+use planfile_cursor::trailer;
+use planfile_spec::Part;
+use planfile_spec::Reading;
 ghost use mathlib.Core.Path.{_≡_};
-ghost use Rattle.planfile.specs.Reading.{«reading-of», «label-refusal», «label-part», Subslice};
-
-// What the last 8 bytes of a file say.
-pub struct Trailer {
-    pub begin: u16,
-    pub count: u16,
-    pub allowance: u16,
-    pub mark: u16,
-}
-
-// Read's answer: a refusal and no cell; or a refusal of 0 and 0, the allowance and the records in columns, zeros after them.
-pub struct Reading {
-    pub refusal: Refusal,
-    pub allowance: u16,
-    pub columns: Columns,
-    pub label_length: [u8; MOST_CELLS],
-    pub label_start: [u16; MOST_CELLS],
-}
-
-// The bytes of a file from start to end.
-pub struct Part {
-    pub start: usize,
-    pub end: usize,
-}
+ghost use Rattle.planfile_spec.specs.Reading.{«reading-of», «label-refusal», «label-part»};
+ghost use Rattle.planfile.specs.Subslice.{Subslice};
 
 // Reads a plan file for a table of so many records.
 pub fn read(file: &[u8], room: usize) -> Reading

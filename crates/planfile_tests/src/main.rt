@@ -1,6 +1,6 @@
 // What Read and Label answer for each case on standard input. A case is three numbers of two bytes, low byte first, and a file:
 // the file's length, the length of the table to fill, and the cell whose label is asked for.
-use planfile::Reading;
+use planfile_spec::Reading;
 ghost use Prim.Native.Nat.{_<_};
 
 fn number(low: u8, high: u8) -> usize {

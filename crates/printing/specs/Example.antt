@@ -12,9 +12,9 @@ use Rattle.plan.specs.Questions.{refusal}
 use Rattle.rules.specs.Placement as placement
 use Rattle.contours.specs.Contour as contour
 use Rattle.contours.specs.Sheet as ours
-use Rattle.planfile.specs.Fields as fields
-use Rattle.planfile.specs.Format as format
-use Rattle.planfile.specs.Reading as reading
+use Rattle.planfile_spec.specs.Fields as fields
+use Rattle.planfile_spec.specs.Format as format
+use Rattle.planfile_spec.specs.Reading as reading
 use Rattle.listing.specs.Printed as printed
 use Rattle.listing.specs.Printed.{Bytes}
 use Rattle.printing.specs.Printing.{first-line, cell-of, listing-of, text-of}

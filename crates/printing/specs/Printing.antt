@@ -15,8 +15,9 @@ use Rattle.plan.specs.Questions.{list, list-given, refusal}
 use Rattle.plan.specs.declared.Refusal.{Refusal}
 use Rattle.rules.specs.Placement.{Placement, placed, Agree, width, rows}
 use Rattle.contours.specs.Sheet.{sheet}
-use Rattle.planfile.specs.declared.Reading.{Reading}
-use Rattle.planfile.specs.Reading.{reading-of, label-part, bytes-in}
+use Rattle.planfile_spec.specs.declared.Reading.{Reading}
+use Rattle.planfile_spec.specs.Reading.{reading-of, label-part}
+use Rattle.planfile.specs.Subslice.{bytes-in}
 use Rattle.listing.specs.Printed.{Bytes, sheet-line, cell-line, refused-line, lines-joined}
 use Rattle.printing.specs.declared.Listed.{Listed}
 use Rattle.printing.specs.declared.Listed.the-variants.{Text, Refused}

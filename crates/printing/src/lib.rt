@@ -7,7 +7,7 @@ use listing::sheet_line;
 use plan::limits::LISTING_SIZE;
 use plan::limits::MOST_CELLS;
 use plan::limits::SCRATCH_SIZE;
-use planfile::Reading;
+use planfile_spec::Reading;
 ghost use mathlib.Core.Path.{_≡_};
 ghost use Prim.Native.Nat.{_+_, _*_, _≤_, _<_};
 ghost use lib.ListN.{length};

@@ -8,10 +8,10 @@ use lib.ListN.{length, drop}
 use Rattle.plan.specs.Questions.{to-fill, nothing, read, refusal}
 use Rattle.plan.specs.declared.Record.{Record}
 use Rattle.plan.specs.declared.Refusal.{Refusal}
-use Rattle.planfile.specs.Format.{trailer-of, records-of, file-given}
+use Rattle.planfile_spec.specs.Format.{trailer-of, records-of, file-given}
 use Rattle.read_entry.specs.declared.ReadAnswer.{ReadAnswer}
 use Rattle.read_entry.specs.declared.ReadAnswer.the-variants.{Plan, Refused}
-use Rattle.planfile.specs.Reading.{reading-of}
+use Rattle.planfile_spec.specs.Reading.{reading-of}
 use Rattle.read_entry.specs.declared.Parsed.{Parsed}
 
 -- the refusal, for a table to fill of so many records

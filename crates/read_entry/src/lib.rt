@@ -1,6 +1,6 @@
 // READ, over a lent file and a lent table to fill. It asks nothing of its caller.
 use plan::Record;
-use planfile::Reading;
+use planfile_spec::Reading;
 use records::fill;
 ghost use mathlib.Core.Path.{_≡_};
 ghost use Rattle.read_entry.specs.Read.{Reads, «read-of»};

@@ -9,7 +9,7 @@ use Rattle.plan.specs.Lists.{from}
 use Rattle.plan.specs.declared.Record.{Record}
 use Rattle.plan.specs.declared.Columns.{Columns}
 use Rattle.plan.specs.declared.Lettered.{Lettered}
-use Rattle.planfile.specs.Reading.{column}
+use Rattle.planfile_spec.specs.Reading.{column}
 
 -- stands past the end of a table
 abbrev pub no-record : Record

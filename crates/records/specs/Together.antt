@@ -3,7 +3,7 @@ use mathlib.Core.List.{List}
 use Prim.Native.Nat.{ℕ, zero, suc}
 use lib.ListN.{getD, set}
 use Rattle.plan.specs.declared.Record.{Record}
-use Rattle.planfile.specs.declared.Reading.{Reading}
+use Rattle.planfile_spec.specs.declared.Reading.{Reading}
 
 -- the record of cell c
 abbrev pub record-in : Reading → ℕ → Record

@@ -3,7 +3,7 @@ use plan::Columns;
 use plan::Lettered;
 use plan::Record;
 use plan::limits::MOST_CELLS;
-use planfile::Reading;
+use planfile_spec::Reading;
 ghost use mathlib.Core.Path.{_≡_};
 ghost use Prim.Native.Nat.{_<_, _≤_};
 ghost use lib.ListN.{length};

@@ -9,7 +9,7 @@ use Rattle.plan.specs.Limits.{most-cells, scratch-size}
 use Rattle.plan.specs.Questions.{to-fill, nothing, read, refusal}
 use Rattle.plan.specs.declared.Record.{Record}
 use Rattle.plan.specs.declared.Refusal.{Refusal}
-use Rattle.planfile.specs.Format.{file-given}
+use Rattle.planfile_spec.specs.Format.{file-given}
 use Rattle.season.specs.declared.Reported.{Reported}
 use Rattle.reporting.specs.Reporting.{Reports}
 

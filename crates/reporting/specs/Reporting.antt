@@ -17,9 +17,9 @@ use Rattle.plan.specs.declared.Refusal.{Refusal}
 use Rattle.rules.specs.Placement.{Placement, width, rows}
 use Rattle.contours.specs.Sheet.{sheet}
 use Rattle.positions.specs.Written.{written}
-use Rattle.planfile.specs.declared.Reading.{Reading}
-use Rattle.planfile.specs.Format.{trailer-of, entry, records-of, file-given}
-use Rattle.planfile.specs.Reading.{columns-of}
+use Rattle.planfile_spec.specs.declared.Reading.{Reading}
+use Rattle.planfile_spec.specs.Format.{trailer-of, entry, records-of, file-given}
+use Rattle.planfile_spec.specs.Reading.{columns-of}
 use Rattle.season.specs.Report.{Figure, report}
 use Rattle.season.specs.declared.Reported.{Reported}
 use Rattle.season.specs.declared.Reported.the-variants.{Figures, Refused}

@@ -3,10 +3,10 @@ use asking::asked;
 use layout::draw;
 use plan::limits::MOST_CELLS;
 use plan::limits::SCRATCH_SIZE;
-use planfile::Reading;
-use planfile::formed_refusal;
 use planfile::refused;
-use planfile::trailer_of;
+use planfile_cursor::trailer;
+use planfile_header::formed_refusal;
+use planfile_spec::Reading;
 use season::Reported;
 use season::single;
 ghost use mathlib.Core.Path.{_≡_};
@@ -43,7 +43,7 @@ fn read_for(file: &[u8], room: usize, scratch: usize, positions: usize) -> Readi
     if formed.number != 0 {
         return refused(formed);
     }
-    let t = trailer_of(file);
+    let t = trailer(file);
     let placed = asked(1, 2 * (t.count as usize) <= positions, 0);
     if placed.number != 0 {
         return refused(placed);

@@ -5,56 +5,30 @@ use Prim.Native.Nat.{ℕ, zero, suc, _+_, _*_}
 use lib.Dec.{eqb}
 use lib.IntN.{ℤ, pos}
 use lib.Ieee.{Float, binary64, ofInt, add, mul}
-use lib.ListN.{length, getD, replicate}
+use lib.ListN.{getD, replicate}
 use Rattle.whole.specs.Whole.{plus}
 use Rattle.plan.specs.Limits.{most-cells}
 use Rattle.plan.specs.Pages.{fair}
 use Rattle.plan.specs.declared.Page.{Page}
 use Rattle.rules.specs.Placement.{placed, width, rows}
 use Rattle.positions.specs.Written.{written}
-use Rattle.planfile.specs.declared.Reading.{Reading}
-use Rattle.planfile.specs.Reading.{reading-of}
-use Rattle.listing.specs.Printed.{Bytes, space, refused-line}
+use Rattle.planfile_spec.specs.declared.Reading.{Reading}
+use Rattle.planfile_spec.specs.Reading.{reading-of}
+use Rattle.listing.specs.Printed.{Bytes, refused-line}
 use Rattle.printing.specs.Printing.{label-bytes, read-table, ours}
-use Rattle.decimals.specs.Fixed.{millimetres}
 use Rattle.pen.specs.declared.Stroke.{Stroke}
-use Rattle.pen.specs.declared.Stroke.the-variants.{Move, Line, Lift}
+use Rattle.pen.specs.declared.Stroke.the-variants.{Lift}
 use Rattle.pen.specs.Strokes.{strokes}
-use Rattle.svg.specs.Words.{svg-open, mm-height, mm-view, strokes-open, path-open, line-word, path-close, labels-open, labels-scaled, text-open, text-y, text-shift, text-close, svg-close, amp-word, lt-word, gt-word}
+use Rattle.svg_strokes.specs.Strokes.{stroke-text, head-text}
+use Rattle.svg_labels.specs.Labels.{label-text, labels-head}
+use Rattle.svg.specs.Words.{svg-close}
 
 -- ---- the strokes: a path from each move to its lift
-unfoldable pub point-text : (x y : Float) → Bytes
-point-text x y = millimetres x ++ (space ∷ millimetres y)
-
-unfoldable pub stroke-text : Stroke → Bytes
-stroke-text (Move x y) = path-open ++ point-text x y
-stroke-text (Line x y) = line-word ++ point-text x y
-stroke-text Lift = path-close
-
 unfoldable pub strokes-text : List Stroke → Bytes
 strokes-text [] = []
 strokes-text (s ∷ l) = stroke-text s ++ strokes-text l
 
 -- ---- the labels
-unfoldable pub letter : ℕ → Bytes
-letter b = cond (eqb b 38) amp-word (cond (eqb b 60) lt-word (cond (eqb b 62) gt-word (b ∷ [])))
-
-unfoldable pub escaped : Bytes → Bytes
-escaped [] = []
-escaped (b ∷ bs) = letter b ++ escaped bs
-
--- a label beside the point where its box's lower left corner is: the end of the line that is stroke 3 of the box; no text where it is empty
-unfoldable pub label-at : (x y : Float) → Bytes → Bytes
-label-at x y l = text-open ++ (millimetres x ++ (text-y ++ (millimetres y ++ (text-shift ++ (escaped l ++ text-close)))))
-
-unfoldable pub at-line : Stroke → Bytes → Bytes
-at-line (Move x y) l = []
-at-line (Line x y) l = label-at x y l
-at-line Lift l = []
-
-unfoldable pub label-text : Stroke → Bytes → Bytes
-label-text s l = cond (eqb (length l) 0) [] (at-line s l)
-
 -- those of the first n cells, by the strokes l
 unfoldable pub labels-text : (l : List Stroke) (file : Bytes) → ℕ → Bytes
 labels-text l f zero = []
@@ -63,12 +37,6 @@ labels-text l f (suc c) = labels-text l f c ++ label-text (getD l (6 * c + 3) Li
 -- ---- the page: as long as so many lattice units, with a margin on both sides
 unfoldable pub side : (units : ℕ) (pitch margin : Float) → Float
 side n p m = add binary64 (add binary64 (mul binary64 (ofInt binary64 (pos n)) p) m) m
-
-unfoldable pub head-text : (wide high : Float) → Bytes
-head-text w h = svg-open ++ (millimetres w ++ (mm-height ++ (millimetres h ++ (mm-view ++ (point-text w h ++ strokes-open)))))
-
-unfoldable pub labels-head : (pitch : Float) → Bytes
-labels-head p = labels-open ++ (millimetres p ++ labels-scaled)
 
 -- ---- of a plan that is read: our sheet, as Layout writes it
 unfoldable pub our-positions : Reading → List ℤ

@@ -1,21 +1,20 @@
 // The drawing of a plan file in SVG, as bytes: its strokes as paths and its labels as texts, in millimetres; or the line of a refusal.
-use decimals::put_byte;
-use decimals::put_decimal;
-use decimals::put_millimetres;
 use decimals::put_refused;
 use decimals::put_text;
-use pen::Stroke;
 use plan::Columns;
 use plan::Page;
 use plan::limits::MOST_CELLS;
 use plan::limits::SCRATCH_SIZE;
-use planfile::Reading;
+use planfile_spec::Reading;
 use strokes::drawn;
 use strokes::fair;
+use svg_labels::put_label;
+use svg_labels::put_labels_head;
+use svg_strokes::put_head;
+use svg_strokes::put_stroke;
 ghost use mathlib.Core.Path.{_≡_};
 ghost use Prim.Native.Nat.{_+_, _*_, _-_, _≤_};
 ghost use lib.ListN.{length};
-ghost use Rattle.plan.specs.Limits.{«most-label»};
 ghost use Rattle.plan.specs.Columns.{«table-of»};
 ghost use Rattle.plan.specs.Fit.{Fit};
 ghost use Rattle.plan.specs.Near.{Near};
@@ -23,43 +22,13 @@ ghost use Rattle.rules.specs.Placement.{placed};
 ghost use Rattle.pen.specs.Strokes.{strokes};
 ghost use Rattle.listing.specs.Put.{Put};
 ghost use Rattle.printing.specs.Printing.{Taken};
-ghost use Rattle.svg.specs.Drawing.{«point-text», «stroke-text», «strokes-text», letter, escaped, «label-at», «label-text», side, «head-text», «labels-head», «labels-text», «sheet-text», «drawing-of»};
-ghost use Rattle.svg.specs.Sizes.{«point-size», «stroke-size», «label-size», «head-size», «labels-head-size», «drawing-size»};
+ghost use Rattle.svg_strokes.specs.Sizes.{«stroke-size»};
+ghost use Rattle.svg_labels.specs.Sizes.{«label-size»};
+ghost use Rattle.svg.specs.Drawing.{«strokes-text», side, «labels-text», «sheet-text», «drawing-of»};
+ghost use Rattle.svg.specs.Sizes.{«drawing-size»};
 
 // Bytes of an output for a drawing: more than the longest has.
 pub const DRAWING_SIZE: usize = 262144;
-
-const SPACE: u8 = 32;
-
-const LINE_FEED: u8 = 10;
-
-// A point: x, a space, y.
-fn put_point(x: f64, y: f64, out: &mut [u8], at: usize) -> usize
-    requires { ⌜ at + point-size ≤ length (now out) ⌝ }
-    ensures { λ r. ⌜ Put (now (out .entry)) at (point-text x y) (now (out .exit)) r × (r ≤ at + point-size) ⌝ }
-{
-    let a = put_millimetres(x, out, at);
-    let b = put_byte(SPACE, out, a);
-    put_millimetres(y, out, b)
-}
-
-// A stroke.
-fn put_stroke(stroke: Stroke, out: &mut [u8], at: usize) -> usize
-    requires { ⌜ at + stroke-size ≤ length (now out) ⌝ }
-    ensures { λ r. ⌜ Put (now (out .entry)) at (stroke-text stroke) (now (out .exit)) r × (r ≤ at + stroke-size) ⌝ }
-{
-    match stroke {
-        Stroke::Move(x, y) => {
-            let a = put_text(b"<path d=\"M", out, at);
-            put_point(x, y, out, a)
-        }
-        Stroke::Line(x, y) => {
-            let b = put_text(b"L", out, at);
-            put_point(x, y, out, b)
-        }
-        Stroke::Lift => put_text(b"\"/>\n", out, at),
-    }
-}
 
 // All strokes of a sheet.
 fn put_strokes(t: Columns, positions: &[i32], page: Page, out: &mut [u8], at: usize) -> usize
@@ -75,66 +44,6 @@ fn put_strokes(t: Columns, positions: &[i32], page: Page, out: &mut [u8], at: us
         s += 1;
     }
     next
-}
-
-// A letter of a label, as a text of SVG has it.
-fn put_letter(b: u8, out: &mut [u8], at: usize) -> usize
-    requires { ⌜ at + 5 ≤ length (now out) ⌝ }
-    ensures { λ r. ⌜ Put (now (out .entry)) at (letter b) (now (out .exit)) r × (r ≤ at + 5) ⌝ }
-{
-    if b == 38 {
-        return put_text(b"&amp;", out, at);
-    }
-    if b == 60 {
-        return put_text(b"&lt;", out, at);
-    }
-    if b == 62 {
-        return put_text(b"&gt;", out, at);
-    }
-    put_byte(b, out, at)
-}
-
-// The letters of a label.
-fn put_letters(label: &[u8], out: &mut [u8], at: usize) -> usize
-    requires { ⌜ at + 5 * length (now label) ≤ length (now out) ⌝ }
-    ensures { λ r. ⌜ Put (now (out .entry)) at (escaped (now (label .entry))) (now (out .exit)) r × (r ≤ at + 5 * length (now (label .entry))) ⌝ }
-{
-    let mut next = at;
-    let mut i: usize = 0;
-    while i < label.len() {
-        next = put_letter(label[i], out, next);
-        i += 1;
-    }
-    next
-}
-
-// A label that is not empty, at a point.
-fn put_label_at(x: f64, y: f64, label: &[u8], out: &mut [u8], at: usize) -> usize
-    requires { ⌜ (length (now label) ≤ most-label) × (at + label-size ≤ length (now out)) ⌝ }
-    ensures { λ r. ⌜ Put (now (out .entry)) at (label-at x y (now (label .entry))) (now (out .exit)) r × (r ≤ at + label-size) ⌝ }
-{
-    let a = put_text(b"<text x=\"", out, at);
-    let b = put_millimetres(x, out, a);
-    let c = put_text(b"\" y=\"", out, b);
-    let d = put_millimetres(y, out, c);
-    let e = put_text(b"\" dx=\"0.4em\" dy=\"-0.3em\">", out, d);
-    let f = put_letters(label, out, e);
-    put_text(b"</text>\n", out, f)
-}
-
-// A label where a line ends; nothing where it is empty.
-fn put_label(stroke: Stroke, label: &[u8], out: &mut [u8], at: usize) -> usize
-    requires { ⌜ (length (now label) ≤ most-label) × (at + label-size ≤ length (now out)) ⌝ }
-    ensures { λ r. ⌜ Put (now (out .entry)) at (label-text stroke (now (label .entry))) (now (out .exit)) r × (r ≤ at + label-size) ⌝ }
-{
-    if label.len() == 0 {
-        return at;
-    }
-    match stroke {
-        Stroke::Move(_, _) => at,
-        Stroke::Line(x, y) => put_label_at(x, y, label, out, at),
-        Stroke::Lift => at,
-    }
 }
 
 // All labels.
@@ -165,38 +74,6 @@ fn side(units: u32, pitch: f64, margin: f64) -> f64
     ensures { λ r. ⌜ r ≡ side units pitch margin ⌝ }
 {
     (units as f64) * pitch + margin + margin
-}
-
-// What stands before the strokes.
-fn put_head(wide: f64, high: f64, out: &mut [u8], at: usize) -> usize
-    requires { ⌜ at + head-size ≤ length (now out) ⌝ }
-    ensures { λ r. ⌜ Put (now (out .entry)) at (head-text wide high) (now (out .exit)) r × (r ≤ at + head-size) ⌝ }
-{
-    let a = put_text(
-        b"<svg xmlns=\"http://www.w3.org/2000/svg\" width=\"",
-        out,
-        at,
-    );
-    let b = put_millimetres(wide, out, a);
-    let c = put_text(b"mm\" height=\"", out, b);
-    let d = put_millimetres(high, out, c);
-    let e = put_text(b"mm\" viewBox=\"0 0 ", out, d);
-    let f = put_point(wide, high, out, e);
-    put_text(
-        b"\">\n<g fill=\"none\" stroke=\"black\" stroke-width=\"0.35\" stroke-linejoin=\"round\">\n",
-        out,
-        f,
-    )
-}
-
-// What stands before the labels.
-fn put_labels_head(pitch: f64, out: &mut [u8], at: usize) -> usize
-    requires { ⌜ at + labels-head-size ≤ length (now out) ⌝ }
-    ensures { λ r. ⌜ Put (now (out .entry)) at (labels-head pitch) (now (out .exit)) r × (r ≤ at + labels-head-size) ⌝ }
-{
-    let a = put_text(b"</g>\n<g font-family=\"monospace\" font-size=\"", out, at);
-    let b = put_millimetres(pitch, out, a);
-    put_text(b"\"><g font-size=\"70%\">\n", out, b)
 }
 
 // The drawing of a plan that Read gave, on a page that question 17 passes.

@@ -7,8 +7,8 @@ use lib.Dec.{eqb}
 use lib.ListN.{length, getD}
 use Rattle.plan.specs.Limits.{most-cells, most-steps, most-answers}
 use Rattle.plan.specs.Questions.{refusal, drill, drill-given}
-use Rattle.planfile.specs.declared.Reading.{Reading}
-use Rattle.planfile.specs.Reading.{reading-of}
+use Rattle.planfile_spec.specs.declared.Reading.{Reading}
+use Rattle.planfile_spec.specs.Reading.{reading-of}
 use Rattle.listing.specs.Printed.{Bytes, refused-line, step-line, end-line}
 use Rattle.printing.specs.Printing.{label-bytes, read-table}
 use Rattle.moves.specs.Drill.{drill-of}

@@ -7,7 +7,7 @@ use listing::refused_line;
 use listing::step_line;
 use plan::limits::MOST_CELLS;
 use plan::limits::MOST_STEPS;
-use planfile::Reading;
+use planfile_spec::Reading;
 use printing::label_at;
 use whole::numbers::wide16;
 ghost use mathlib.Core.Path.{_≡_};

@@ -1,5 +1,5 @@
 use mathlib.Core.Path.{ap}
-use Rattle.planfile.specs.declared.Part.{Part}
+use Rattle.planfile_spec.specs.declared.Part.{Part}
 use borrow.Author.Needs.{needs}
 use Rattle.capi.proofs.kuzpalen_label.Statement.{statement}
 use Rattle.capi.proofs.kuzpalen_label.Tie as tie

@@ -20,8 +20,8 @@ use Rattle.plan.specs.declared.Record.{Record}
 use Rattle.plan.specs.declared.Refusal.{Refusal}
 use Rattle.plan.specs.declared.forms.Form.{Form}
 use Rattle.plan.specs.declared.forms.Form.the-variants.{Wide}
-use Rattle.planfile.specs.Format.{label-in}
-use Rattle.planfile.specs.FileSteps.{record-refusal}
+use Rattle.planfile_spec.specs.Format.{label-in}
+use Rattle.planfile_spec.specs.FileSteps.{record-refusal}
 use Rattle.content.specs.Clean.{copy-refusal}
 
 -- questions 6 to 10 at a record, against so many label bytes; and at each of a run of them, from cell c on

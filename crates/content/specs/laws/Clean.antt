@@ -18,9 +18,9 @@ use Rattle.plan.specs.laws.Steps.{and-left, and-right}
 use Rattle.plan.specs.declared.Record.{Record}
 use Rattle.plan.specs.declared.forms.Form.{Form}
 use Rattle.plan.specs.declared.forms.Form.the-variants.{Old, Wide}
-use Rattle.planfile.specs.declared.Trailer.{Trailer}
-use Rattle.planfile.specs.Fields.{pair, set-pair, number-at, set-number, set-record, set-trailer, parent-place, kind-place, width-place, depth-place, length-place, rank-place, start-place, begin-place, count-place, allowance-place, mark-place}
-use Rattle.planfile.specs.Format.{trailer-of, record-at, entry, records-of}
+use Rattle.planfile_spec.specs.declared.Trailer.{Trailer}
+use Rattle.planfile_spec.specs.Fields.{pair, set-pair, number-at, set-number, set-record, set-trailer, parent-place, kind-place, width-place, depth-place, length-place, rank-place, start-place, begin-place, count-place, allowance-place, mark-place}
+use Rattle.planfile_spec.specs.Format.{trailer-of, record-at, entry, records-of}
 use Rattle.content.specs.Content.{Item, Content, text-of, item-of, content, letters-of, file-content}
 use Rattle.content.specs.Clean.{narrow, all-narrow, form-for, mark-of, labels, record-of, entries, record-bytes, records-bytes, trailer-bytes, clean-end, clean}
 

@@ -19,7 +19,7 @@ use Rattle.plan.specs.declared.Record.{Record}
 use Rattle.plan.specs.declared.Refusal.{Refusal}
 use Rattle.plan.specs.declared.forms.Form.{Form}
 use Rattle.plan.specs.declared.forms.Form.the-variants.{Old, Wide}
-use Rattle.planfile.specs.FileSteps.{inside, record-refusal}
+use Rattle.planfile_spec.specs.FileSteps.{inside, record-refusal}
 use Rattle.content.specs.Content.{Item, text-of, item-of}
 use Rattle.content.specs.Clean.{narrow, all-narrow, form-for, labels, record-of, entries}
 use Rattle.content.specs.laws.Asked.{row-refusal, rows-refusal}

@@ -20,11 +20,11 @@ use Rattle.plan.specs.declared.Record.{Record}
 use Rattle.plan.specs.declared.Refusal.{Refusal}
 use Rattle.plan.specs.declared.forms.Form.{Form}
 use Rattle.plan.specs.declared.forms.Form.the-variants.{Old, Wide}
-use Rattle.planfile.specs.declared.Trailer.{Trailer}
-use Rattle.planfile.specs.Format.{trailer-of, form, entry, records-of, file-given}
-use Rattle.planfile.specs.FileSteps.{counted, formed-refusal, header-refusal, body-refusal, file-refusal}
-use Rattle.planfile.specs.laws.File.{records-length, read-refusal}
-use Rattle.planfile.specs.laws.Examined.{header-read}
+use Rattle.planfile_spec.specs.declared.Trailer.{Trailer}
+use Rattle.planfile_spec.specs.Format.{trailer-of, form, entry, records-of, file-given}
+use Rattle.planfile_spec.specs.FileSteps.{counted, formed-refusal, header-refusal, body-refusal, file-refusal}
+use Rattle.planfile_spec.specs.laws.File.{records-length, read-refusal}
+use Rattle.planfile_spec.specs.laws.Examined.{header-read}
 use Rattle.content.specs.Content.{Item, Content, item-of, content, letters-of}
 use Rattle.content.specs.Clean.{form-for, mark-of, labels, entries, copy, copy-refusal}
 use Rattle.content.specs.laws.Clean.{clean-trailer, clean-length, clean-form, clean-records, clean-letters, bare-entries}

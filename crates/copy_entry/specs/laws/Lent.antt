@@ -12,7 +12,7 @@ use Rattle.plan.specs.declared.Lettered.{Lettered}
 use Rattle.plan.specs.Questions.{in-file, puts, copy-output, copy, copy-given}
 use Rattle.plan.specs.laws.Crowded.{refusal-crowded, crowded-refuses}
 use Rattle.plan.specs.declared.Refusal.{Refusal}
-use Rattle.planfile.specs.Format.{label-in}
+use Rattle.planfile_spec.specs.Format.{label-in}
 use Rattle.content.specs.Clean.{copy-refusal}
 use Rattle.copying.specs.Copied.{copied-of, output-after, Copies}
 use Rattle.copying.specs.declared.Copied.{Copied}

@@ -1,7 +1,7 @@
 use mathlib.Core.Path.{refl, sym, ap}
 use lib.ListN.{take}
 use lib.Seq.{length-take-le}
-use Rattle.planfile.specs.declared.Trailer.{Trailer}
+use Rattle.planfile_spec.specs.declared.Trailer.{Trailer}
 use Rattle.copying.specs.laws.Cleaned.{clean-refused, clean-long, clean-begin, clean-copied}
 use borrow.Author.Needs.{needs}
 use Rattle.copying.proofs.clean.Statement.{statement}

@@ -4,7 +4,7 @@ use Rattle.plan.specs.Questions.{asked}
 use Rattle.plan.specs.laws.Questions.{stops, goes-on}
 use Rattle.plan.specs.laws.Steps.{counted-read}
 use Rattle.plan.specs.declared.forms.Form.the-variants.{Wide}
-use Rattle.planfile.specs.laws.Examined.{records-lower, records-flat}
+use Rattle.planfile_spec.specs.laws.Examined.{records-lower, records-flat}
 use Rattle.copying.specs.Steps.{lettered-steps}
 use borrow.Author.Needs.{needs}
 use Rattle.copying.proofs.copy_refusal.Statement.{statement}

@@ -13,12 +13,12 @@ use Rattle.plan.specs.laws.Questions.{both-none}
 use Rattle.plan.specs.declared.Record.{Record}
 use Rattle.plan.specs.declared.Lettered.{Lettered}
 use Rattle.plan.specs.declared.Refusal.{Refusal}
-use Rattle.planfile.specs.declared.Reading.{Reading}
-use Rattle.planfile.specs.Format.{trailer-of, entry, records-of, file-given}
-use Rattle.planfile.specs.Reading.{columns-of, reading-of}
-use Rattle.planfile.specs.FileSteps.{header-refusal, body-refusal, file-refusal}
-use Rattle.planfile.specs.laws.File.{read-refusal}
-use Rattle.planfile.specs.laws.Examined.{Headed, header-read, column-at}
+use Rattle.planfile_spec.specs.declared.Reading.{Reading}
+use Rattle.planfile_spec.specs.Format.{trailer-of, entry, records-of, file-given}
+use Rattle.planfile_spec.specs.Reading.{columns-of, reading-of}
+use Rattle.planfile_spec.specs.FileSteps.{header-refusal, body-refusal, file-refusal}
+use Rattle.planfile_spec.specs.laws.File.{read-refusal}
+use Rattle.planfile_spec.specs.laws.Examined.{Headed, header-read, column-at}
 use Rattle.records.specs.Apart.{row-at, records-in}
 use Rattle.content.specs.Content.{letters-of, file-content}
 use Rattle.content.specs.Clean.{copy, file-copy, copy-refusal}

@@ -24,7 +24,7 @@ use Rattle.plan.specs.declared.Lettered.{Lettered}
 use Rattle.plan.specs.declared.Refusal.{Refusal}
 use Rattle.plan.specs.declared.forms.Form.{Form}
 use Rattle.plan.specs.declared.forms.Form.the-variants.{Old, Wide}
-use Rattle.planfile.specs.FileSteps.{records-at}
+use Rattle.planfile_spec.specs.FileSteps.{records-at}
 use Rattle.records.specs.Apart.{row-at, records-in}
 use Rattle.records.specs.laws.Apart.{records-length}
 use Rattle.content.specs.Content.{Item, text-of, item-of, content}

@@ -11,7 +11,7 @@ use Rattle.plan.specs.laws.Kept.{none-first}
 use Rattle.plan.specs.declared.Refusal.{Refusal}
 use Rattle.least.specs.laws.Refusals.{step-read, step-show, steps-read, steps-show}
 use Rattle.plan.specs.declared.Record.{Record}
-use Rattle.planfile.specs.Reading.{label-refusal}
+use Rattle.planfile_spec.specs.Reading.{label-refusal}
 use Rattle.content.specs.Clean.{copy-refusal}
 use Rattle.graft.specs.Sequence.{Asks, of, join-sequence, join-given, ask-one, ask-all, join-refusal}
 

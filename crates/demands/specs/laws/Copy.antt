@@ -11,7 +11,7 @@ use Rattle.plan.specs.Limits.{most-cells, most-file}
 use Rattle.plan.specs.Questions.{none}
 use Rattle.plan.specs.declared.Record.{Record}
 use Rattle.plan.specs.declared.Refusal.{Refusal}
-use Rattle.planfile.specs.Format.{trailer-of, records-of}
+use Rattle.planfile_spec.specs.Format.{trailer-of, records-of}
 use Rattle.content.specs.Content.{content, letters-of, file-content}
 use Rattle.content.specs.Clean.{clean, copy, copy-refusal}
 use Rattle.content.specs.Promised.{read-copied, copy-read}

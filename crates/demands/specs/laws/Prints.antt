@@ -20,12 +20,12 @@ use Rattle.plan.specs.declared.Record.{Record}
 use Rattle.plan.specs.declared.Refusal.{Refusal}
 use Rattle.rules.specs.Placement.{Placement, placed, Agree, width, rows}
 use Rattle.contours.specs.Sheet.{sheet}
-use Rattle.planfile.specs.declared.Reading.{Reading}
-use Rattle.planfile.specs.Format.{trailer-of, entry}
-use Rattle.planfile.specs.Reading.{columns-of, reading-of}
-use Rattle.planfile.specs.FileSteps.{header-refusal, body-refusal, file-refusal}
-use Rattle.planfile.specs.laws.File as Law
-use Rattle.planfile.specs.laws.Examined.{zero-of, Headed, header-read, same-table}
+use Rattle.planfile_spec.specs.declared.Reading.{Reading}
+use Rattle.planfile_spec.specs.Format.{trailer-of, entry}
+use Rattle.planfile_spec.specs.Reading.{columns-of, reading-of}
+use Rattle.planfile_spec.specs.FileSteps.{header-refusal, body-refusal, file-refusal}
+use Rattle.planfile_spec.specs.laws.File as Law
+use Rattle.planfile_spec.specs.laws.Examined.{zero-of, Headed, header-read, same-table}
 use Rattle.layout.specs.Laid.{Lays}
 use Rattle.layout.specs.laws.Laid.{sheet-wide, sheet-deep}
 use Rattle.layout.specs.declared.Laid.the-variants.{Sheet}

@@ -15,12 +15,12 @@ use Rattle.plan.specs.Questions.{none, layout, refusal, layout-given}
 use Rattle.plan.specs.laws.Questions.{both-none}
 use Rattle.plan.specs.declared.Record.{Record}
 use Rattle.plan.specs.declared.Refusal.{Refusal}
-use Rattle.planfile.specs.Format.{trailer-of, entry, records-of}
-use Rattle.planfile.specs.Reading.{label-refusal}
-use Rattle.planfile.specs.FileSteps.{file-refusal}
-use Rattle.planfile.specs.laws.File as Law
-use Rattle.planfile.specs.laws.Examined.{zero-of}
-use Rattle.planfile.specs.laws.ReadThen.{file-label, file-layout, part-of-record}
+use Rattle.planfile_spec.specs.Format.{trailer-of, entry, records-of}
+use Rattle.planfile_spec.specs.Reading.{label-refusal}
+use Rattle.planfile_spec.specs.FileSteps.{file-refusal}
+use Rattle.planfile_spec.specs.laws.File as Law
+use Rattle.planfile_spec.specs.laws.Examined.{zero-of}
+use Rattle.planfile_spec.specs.laws.ReadThen.{file-label, file-layout, part-of-record}
 use Rattle.read_entry.specs.declared.ReadAnswer.{ReadAnswer}
 use Rattle.read_entry.specs.declared.ReadAnswer.the-variants.{Plan, Refused}
 use Rattle.read_entry.specs.Read.{read-refusal, read-answered, table-after, Reads}

@@ -10,9 +10,9 @@ use lib.ListN.{length}
 use Rattle.plan.specs.Questions.{none, layout, refusal, layout-given}
 use Rattle.plan.specs.declared.Record.{Record}
 use Rattle.plan.specs.declared.Refusal.{Refusal}
-use Rattle.planfile.specs.Format.{trailer-of}
-use Rattle.planfile.specs.laws.File as Law
-use Rattle.planfile.specs.laws.ReadThen.{read-then-layout}
+use Rattle.planfile_spec.specs.Format.{trailer-of}
+use Rattle.planfile_spec.specs.laws.File as Law
+use Rattle.planfile_spec.specs.laws.ReadThen.{read-then-layout}
 use Rattle.layout.specs.Laid.{laid-of, positions-after, scratch-after, Lays}
 use Rattle.layout.specs.declared.Laid.the-variants.{Sheet}
 use Rattle.season.specs.Report.{report}

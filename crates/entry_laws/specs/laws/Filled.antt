@@ -7,10 +7,10 @@ use lib.ListN.{length, drop}
 use Rattle.plan.specs.Limits.{most-cells}
 use Rattle.plan.specs.Questions.{none}
 use Rattle.plan.specs.declared.Record.{Record}
-use Rattle.planfile.specs.Format.{trailer-of, entry, records-of}
-use Rattle.planfile.specs.Reading.{columns-of}
-use Rattle.planfile.specs.laws.Examined.{column-at}
-use Rattle.planfile.specs.declared.Reading.{Reading}
+use Rattle.planfile_spec.specs.Format.{trailer-of, entry, records-of}
+use Rattle.planfile_spec.specs.Reading.{columns-of}
+use Rattle.planfile_spec.specs.laws.Examined.{column-at}
+use Rattle.planfile_spec.specs.declared.Reading.{Reading}
 use Rattle.records.specs.Together.{record-in, filled}
 use Rattle.records.specs.laws.Together.{filled-all}
 

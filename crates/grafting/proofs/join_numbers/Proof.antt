@@ -1,7 +1,7 @@
 use Prim.Native.Nat.{_≤_, _-_}
 use mathlib.Core.Path.{_≡_}
 use native.Mathlib.Omega.{arith}
-use Rattle.planfile.specs.Reading.{column}
+use Rattle.planfile_spec.specs.Reading.{column}
 use Rattle.grafting.specs.Grafted.{picked}
 use Rattle.grafting.specs.laws.Grafted.{column-none, column-more, column-all}
 use borrow.Author.Needs.{needs}

@@ -19,7 +19,7 @@ use Rattle.plan.specs.laws.Steps.{counted-read, cells-lower, cells-flat}
 use Rattle.plan.specs.declared.Columns.{Columns}
 use Rattle.plan.specs.declared.Lettered.{Lettered}
 use Rattle.plan.specs.declared.Refusal.{Refusal}
-use Rattle.planfile.specs.laws.Examined.{zero-of, column-at}
+use Rattle.planfile_spec.specs.laws.Examined.{zero-of, column-at}
 use Rattle.graft.specs.Joined.{joined}
 use Rattle.graft.specs.Sequence.{join-refusal}
 use Rattle.graft.specs.laws.Joined.{length-joined, joined-sound}

@@ -16,10 +16,10 @@ use Rattle.plan.specs.Questions.{none}
 use Rattle.plan.specs.declared.Columns.{Columns}
 use Rattle.plan.specs.declared.Lettered.{Lettered}
 use Rattle.plan.specs.declared.Refusal.{Refusal}
-use Rattle.planfile.specs.declared.Reading.{Reading}
-use Rattle.planfile.specs.Reading.{column}
-use Rattle.planfile.specs.FileSteps.{blank-reading}
-use Rattle.planfile.specs.laws.Examined.{column-at}
+use Rattle.planfile_spec.specs.declared.Reading.{Reading}
+use Rattle.planfile_spec.specs.Reading.{column}
+use Rattle.planfile_spec.specs.FileSteps.{blank-reading}
+use Rattle.planfile_spec.specs.laws.Examined.{column-at}
 use Rattle.graft.specs.Joined.{joined}
 use Rattle.graft.specs.laws.Joined.{length-joined, first-parent, first-kind, first-width, first-depth, first-rank, root-parent, second-parent, second-kind, second-width, second-depth, second-rank}
 use Rattle.grafting.specs.declared.Graft.{Graft}

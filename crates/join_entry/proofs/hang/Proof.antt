@@ -43,14 +43,14 @@ use Rattle.join_entry.specs.Hung.{Hangs}
 use Rattle.join_entry.specs.laws.Join.{hang-fits, hang-is}
 use Rattle.plan.specs.declared.Record.{Record}
 use Rattle.plan.specs.declared.Lettered.{Lettered}
-use Rattle.planfile.specs.declared.Reading.{Reading}
+use Rattle.planfile_spec.specs.declared.Reading.{Reading}
 use Rattle.grafting.specs.declared.Graft.{Graft}
 use Rattle.grafting.specs.declared.JoinAnswer.{JoinAnswer}
 use Rattle.plan.proofs.Record as T
 use Rattle.plan.proofs.Lettered as L
 use Rattle.plan.proofs.Lettered.Laws as L′
-use Rattle.planfile.proofs.Reading as R
-use Rattle.planfile.proofs.Reading.Laws as R′
+use Rattle.planfile_spec.proofs.Reading as R
+use Rattle.planfile_spec.proofs.Reading.Laws as R′
 use Rattle.grafting.proofs.Graft as G
 use Rattle.grafting.proofs.Graft.Laws as G′
 use Rattle.grafting.proofs.JoinAnswer as N

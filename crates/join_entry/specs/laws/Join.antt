@@ -17,9 +17,9 @@ use Rattle.plan.specs.Records.{cells-of}
 use Rattle.plan.specs.declared.Record.{Record}
 use Rattle.plan.specs.declared.Lettered.{Lettered}
 use Rattle.plan.specs.declared.Refusal.{Refusal}
-use Rattle.planfile.specs.declared.Reading.{Reading}
-use Rattle.planfile.specs.Reading.{column, columns-of}
-use Rattle.planfile.specs.laws.Examined.{column-at}
+use Rattle.planfile_spec.specs.declared.Reading.{Reading}
+use Rattle.planfile_spec.specs.Reading.{column, columns-of}
+use Rattle.planfile_spec.specs.laws.Examined.{column-at}
 use Rattle.records.specs.Apart.{no-record, lent-at, columns, lettering, lent-columns, lent-lettered, row-at, records-in}
 use Rattle.records.specs.laws.Apart.{of-records, apart-records}
 use Rattle.records.specs.Together.{record-in, filled}

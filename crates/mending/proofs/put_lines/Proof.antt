@@ -3,7 +3,7 @@ use mathlib.Core.Path.{_≡_, refl}
 use native.Mathlib.Omega.{arith}
 use lib.ListN.{length}
 use Rattle.plan.specs.Forms.{record-size}
-use Rattle.planfile.specs.Format.{record-at}
+use Rattle.planfile_spec.specs.Format.{record-at}
 use Rattle.listing.specs.Put.{Put}
 use Rattle.mending.specs.Steps.{line-room, alterations-text}
 use Rattle.mending_boxes.specs.laws.Code.{place-room}

@@ -1,6 +1,6 @@
 use mathlib.Core.Path.{ap, _∙_}
 use native.Mathlib.Omega.{arith}
-use Rattle.planfile.specs.Format.{record-at}
+use Rattle.planfile_spec.specs.Format.{record-at}
 use Rattle.mending.proofs.record_of.Statement.{statement}
 use Rattle.mending.proofs.record_of.Tie as tie
 

@@ -11,8 +11,8 @@ use Rattle.plan.specs.Questions.{none, asked, or-else}
 use Rattle.plan.specs.laws.Questions.{both-none, first-none}
 use Rattle.plan.specs.laws.Kept.{none-first}
 use Rattle.plan.specs.declared.Refusal.{Refusal}
-use Rattle.planfile.specs.FileSteps.{file-refusal}
-use Rattle.planfile.specs.laws.File as file
+use Rattle.planfile_spec.specs.FileSteps.{file-refusal}
+use Rattle.planfile_spec.specs.laws.File as file
 use Rattle.listing.specs.Printed.{lines-joined}
 use Rattle.mending.specs.Mended.{would-get, mended}
 use Rattle.mending.specs.Mending.{mend-given, mend-refusal, lines-of, mended-of, file-after, lines-after, Mends, MendGives}

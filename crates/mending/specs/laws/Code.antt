@@ -20,13 +20,13 @@ use Rattle.plan.specs.laws.Kept.{none-first}
 use Rattle.plan.specs.declared.Record.{Record}
 use Rattle.plan.specs.declared.Refusal.{Refusal}
 use Rattle.plan.specs.declared.forms.Form.{Form}
-use Rattle.planfile.specs.declared.Reading.{Reading}
-use Rattle.planfile.specs.declared.Trailer.{Trailer}
-use Rattle.planfile.specs.Format.{trailer-of, form, record-at, entry}
-use Rattle.planfile.specs.Reading.{columns-of, reading-of}
-use Rattle.planfile.specs.FileSteps.{file-refusal}
-use Rattle.planfile.specs.laws.File as file
-use Rattle.planfile.specs.laws.Examined.{Full}
+use Rattle.planfile_spec.specs.declared.Reading.{Reading}
+use Rattle.planfile_spec.specs.declared.Trailer.{Trailer}
+use Rattle.planfile_spec.specs.Format.{trailer-of, form, record-at, entry}
+use Rattle.planfile_spec.specs.Reading.{columns-of, reading-of}
+use Rattle.planfile_spec.specs.FileSteps.{file-refusal}
+use Rattle.planfile_spec.specs.laws.File as file
+use Rattle.planfile_spec.specs.laws.Examined.{Full}
 use Rattle.listing.specs.Printed.{Bytes, mended-line, lines-joined}
 use Rattle.listing.specs.laws.Printed.{at-most}
 use Rattle.listing.specs.Line.{line-of, text}

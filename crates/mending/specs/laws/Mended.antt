@@ -19,12 +19,12 @@ use Rattle.plan.specs.laws.Kept.{none-first}
 use Rattle.plan.specs.Steps.{cell-refusal, children-refusal, levels-refusal, rows-refusal, tree-refusal}
 use Rattle.plan.specs.declared.Record.{Record}
 use Rattle.plan.specs.declared.Refusal.{Refusal}
-use Rattle.planfile.specs.declared.Trailer.{Trailer}
-use Rattle.planfile.specs.Fields.{pair, number-at, begin-place, count-place, allowance-place, mark-place}
-use Rattle.planfile.specs.Format.{trailer-of, form, place, record-at, entry}
-use Rattle.planfile.specs.FileSteps.{counted, record-refusal, entry-refusal, formed-refusal, header-refusal, body-refusal, file-refusal}
-use Rattle.planfile.specs.laws.File.{read-refusal}
-use Rattle.planfile.specs.laws.Examined.{Full, full-read}
+use Rattle.planfile_spec.specs.declared.Trailer.{Trailer}
+use Rattle.planfile_spec.specs.Fields.{pair, number-at, begin-place, count-place, allowance-place, mark-place}
+use Rattle.planfile_spec.specs.Format.{trailer-of, form, place, record-at, entry}
+use Rattle.planfile_spec.specs.FileSteps.{counted, record-refusal, entry-refusal, formed-refusal, header-refusal, body-refusal, file-refusal}
+use Rattle.planfile_spec.specs.laws.File.{read-refusal}
+use Rattle.planfile_spec.specs.laws.Examined.{Full, full-read}
 use Rattle.mending_boxes.specs.Boxes.{changed}
 use Rattle.mending_boxes.specs.Raised.{mend-records}
 use Rattle.mending.specs.Mended.{would-get, looked-at, mended, alteration, altered-cells, altered, OnlyBoxes, differs, altered-by}

@@ -12,8 +12,8 @@ use Rattle.plan.specs.laws.Lists.{keep-read, keep-show, from-read, from-show}
 use Rattle.plan.specs.Questions.{none}
 use Rattle.plan.specs.declared.Record.{Record}
 use Rattle.plan.specs.declared.Refusal.{Refusal}
-use Rattle.planfile.specs.Format.{trailer-of, entry}
-use Rattle.planfile.specs.FileSteps.{file-refusal}
+use Rattle.planfile_spec.specs.Format.{trailer-of, entry}
+use Rattle.planfile_spec.specs.FileSteps.{file-refusal}
 use Rattle.mending_boxes.specs.Boxes.{new-width, new-depth, changed}
 use Rattle.mending.specs.Mended.{would-get, looked-at, mended, altered-cells, altered, OnlyBoxes, differs, altered-by}
 use Rattle.mending_boxes.specs.laws.Boxes.{changed-differs}

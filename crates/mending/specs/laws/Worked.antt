@@ -7,8 +7,8 @@ use Rattle.plan.specs.Kinds as kinds
 use Rattle.plan.specs.Records as records
 use Rattle.plan.specs.Questions as asked
 use Rattle.plan.specs.Questions.{refusal}
-use Rattle.planfile.specs.Fields as fields
-use Rattle.planfile.specs.Format as format
+use Rattle.planfile_spec.specs.Fields as fields
+use Rattle.planfile_spec.specs.Format as format
 use Rattle.listing.specs.Printed as printed
 use Rattle.mending_boxes.specs.Boxes as boxes
 use Rattle.mending_boxes.specs.Raised as raised

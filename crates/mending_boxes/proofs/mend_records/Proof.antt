@@ -2,7 +2,7 @@ use Prim.Native.Nat.{_+_, _-_, _*_, _≤_}
 use mathlib.Core.Path.{_≡_}
 use native.Mathlib.Omega.{arith}
 use Rattle.plan.specs.Forms.{record-size}
-use Rattle.planfile.specs.Format.{record-at}
+use Rattle.planfile_spec.specs.Format.{record-at}
 use Rattle.mending_boxes.specs.Raised.{mend-records}
 use Rattle.mending_boxes.specs.laws.Code.{place-room, mends-start, mends-next, mends-as-long, mends-end}
 use Rattle.mending_boxes.proofs.mend_records.Statement.{statement}

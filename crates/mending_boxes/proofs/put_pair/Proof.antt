@@ -1,5 +1,5 @@
 use mathlib.Core.Path.{refl}
-use Rattle.planfile.specs.Fields.{set-pair}
+use Rattle.planfile_spec.specs.Fields.{set-pair}
 use borrow.Author.Needs.{needs}
 use Rattle.mending_boxes.proofs.put_pair.Statement.{statement}
 use Rattle.mending_boxes.proofs.put_pair.Tie as tie

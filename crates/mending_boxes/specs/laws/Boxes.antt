@@ -17,7 +17,7 @@ use Rattle.plan.specs.declared.Record.{Record}
 use Rattle.plan.specs.declared.forms.Form.{Form}
 use Rattle.plan.specs.declared.kinds.Lookup.{Lookup}
 use Rattle.plan.specs.declared.kinds.Lookup.the-variants.{Known, Unknown}
-use Rattle.planfile.specs.FileSteps.{inside, record-refusal}
+use Rattle.planfile_spec.specs.FileSteps.{inside, record-refusal}
 use Rattle.mending_boxes.specs.Boxes.{least-width, mendable, cramped, shallow, narrow, flat, new-width, new-depth, changed}
 
 -- a border is at most 4

@@ -12,8 +12,8 @@ use Rattle.plan.specs.Forms.{record-size}
 use Rattle.plan.specs.declared.Record.{Record}
 use Rattle.plan.specs.declared.forms.Form.{Form}
 use Rattle.plan.specs.declared.forms.Form.the-variants.{Old, Wide}
-use Rattle.planfile.specs.Fields.{Place, nowhere, byte, two, pair, set-pair, number-at, set-number, parent-place, kind-place, width-place, depth-place, length-place, rank-place, start-place}
-use Rattle.planfile.specs.Format.{record-at}
+use Rattle.planfile_spec.specs.Fields.{Place, nowhere, byte, two, pair, set-pair, number-at, set-number, parent-place, kind-place, width-place, depth-place, length-place, rank-place, start-place}
+use Rattle.planfile_spec.specs.Format.{record-at}
 use Rattle.mending_boxes.specs.Boxes.{least-width, narrow, flat, new-width, new-depth}
 use Rattle.mending_boxes.specs.Raised.{raise-width, raise-depth, mend-record, mend-records, Beside, Off}
 use Rattle.mending_boxes.specs.laws.Boxes.{Sound, mended-record}

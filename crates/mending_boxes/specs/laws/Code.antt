@@ -16,8 +16,8 @@ use Rattle.plan.specs.declared.forms.Form.the-variants.{Old, Wide}
 use Rattle.plan.specs.declared.kinds.Kind.{Kind}
 use Rattle.plan.specs.declared.kinds.Lookup.{Lookup}
 use Rattle.plan.specs.declared.kinds.Lookup.the-variants.{Known}
-use Rattle.planfile.specs.Fields.{set-number, width-place, depth-place}
-use Rattle.planfile.specs.Format.{form, record-at}
+use Rattle.planfile_spec.specs.Fields.{set-number, width-place, depth-place}
+use Rattle.planfile_spec.specs.Format.{form, record-at}
 use Rattle.mending_boxes.specs.Boxes.{least-width, narrow, flat, new-width, new-depth}
 use Rattle.mending_boxes.specs.Raised.{raise-width, raise-depth, mend-record, mend-records}
 use Rattle.mending_boxes.specs.laws.Boxes.{least-small, says-cramped, mendable-short}

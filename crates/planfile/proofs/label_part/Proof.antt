@@ -1,4 +1,4 @@
-use Rattle.planfile.specs.laws.Label.{part-refused, part-given, trailer-there, record-there, record-is}
+use Rattle.planfile_spec.specs.laws.Label.{part-refused, part-given, trailer-there, record-there, record-is}
 use native.Mathlib.Omega.{arith}
 use mathlib.Core.Path.{_∙_}
 use borrow.Author.Needs.{needs}

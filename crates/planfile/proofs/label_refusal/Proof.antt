@@ -1,5 +1,5 @@
 use mathlib.Core.Path.{_∙_}
-use Rattle.planfile.specs.laws.Label.{label-stops, label-goes-on}
+use Rattle.planfile_spec.specs.laws.Label.{label-stops, label-goes-on}
 use borrow.Author.Needs.{needs}
 use Rattle.planfile.proofs.label_refusal.Statement.{statement}
 use Rattle.planfile.proofs.label_refusal.Tie as tie

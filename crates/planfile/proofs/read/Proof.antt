@@ -1,5 +1,5 @@
 use mathlib.Core.Path.{_∙_}
-use Rattle.planfile.specs.laws.Label.{read-short, read-on}
+use Rattle.planfile_spec.specs.laws.Label.{read-short, read-on}
 use borrow.Author.Needs.{needs}
 use Rattle.planfile.proofs.read.Statement.{statement}
 use Rattle.planfile.proofs.read.Tie as tie

@@ -7,10 +7,11 @@ use lib.ListN.{length, take, drop, length-drop}
 use lib.Seq.{length-take-le}
 use denote.Ref.{RefT}
 use Rattle.plan.specs.Questions.{none}
-use Rattle.planfile.specs.Format.{entry}
-use Rattle.planfile.specs.Reading.{label-refusal, label-part, Subslice}
-use Rattle.planfile.specs.laws.Label.{part-none, part-inside}
-use Rattle.planfile.specs.laws.ReadThen.{part-of-record}
+use Rattle.planfile_spec.specs.Format.{entry}
+use Rattle.planfile_spec.specs.Reading.{label-refusal, label-part}
+use Rattle.planfile.specs.Subslice.{Subslice}
+use Rattle.planfile_spec.specs.laws.Label.{part-none, part-inside}
+use Rattle.planfile_spec.specs.laws.ReadThen.{part-of-record}
 
 module _ (file : RefT (List ℕ)) (c : ℕ) (r : RefT (List ℕ)) (l : Subslice file (label-part (file .now) c) r) where
   abbrev f : List ℕ

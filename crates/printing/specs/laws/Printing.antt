@@ -20,12 +20,12 @@ use Rattle.positions.specs.laws.Written.{written-agree}
 use Rattle.layout.specs.declared.Measures.{Measures}
 use Rattle.layout.specs.Laid.{Drawn}
 use Rattle.plan.specs.declared.forms.Form.{Form}
-use Rattle.planfile.specs.declared.Reading.{Reading}
-use Rattle.planfile.specs.Format.{trailer-of, form, entry}
-use Rattle.planfile.specs.Reading.{label-refusal, label-part}
-use Rattle.planfile.specs.FileSteps.{inside, record-refusal, entry-refusal, header-refusal, body-refusal, file-refusal}
-use Rattle.planfile.specs.laws.File.{label-refusal-is}
-use Rattle.planfile.specs.laws.Examined.{zero-of}
+use Rattle.planfile_spec.specs.declared.Reading.{Reading}
+use Rattle.planfile_spec.specs.Format.{trailer-of, form, entry}
+use Rattle.planfile_spec.specs.Reading.{label-refusal, label-part}
+use Rattle.planfile_spec.specs.FileSteps.{inside, record-refusal, entry-refusal, header-refusal, body-refusal, file-refusal}
+use Rattle.planfile_spec.specs.laws.File.{label-refusal-is}
+use Rattle.planfile_spec.specs.laws.Examined.{zero-of}
 use Rattle.listing.specs.Printed.{Bytes, sheet-line, cell-line}
 use Rattle.printing.specs.Printing.{label-bytes, read-table, ours, first-line, cell-of, Placed, Measured}
 

@@ -26,14 +26,14 @@ use Rattle.contours.specs.Sheet.{sheet}
 use Rattle.least.specs.Asked.{layout-asks}
 use Rattle.least.specs.laws.Columns.{sheet-inside}
 use Rattle.layout.specs.Laid.{Drawable}
-use Rattle.planfile.specs.declared.Reading.{Reading}
-use Rattle.planfile.specs.Format.{trailer-of, entry, records-of, file-given}
-use Rattle.planfile.specs.Reading.{columns-of, reading-of, label-refusal}
-use Rattle.planfile.specs.FileSteps.{header-refusal, body-refusal, file-refusal}
-use Rattle.planfile.specs.laws.File as Law
-use Rattle.planfile.specs.laws.Examined.{zero-of, Headed, header-read, column-at, same-table}
-use Rattle.planfile.specs.laws.Label.{label-read}
-use Rattle.planfile.specs.laws.ReadThen.{file-label, file-layout, part-of-record}
+use Rattle.planfile_spec.specs.declared.Reading.{Reading}
+use Rattle.planfile_spec.specs.Format.{trailer-of, entry, records-of, file-given}
+use Rattle.planfile_spec.specs.Reading.{columns-of, reading-of, label-refusal}
+use Rattle.planfile_spec.specs.FileSteps.{header-refusal, body-refusal, file-refusal}
+use Rattle.planfile_spec.specs.laws.File as Law
+use Rattle.planfile_spec.specs.laws.Examined.{zero-of, Headed, header-read, column-at, same-table}
+use Rattle.planfile_spec.specs.laws.Label.{label-read}
+use Rattle.planfile_spec.specs.laws.ReadThen.{file-label, file-layout, part-of-record}
 use Rattle.listing.specs.Printed.{Bytes, decimal, signed, cell-line, refused-line, lines-joined}
 use Rattle.listing.specs.laws.Printed.{at-most}
 use Rattle.listing.specs.Line.{spaced, line-of, text}

@@ -22,11 +22,11 @@ use denote.Enum.Laws as EL
 use denote.Struct.Laws as LL
 use Rattle.read_entry.specs.Read.{Reads, read-of}
 use Rattle.read_entry.specs.laws.Read.{parsed-fits, parsed-reads}
-use Rattle.planfile.specs.declared.Reading.{Reading}
+use Rattle.planfile_spec.specs.declared.Reading.{Reading}
 use Rattle.read_entry.specs.declared.ReadAnswer.{ReadAnswer}
 use Rattle.read_entry.specs.declared.Parsed.{Parsed}
-use Rattle.planfile.proofs.Reading as R
-use Rattle.planfile.proofs.Reading.Laws as R′
+use Rattle.planfile_spec.proofs.Reading as R
+use Rattle.planfile_spec.proofs.Reading.Laws as R′
 use Rattle.read_entry.proofs.Parsed as P
 use Rattle.read_entry.proofs.Parsed.Laws as P′
 use Rattle.read_entry.proofs.ReadAnswer as N

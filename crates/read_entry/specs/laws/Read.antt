@@ -12,12 +12,12 @@ use Rattle.plan.specs.Questions.{none, asked}
 use Rattle.plan.specs.laws.Questions.{both-none, asked-yes}
 use Rattle.plan.specs.declared.Record.{Record}
 use Rattle.plan.specs.declared.Refusal.{Refusal}
-use Rattle.planfile.specs.Format.{trailer-of, entry}
-use Rattle.planfile.specs.Reading.{columns-of, reading-of}
-use Rattle.planfile.specs.FileSteps.{header-refusal, body-refusal, file-refusal}
-use Rattle.planfile.specs.laws.File as Law
-use Rattle.planfile.specs.laws.Examined.{header-read}
-use Rattle.planfile.specs.declared.Reading.{Reading}
+use Rattle.planfile_spec.specs.Format.{trailer-of, entry}
+use Rattle.planfile_spec.specs.Reading.{columns-of, reading-of}
+use Rattle.planfile_spec.specs.FileSteps.{header-refusal, body-refusal, file-refusal}
+use Rattle.planfile_spec.specs.laws.File as Law
+use Rattle.planfile_spec.specs.laws.Examined.{header-read}
+use Rattle.planfile_spec.specs.declared.Reading.{Reading}
 use Rattle.records.specs.Together.{filled}
 use Rattle.records.specs.laws.Together.{filled-none}
 use Rattle.read_entry.specs.declared.ReadAnswer.the-variants.{Plan, Refused}

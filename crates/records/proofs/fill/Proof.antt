@@ -51,13 +51,13 @@ use Rattle.records.specs.Apart.{no-record}
 use Rattle.records.specs.Together.{record-in, filled}
 use Rattle.records.specs.laws.Together.{filled-length, filled-none, filled-more}
 use Rattle.plan.specs.declared.Record.{Record}
-use Rattle.planfile.specs.declared.Reading.{Reading}
+use Rattle.planfile_spec.specs.declared.Reading.{Reading}
 use Rattle.plan.proofs.Record as T
 use Rattle.plan.proofs.Record.Laws as T′
 use Rattle.plan.proofs.Columns as D
 use Rattle.plan.proofs.Columns.Laws as D′
-use Rattle.planfile.proofs.Reading as B
-use Rattle.planfile.proofs.Reading.Laws as B′
+use Rattle.planfile_spec.proofs.Reading as B
+use Rattle.planfile_spec.proofs.Reading.Laws as B′
 use Rattle.records.proofs.Locals.{room, holds}
 use Rattle.records.proofs.Numbers.{number, byte, numbers-length, numbers-at}
 use Rattle.records.proofs.fill.Key.{name as #records·fill}

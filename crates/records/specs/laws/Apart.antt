@@ -18,8 +18,8 @@ use Rattle.plan.specs.Columns.{table, table-of}
 use Rattle.plan.specs.laws.Columns.{table-length, length-from}
 use Rattle.plan.specs.declared.Record.{Record}
 use Rattle.plan.specs.declared.Lettered.{Lettered}
-use Rattle.planfile.specs.Reading.{column}
-use Rattle.planfile.specs.laws.Examined.{column-at}
+use Rattle.planfile_spec.specs.Reading.{column}
+use Rattle.planfile_spec.specs.laws.Examined.{column-at}
 use Rattle.records.specs.Apart.{lent-at, columns, clipped, lent-columns, lettering, lent-lettered, row-at, records-in, blank, with-record}
 
 -- ---- record by record

@@ -10,7 +10,7 @@ use lib.Seq.{drop-cons, set-at}
 use Rattle.plan.specs.Lists.{from}
 use Rattle.plan.specs.laws.Columns.{length-from}
 use Rattle.plan.specs.declared.Record.{Record}
-use Rattle.planfile.specs.declared.Reading.{Reading}
+use Rattle.planfile_spec.specs.declared.Reading.{Reading}
 use Rattle.records.specs.Apart.{no-record}
 use Rattle.records.specs.Together.{record-in, filled}
 

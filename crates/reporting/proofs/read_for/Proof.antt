@@ -3,8 +3,8 @@ use Prim.Native.Nat.{_*_}
 use native.Mathlib.Omega.{arith}
 use lib.Dec.{leb}
 use Rattle.plan.specs.Questions.{asked}
-use Rattle.planfile.specs.declared.Trailer.{Trailer}
-use Rattle.planfile.specs.laws.Examined.{zero-of, formed-read}
+use Rattle.planfile_spec.specs.declared.Trailer.{Trailer}
+use Rattle.planfile_spec.specs.laws.Examined.{zero-of, formed-read}
 use Rattle.reporting.specs.laws.Reporting.{long-stops, formed-stops, placed-stops, goes-to-read}
 use borrow.Author.Needs.{needs}
 use Rattle.reporting.proofs.read_for.Statement.{statement}

@@ -15,10 +15,10 @@ use Rattle.plan.specs.laws.Questions.{first-some}
 use Rattle.plan.specs.laws.Kept.{asked-true, none-first, or-assoc}
 use Rattle.plan.specs.declared.Record.{Record}
 use Rattle.plan.specs.declared.Refusal.{Refusal}
-use Rattle.planfile.specs.Format.{trailer-of}
-use Rattle.planfile.specs.FileSteps.{formed-refusal, header-refusal, body-refusal, file-refusal}
-use Rattle.planfile.specs.laws.File as Law
-use Rattle.planfile.specs.laws.Examined.{formed-read}
+use Rattle.planfile_spec.specs.Format.{trailer-of}
+use Rattle.planfile_spec.specs.FileSteps.{formed-refusal, header-refusal, body-refusal, file-refusal}
+use Rattle.planfile_spec.specs.laws.File as Law
+use Rattle.planfile_spec.specs.laws.Examined.{formed-read}
 use Rattle.season.specs.Report.{most-plans, report, Plans}
 use Rattle.season.specs.Pool.{folder, Files}
 use Rattle.season.specs.Promised.{folder-report, folder-many}

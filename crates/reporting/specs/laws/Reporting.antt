@@ -32,14 +32,14 @@ use Rattle.least.specs.laws.Measures.{sheet-width, sheet-rows}
 use Rattle.positions.specs.Written.{written}
 use Rattle.layout.specs.Laid.{Drawable, Drawn}
 use Rattle.layout.specs.declared.Measures.{Measures}
-use Rattle.planfile.specs.declared.Reading.{Reading}
-use Rattle.planfile.specs.Format.{trailer-of, entry, file-given}
-use Rattle.planfile.specs.Reading.{column, columns-of, reading-of}
-use Rattle.planfile.specs.FileSteps.{formed-refusal, header-refusal, body-refusal, file-refusal, blank-reading}
-use Rattle.planfile.specs.laws.File as Law
-use Rattle.planfile.specs.laws.File.{cells-length, turn-body}
-use Rattle.planfile.specs.laws.Examined.{zero-of, Headed, formed-read, same-table}
-use Rattle.planfile.specs.laws.ReadThen.{file-layout}
+use Rattle.planfile_spec.specs.declared.Reading.{Reading}
+use Rattle.planfile_spec.specs.Format.{trailer-of, entry, file-given}
+use Rattle.planfile_spec.specs.Reading.{column, columns-of, reading-of}
+use Rattle.planfile_spec.specs.FileSteps.{formed-refusal, header-refusal, body-refusal, file-refusal, blank-reading}
+use Rattle.planfile_spec.specs.laws.File as Law
+use Rattle.planfile_spec.specs.laws.File.{cells-length, turn-body}
+use Rattle.planfile_spec.specs.laws.Examined.{zero-of, Headed, formed-read, same-table}
+use Rattle.planfile_spec.specs.laws.ReadThen.{file-layout}
 use Rattle.season.specs.Report.{width-each, rows-each, report}
 use Rattle.season.specs.declared.Report.{Report}
 use Rattle.season.specs.declared.Reported.the-variants.{Figures, Refused}

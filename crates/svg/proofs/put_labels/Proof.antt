@@ -8,7 +8,7 @@ use Rattle.plan.specs.laws.Tables.{count-few}
 use Rattle.rules.specs.Placement.{placed}
 use Rattle.pen.specs.Strokes.{strokes}
 use Rattle.svg.specs.Drawing.{labels-text}
-use Rattle.svg.specs.Sizes.{label-size}
+use Rattle.svg_labels.specs.Sizes.{label-size}
 use Rattle.printing.specs.laws.Printing.{label-short}
 use Rattle.svg.specs.laws.Drawing.{some-count, numbered, labels-start, labels-put, labels-done}
 use borrow.Author.Needs.{needs}

@@ -8,7 +8,7 @@ use Rattle.plan.specs.laws.Tables.{count-few}
 use Rattle.rules.specs.Placement.{placed}
 use Rattle.pen.specs.Strokes.{strokes}
 use Rattle.svg.specs.Drawing.{strokes-text}
-use Rattle.svg.specs.Sizes.{stroke-size}
+use Rattle.svg_strokes.specs.Sizes.{stroke-size}
 use Rattle.svg.specs.laws.Drawing.{some-count, many-is, within, beyond, numbered, strokes-start, strokes-put, strokes-done}
 use borrow.Author.Needs.{needs}
 use Rattle.svg.proofs.put_strokes.Statement.{statement}

@@ -1,5 +1,6 @@
 use native.Mathlib.Omega.{arith}
-use Rattle.svg.specs.laws.Drawing.{put-as, drawing-refused, drawing-unfair, drawing-sheet, unfair, is-fair}
+use Rattle.svg_labels.specs.laws.Labels.{put-as}
+use Rattle.svg.specs.laws.Drawing.{drawing-refused, drawing-unfair, drawing-sheet, unfair, is-fair}
 use borrow.Author.Needs.{needs}
 use Rattle.svg.proofs.write_drawing.Statement.{statement}
 use Rattle.svg.proofs.write_drawing.Tie as tie

@@ -24,11 +24,11 @@ use denote.Enum.Laws as EL
 use denote.Struct.Laws as LL
 use Rattle.reporting.specs.Reporting.{Drafts, Reports}
 use Rattle.tallying.specs.laws.Report.{draft-fits, draft-reports}
-use Rattle.planfile.specs.declared.Reading.{Reading}
+use Rattle.planfile_spec.specs.declared.Reading.{Reading}
 use Rattle.reporting.specs.declared.Draft.{Draft}
 use Rattle.season.specs.declared.Reported.{Reported}
-use Rattle.planfile.proofs.Reading as R
-use Rattle.planfile.proofs.Reading.Laws as R′
+use Rattle.planfile_spec.proofs.Reading as R
+use Rattle.planfile_spec.proofs.Reading.Laws as R′
 use Rattle.reporting.proofs.Draft as P
 use Rattle.reporting.proofs.Draft.Laws as P′
 use Rattle.season.proofs.Reported as N

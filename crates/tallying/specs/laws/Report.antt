@@ -11,9 +11,9 @@ use Rattle.plan.specs.Limits.{most-cells}
 use Rattle.plan.specs.Questions.{none}
 use Rattle.plan.specs.declared.Record.{Record}
 use Rattle.plan.specs.declared.Refusal.{Refusal}
-use Rattle.planfile.specs.Format.{trailer-of, entry}
-use Rattle.planfile.specs.Reading.{columns-of}
-use Rattle.planfile.specs.declared.Reading.{Reading}
+use Rattle.planfile_spec.specs.Format.{trailer-of, entry}
+use Rattle.planfile_spec.specs.Reading.{columns-of}
+use Rattle.planfile_spec.specs.declared.Reading.{Reading}
 use Rattle.records.specs.Together.{filled}
 use Rattle.records.specs.laws.Together.{filled-none}
 use Rattle.season.specs.Report.{report}

@@ -19,8 +19,8 @@ use Rattle.plan.specs.laws.Questions.{both-none, asked-yes}
 use Rattle.plan.specs.Steps.{counted-refusal}
 use Rattle.plan.specs.laws.Calls.{drill-refusal}
 use Rattle.plan.specs.declared.Refusal.{Refusal}
-use Rattle.planfile.specs.declared.Reading.{Reading}
-use Rattle.planfile.specs.Reading.{reading-of}
+use Rattle.planfile_spec.specs.declared.Reading.{Reading}
+use Rattle.planfile_spec.specs.Reading.{reading-of}
 use Rattle.listing.specs.Printed.{Bytes, refused-line, step-line, end-line}
 use Rattle.listing.specs.Line.{line-of, text}
 use Rattle.listing.specs.Put.{Put}

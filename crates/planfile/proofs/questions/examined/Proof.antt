@@ -1,4 +1,4 @@
-use Rattle.planfile.specs.laws.Examined.{zero-of, header-read, room-read, count-read, body-is, plan-examined, file-passed, header-stops, examined-refused}
+use Rattle.planfile_spec.specs.laws.Examined.{zero-of, header-read, room-read, count-read, body-is, plan-examined, file-passed, header-stops, examined-refused}
 use native.Mathlib.Omega.{arith}
 use mathlib.Core.Path.{_∙_}
 use borrow.Author.Needs.{needs}

@@ -1,4 +1,4 @@
-use Rattle.planfile.specs.Reading.{column, columns-of}
+use Rattle.planfile_spec.specs.Reading.{column, columns-of}
 use borrow.Author.Needs.{needs}
 use Rattle.planfile.proofs.questions.refused.Statement.{statement}
 use Rattle.planfile.proofs.questions.refused.Tie as tie
