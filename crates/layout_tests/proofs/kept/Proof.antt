@@ -1,11 +1,11 @@
-use Prim.Native.Nat.{_≤_, _-_}
+use Prim.Native.Nat.{_-_}
 use lib.ListN.{length}
 use borrow.Author.Needs.{needs}
 use Rattle.layout_tests.proofs.kept.Statement.{statement}
 use Rattle.layout_tests.proofs.kept.Tie as tie
 
 abbrev Inv-loop : tie.InvT-loop
-Inv-loop positions a i₀ i = i ≤ length positions
+Inv-loop positions a i₀ i = Unit {0}
 
 abbrev μ-loop : tie.MeasureT-loop
 μ-loop positions a i₀ i = length positions - i
@@ -13,11 +13,11 @@ abbrev μ-loop : tie.MeasureT-loop
 loop-holds : tie.Need-loop-holds Inv-loop μ-loop
 loop-holds c = search needs
 
-mul-if2 : tie.Need-mul-if2 Inv-loop μ-loop
-mul-if2 c = search needs
+mul-if1 : tie.Need-mul-if1 Inv-loop μ-loop
+mul-if1 c = search needs
 
-shared-slice-copy-out-if2 : tie.Need-shared-slice-copy-out-if2 Inv-loop μ-loop
-shared-slice-copy-out-if2 c = search needs
+shared-slice-copy-out-if1 : tie.Need-shared-slice-copy-out-if1 Inv-loop μ-loop
+shared-slice-copy-out-if1 c = search needs
 
 returns : tie.Need-returns Inv-loop μ-loop
 returns c = search needs
@@ -41,8 +41,8 @@ kept-spec =
     Inv-loop
     μ-loop
     loop-holds
-    mul-if2
-    shared-slice-copy-out-if2
+    mul-if1
+    shared-slice-copy-out-if1
     returns
     add-i
     loop-less

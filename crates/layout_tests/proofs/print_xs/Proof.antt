@@ -1,11 +1,11 @@
-use Prim.Native.Nat.{_≤_, _-_}
+use Prim.Native.Nat.{_-_}
 use lib.ListN.{length}
 use borrow.Author.Needs.{needs}
 use Rattle.layout_tests.proofs.print_xs.Statement.{statement}
 use Rattle.layout_tests.proofs.print_xs.Tie as tie
 
 abbrev Inv-loop : tie.InvT-loop
-Inv-loop positions n i₀ i = i ≤ length positions
+Inv-loop positions n i₀ i = Unit {0}
 
 abbrev μ-loop : tie.MeasureT-loop
 μ-loop positions n i₀ i = length positions - i
@@ -13,14 +13,14 @@ abbrev μ-loop : tie.MeasureT-loop
 loop-holds : tie.Need-loop-holds Inv-loop μ-loop
 loop-holds c = search needs
 
-mul-signed : tie.Need-mul-signed Inv-loop μ-loop
-mul-signed c = search needs
+mul-print-signed : tie.Need-mul-print-signed Inv-loop μ-loop
+mul-print-signed c = search needs
 
-shared-slice-copy-out-signed : tie.Need-shared-slice-copy-out-signed Inv-loop μ-loop
-shared-slice-copy-out-signed c = search needs
+shared-slice-copy-out-print-signed : tie.Need-shared-slice-copy-out-print-signed Inv-loop μ-loop
+shared-slice-copy-out-print-signed c = search needs
 
-signed-requires : tie.Need-signed-requires Inv-loop μ-loop
-signed-requires c κs = search needs
+print-signed-requires : tie.Need-print-signed-requires Inv-loop μ-loop
+print-signed-requires c κs = search needs
 
 add-i : tie.Need-add-i Inv-loop μ-loop
 add-i c = search needs
@@ -41,9 +41,9 @@ print-xs-spec =
     Inv-loop
     μ-loop
     loop-holds
-    mul-signed
-    shared-slice-copy-out-signed
-    signed-requires
+    mul-print-signed
+    shared-slice-copy-out-print-signed
+    print-signed-requires
     add-i
     loop-less
     loop-again
