@@ -1,6 +1,5 @@
 pub mod Mended
 pub mod Promised
 pub mod Mending
-pub mod Steps
 pub mod Worked
 pub mod laws

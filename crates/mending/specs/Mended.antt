@@ -8,10 +8,10 @@ use lib.ListN.{length, getD}
 use Rattle.plan.specs.Limits.{between, most-cells}
 use Rattle.plan.specs.Lists.{from, keep}
 use Rattle.plan.specs.Questions.{to-fill, nothing, read, refusal}
-use Rattle.plan.specs.declared.Record.{Record}
 use Rattle.plan.specs.declared.Refusal.{Refusal}
 use Rattle.planfile_spec.specs.Format.{trailer-of, form, place, entry, file-given}
-use Rattle.mending_boxes.specs.Boxes.{new-width, new-depth, changed}
+use Rattle.mending_lines.specs.Lines.{Alteration, alteration}
+use Rattle.mending_boxes.specs.Boxes.{changed}
 use Rattle.mending_boxes.specs.Raised.{mend-records, Off}
 
 -- ---- the bytes
@@ -28,17 +28,6 @@ unfoldable pub mended : List ℕ → List ℕ
 mended f = mend-records (form f) (trailer-of f .begin) (entry f) f (looked-at f)
 
 -- ---- the lines
--- a cell altered: "its number, old width and depth, new width and depth"
-pub record Alteration : Type 0 where
-  pub cell : ℕ
-  pub old-width : ℕ
-  pub old-depth : ℕ
-  pub width : ℕ
-  pub depth : ℕ
-
-abbrev pub alteration : ℕ → Record → Alteration
-alteration c r = record { cell = c; old-width = r .width; old-depth = r .depth; width = new-width r; depth = new-depth r }
-
 -- the cells altered, "in cell order"
 unfoldable pub altered-cells : List ℕ → List ℕ
 altered-cells f = keep (λ c. changed (entry f c)) (from 0 (looked-at f))

@@ -9,8 +9,9 @@ use Rattle.plan.specs.Limits.{most-file, lines-size}
 use Rattle.plan.specs.Questions.{copy-output, lines-output, nothing, none, Given, mend, refusal}
 use Rattle.plan.specs.declared.Refusal.{Refusal}
 use Rattle.planfile_spec.specs.Format.{file-given}
-use Rattle.listing.specs.Printed.{Bytes, mended-line, lines-joined}
-use Rattle.mending.specs.Mended.{would-get, mended, Alteration, altered}
+use Rattle.listing.specs.Printed.{Bytes, lines-joined}
+use Rattle.mending_lines.specs.Lines.{alteration-line}
+use Rattle.mending.specs.Mended.{would-get, mended, altered}
 use Rattle.mending.specs.declared.Mended.{Mended}
 use Rattle.mending.specs.declared.Mended.the-variants.{Written, Refused}
 
@@ -20,10 +21,6 @@ mend-given f o l = file-given (mended f) (copy-output o ∷ lines-output l ∷ [
 
 abbrev pub mend-refusal : (file : Bytes) → (output lines : ℕ) → Refusal
 mend-refusal f o l = refusal mend (mend-given f o l)
-
--- "prints for each altered cell its number, old width and depth, new width and depth, in cell order"
-unfoldable pub alteration-line : Alteration → Bytes
-alteration-line a = mended-line (a .cell) (a .old-width) (a .old-depth) (a .width) (a .depth)
 
 unfoldable pub lines-of : (file : Bytes) → Bytes
 lines-of f = lines-joined (map alteration-line (altered f))

@@ -7,7 +7,7 @@ use Prim.Native.Nat.{ℕ, zero, suc, _+_, _-_, _*_, _≤_, _<_}
 use native.Mathlib.Omega.{arith}
 use native.Mathlib.Decide.{ℕ-discrete}
 use lib.Dec.{T, leb, leb→le}
-use lib.ListN.{length, getD, take, drop, set, replicate, length-append}
+use lib.ListN.{length, getD, take, drop, set, replicate}
 use lib.Seq.{sets-eq, take-append-seam, drop-append-seam}
 use borrow.Author.Tests.{eq-eqb, ne-eqb, lt-leb, le-leb}
 use Rattle.whole.specs.laws.Says.{both, says-le, holds}
@@ -27,18 +27,16 @@ use Rattle.planfile_spec.specs.Reading.{columns-of, reading-of}
 use Rattle.planfile_spec.specs.FileSteps.{file-refusal}
 use Rattle.planfile_spec.specs.laws.File as file
 use Rattle.planfile_spec.specs.laws.Examined.{Full}
-use Rattle.listing.specs.Printed.{Bytes, mended-line, lines-joined}
-use Rattle.listing.specs.laws.Printed.{at-most}
-use Rattle.listing.specs.Line.{line-of, text}
-use Rattle.listing.specs.laws.Line.{mended-line-is, line-text, joined-append}
-use Rattle.listing.specs.declared.Line.{Line}
+use Rattle.listing.specs.Printed.{Bytes, lines-joined}
+use Rattle.listing.specs.laws.Line.{joined-append}
 use Rattle.listing.specs.Put.{Put}
-use Rattle.listing.specs.laws.Put.{then, put-none, put-more, drop-zeros}
-use Rattle.mending_boxes.specs.Boxes.{new-width, new-depth, changed}
+use Rattle.listing.specs.laws.Put.{put-more, drop-zeros}
+use Rattle.mending_boxes.specs.Boxes.{changed}
 use Rattle.mending_boxes.specs.Raised.{mend-records}
-use Rattle.mending.specs.Mended.{would-get, looked-at, mended, alteration, altered-cells, altered}
-use Rattle.mending.specs.Mending.{mend-given, mend-refusal, alteration-line, lines-of, mended-of, file-after, lines-after, file-size, lines-length, Mends}
-use Rattle.mending.specs.Steps.{line-room, alteration-text, alterations-text}
+use Rattle.mending_lines.specs.Lines.{alteration, alteration-line}
+use Rattle.mending.specs.Mended.{would-get, looked-at, mended, altered-cells, altered}
+use Rattle.mending.specs.Mending.{mend-given, mend-refusal, lines-of, mended-of, file-after, lines-after, file-size, lines-length, Mends}
+use Rattle.mending_lines.specs.Steps.{alteration-text, alterations-text}
 use Rattle.mending.specs.declared.Mended.the-variants.{Written, Refused}
 use Rattle.mending_boxes.specs.laws.Bytes.{mends-length}
 use Rattle.mending.specs.laws.Mended.{would-get-is, framed, refused-framed, looked-all, full, mend-unframed, unframed}
@@ -53,39 +51,6 @@ put-whole {a} {b} s {n} p h =
     p .bytes ∙ sets-eq s a 0 (rw z h) ∙ ap (λ (k : ℕ). s ++ drop k a) z
 
 -- ---- lines
-module _ (c : ℕ) (r : Record) {w d v e : ℕ} (hw : (w ≡ r .width) × (w < 65536)) (hd : (d ≡ r .depth) × (d < 256)) (hv : (v ≡ new-width r) × (v < 65536)) (he : (e ≡ new-depth r) × (e < 256)) where
-  line-short : c < most-cells → length (mended-line c w d v e) ≤ line-room
-  line-short h =
-      rw (← mended-line-is c w d v e)
-      (simp length-append (omega (arith, at-most 2 c (omega arith), at-most 4 w (omega (arith, hw .1)), at-most 2 d (omega (arith, hd .1)), at-most 4 v (omega (arith, hv .1)), at-most 2 e (omega (arith, he .1)))))
-
-  module _ (l : Line) (q : l ≡ line-of (mended-line c w d v e)) (h : c < most-cells) where
-    pub line-fits : l .length ≤ line-room
-    unfolding line-of
-    line-fits = rw q (line-short h)
-
-    pub line-put : changed r ≡ true → {a b : List ℕ} {at k : ℕ} → Put a at (text l) b k → Put a at (alteration-text c r) b k × (k ≤ at + line-room)
-    unfolding alteration-text alteration-line
-    line-put ch {a} {b} {at} {k} p =
-        let s : text l ≡ mended-line c w d v e = rw q (line-text (mended-line c w d v e)) in
-        let t : text l ≡ mended-line c (r .width) (r .depth) (new-width r) (new-depth r) = rw (hw .0, hd .0, hv .0, he .0) at s in
-        (rw (ch, ← t) p, omega (arith, p .place, ap length s, line-short h))
-
-pub no-line-put : (c : ℕ) (r : Record) → changed r ≡ false → (a : List ℕ) (at : ℕ) → Put a at (alteration-text c r) a at × (at ≤ at + line-room)
-unfolding alteration-text
-no-line-put c r ch a at = (rw ch (put-none a at), omega arith)
-
-pub lines-start : (e : ℕ → Record) (a : List ℕ) → Put a 0 (alterations-text e 0) a 0
-unfolding alterations-text
-lines-start e a = put-none a 0
-
-pub lines-next : (e : ℕ → Record) (c : ℕ) {a b d : List ℕ} {j k : ℕ} {r : Record} → Put a 0 (alterations-text e c) b j → r ≡ e c → Put b j (alteration-text c r) d k → Put a 0 (alterations-text e (c + 1)) d k
-unfolding alterations-text
-lines-next e c p q u = let s : c + 1 ≡ suc c = omega arith in rw (s, ← q) (then p u)
-
-pub lines-end : (e : ℕ → Record) (c n : ℕ) {a b : List ℕ} {j : ℕ} → Put a 0 (alterations-text e c) b j → c ≤ n → n ≤ c → Put a 0 (alterations-text e n) b j
-lines-end e c n p h g = let s : c ≡ n = omega arith in rw s at p
-
 -- the lines cell by cell are the lines of the cells altered
 keep-last : (p : ℕ → Bool) (k d : ℕ) → keep p (from k (suc d)) ≡ keep p (from k d) ++ cond (p (k + d)) ((k + d) ∷ []) []
 unfolding keep from

@@ -27,7 +27,8 @@ use Rattle.planfile_spec.specs.laws.File.{read-refusal}
 use Rattle.planfile_spec.specs.laws.Examined.{Full, full-read}
 use Rattle.mending_boxes.specs.Boxes.{changed}
 use Rattle.mending_boxes.specs.Raised.{mend-records}
-use Rattle.mending.specs.Mended.{would-get, looked-at, mended, alteration, altered-cells, altered, OnlyBoxes, differs, altered-by}
+use Rattle.mending_lines.specs.Lines.{alteration}
+use Rattle.mending.specs.Mended.{would-get, looked-at, mended, altered-cells, altered, OnlyBoxes, differs, altered-by}
 use Rattle.mending_boxes.specs.laws.Boxes.{Sound, sound-unchanged, passed-sound, mended-record, mended-sound}
 use Rattle.mending_boxes.specs.laws.Bytes.{after, record-boxed, mends-length, mends-off, mends-sound, mends-read}
 

@@ -1,9 +1,9 @@
 use mathlib.Core.Path.{sym, _∙_}
 use native.Mathlib.Omega.{arith}
-use Rattle.mending.specs.laws.Code.{line-fits, line-put, no-line-put}
+use Rattle.mending_lines.specs.laws.Code.{line-fits, line-put, no-line-put}
 use borrow.Author.Needs.{needs}
-use Rattle.mending.proofs.put_alteration.Statement.{statement}
-use Rattle.mending.proofs.put_alteration.Tie as tie
+use Rattle.mending_lines.proofs.put_alteration.Statement.{statement}
+use Rattle.mending_lines.proofs.put_alteration.Tie as tie
 
 changed-requires : tie.Need-changed-requires
 changed-requires c κs = search needs

@@ -1,8 +1,8 @@
 use mathlib.Core.Path.{ap, _∙_}
 use native.Mathlib.Omega.{arith}
 use Rattle.planfile_spec.specs.Format.{record-at}
-use Rattle.mending.proofs.record_of.Statement.{statement}
-use Rattle.mending.proofs.record_of.Tie as tie
+use Rattle.mending_lines.proofs.record_of.Statement.{statement}
+use Rattle.mending_lines.proofs.record_of.Tie as tie
 
 place-requires : tie.Need-place-requires
 place-requires c κs = let s = (c .before) in (s .pre .0, omega (arith, s .pre .1, s .good))

@@ -5,12 +5,12 @@ use lib.ListN.{length}
 use Rattle.plan.specs.Forms.{record-size}
 use Rattle.planfile_spec.specs.Format.{record-at}
 use Rattle.listing.specs.Put.{Put}
-use Rattle.mending.specs.Steps.{line-room, alterations-text}
+use Rattle.mending_lines.specs.Steps.{line-room, alterations-text}
 use Rattle.mending_boxes.specs.laws.Code.{place-room}
-use Rattle.mending.specs.laws.Code.{lines-start, lines-next, lines-end}
+use Rattle.mending_lines.specs.laws.Code.{lines-start, lines-next, lines-end}
 use borrow.Author.Needs.{needs}
-use Rattle.mending.proofs.put_lines.Statement.{statement}
-use Rattle.mending.proofs.put_lines.Tie as tie
+use Rattle.mending_lines.proofs.put_lines.Statement.{statement}
+use Rattle.mending_lines.proofs.put_lines.Tie as tie
 
 abbrev Inv-loop : tie.InvT-loop
 Inv-loop form file begin n out₀ next₀ c₀ out next c = (c ≤ n) × (length out ≡ length out₀) × (next ≤ line-room * c) × Put out₀ 0 (alterations-text (λ c. record-at form file (begin + record-size form * c)) c) out next

@@ -5,8 +5,7 @@ use Prim.Native.Nat.{ℕ, zero, suc}
 use Rattle.plan.specs.declared.Record.{Record}
 use Rattle.listing.specs.Printed.{Bytes}
 use Rattle.mending_boxes.specs.Boxes.{changed}
-use Rattle.mending.specs.Mended.{alteration}
-use Rattle.mending.specs.Mending.{alteration-line}
+use Rattle.mending_lines.specs.Lines.{alteration, alteration-line}
 
 -- bytes of a line, at most
 abbrev pub line-room : ℕ
