@@ -1,4 +1,2 @@
 pub mod Drilled
-pub mod Machine
-pub mod Needed
 pub mod laws

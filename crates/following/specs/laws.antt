@@ -1,5 +1,3 @@
-pub mod Machine
-pub mod Siblings
 pub mod Runs
 pub mod Follows
 pub mod Drilled

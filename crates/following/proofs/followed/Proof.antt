@@ -1,10 +1,10 @@
 use Prim.Native.Nat.{_≤_}
 use Rattle.plan.specs.Limits.{most-steps}
-use Rattle.following.specs.laws.Machine.{wrote-none}
+use Rattle.following_turn.specs.laws.Machine.{wrote-none}
 use Rattle.following.specs.laws.Follows.{Reads, Goes, start-entering, goes-start, goes-turning, goes-turn, goes-less, goes-end, goes-both, wrote-more}
 use Rattle.following.specs.laws.Runs.{weight}
-use Rattle.following.specs.Needed.{Arrays, Wrote}
-use Rattle.following.specs.Machine.{chain, state-of}
+use Rattle.following_turn.specs.Needed.{Arrays, Wrote}
+use Rattle.following_turn.specs.Machine.{chain, state-of}
 use Rattle.plan.specs.laws.Tables.{kind-is, length-is}
 use Rattle.plan.specs.Columns.{table-of}
 use lib.ListN.{length}

@@ -1,5 +1,5 @@
 use Rattle.following.specs.laws.Follows.{told-full}
-use Rattle.following.specs.Machine.{outcome-of}
+use Rattle.following_turn.specs.Machine.{outcome-of}
 use Rattle.following.proofs.told.Statement.{statement}
 use Rattle.following.proofs.told.Tie as tie
 

@@ -17,9 +17,9 @@ use Rattle.following.specs.declared.Drilled.the-variants.{Full}
 use Rattle.moves.specs.Drill.{finished, Drill, in-order, HasEnded, doing, drill-of}
 use Rattle.moves.specs.laws.Drill.{order-ended}
 use Rattle.following.specs.Drilled.{told-as, drill-told}
-use Rattle.following.specs.Machine.{Frame, Chain, frames, frames-of, top, below, State, outcome-of, so-far, state-of, Beyond, enter, step}
-use Rattle.following.specs.laws.Machine.{frames-length, frames-top}
-use Rattle.following.specs.Needed.{Cell, Entering, Turning, Wrote}
+use Rattle.following_turn.specs.Machine.{Frame, Chain, frames, frames-of, top, below, State, outcome-of, so-far, state-of, Beyond, enter, step}
+use Rattle.following_turn.specs.laws.Machine.{frames-length, frames-top}
+use Rattle.following_turn.specs.Needed.{Cell, Entering, Turning, Wrote}
 use Rattle.following.specs.laws.Runs.{Keeps, keeps-enter, keeps-step, step-less, weight, few-open, next-is}
 
 -- ---- the loop

@@ -1,0 +1,15 @@
+use Rattle.following_turn.specs.Machine.{picked}
+use borrow.Author.Tests.{eq-eqb, ne-eqb}
+use Rattle.following_turn.proofs.picked.Statement.{statement}
+use Rattle.following_turn.proofs.picked.Tie as tie
+
+returns : tie.Need-returns
+unfolding picked
+returns c = rw (eq-eqb _ _ (c .if1 .taken), picked)
+
+returns-2 : tie.Need-returns-2
+unfolding picked
+returns-2 c = rw (ne-eqb _ _ (c .if1 .left), picked)
+
+pub picked-spec : {M : Type 1} → statement M
+picked-spec = tie.close (tie.spec returns returns-2)
