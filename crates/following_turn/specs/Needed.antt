@@ -4,26 +4,8 @@ use mathlib.Core.List.{List}
 use Prim.Native.Nat.{ℕ, _+_, _*_, _≤_, _<_}
 use lib.ListN.{length, getD}
 use Rattle.plan.specs.Limits.{most-steps}
-use Rattle.plan.specs.Plan.{Table, Is, children}
-use Rattle.plan.specs.Fit.{Fit}
-use Rattle.links.specs.Links.{Links}
 use Rattle.following_turn.specs.Machine.{Chain, top, Beyond}
-
--- the links of a table that keeps the questions; n is 0 or a child
-pub record Row (ls : List ℕ) (n : ℕ) : Type 0 where
-  pub table : Table
-  pub fit : Fit table
-  pub links : Links table ls
-  pub parent : ℕ
-  pub place : ℕ
-  pub at : n ≡ getD (children table parent) place 0
-
--- s is a cell of it
-pub record Cell (ls : List ℕ) (s : ℕ) : Type 0 where
-  pub table : Table
-  pub fit : Fit table
-  pub links : Links table ls
-  pub is : Is table s
+use Rattle.following_cell.specs.Opening.{Cell}
 
 -- the arrays of the chain have 32 places each
 pub record Arrays (cells nexts times : List ℕ) : Type 0 where

@@ -19,7 +19,8 @@ use Rattle.moves.specs.laws.Drill.{order-ended}
 use Rattle.following.specs.Drilled.{told-as, drill-told}
 use Rattle.following_turn.specs.Machine.{Frame, Chain, frames, frames-of, top, below, State, outcome-of, so-far, state-of, Beyond, enter, step}
 use Rattle.following_turn.specs.laws.Machine.{frames-length, frames-top}
-use Rattle.following_turn.specs.Needed.{Cell, Entering, Turning, Wrote}
+use Rattle.following_cell.specs.Opening.{Cell}
+use Rattle.following_turn.specs.Needed.{Entering, Turning, Wrote}
 use Rattle.following.specs.laws.Runs.{Keeps, keeps-enter, keeps-step, step-less, weight, few-open, next-is}
 
 -- ---- the loop

@@ -21,12 +21,13 @@ use Rattle.plan.specs.laws.Trees.{level-child}
 use Rattle.plan.specs.Kinds.{allows}
 use Rattle.plan.specs.Fit.{Fit}
 use Rattle.links.specs.Links.{Links, link}
-use Rattle.following_turn.specs.declared.Opened.{Opened}
-use Rattle.following_turn.specs.declared.Todo.{Todo}
+use Rattle.following_cell.specs.declared.Opened.{Opened}
+use Rattle.following_cell.specs.declared.Todo.{Todo}
 use Rattle.moves.specs.Drill.{Outcome, finished, spent, wrong, full, Drill, ended, recorded, taken, in-order, times, chosen, waited, by-kind, does, doing}
 use Rattle.moves.specs.laws.Drill.{doing-is, in-order-append, no-kind, no-kind-more, run-children, repeat-children, wait-children}
-use Rattle.following_turn.specs.Machine.{nothing, once, after, later, hops, repeated, picked, waiting, answered, opened, Frame, frame, State, outcome-of, passed, enter, step-at, step-on, step}
-use Rattle.following_turn.specs.laws.Siblings.{hops-are}
+use Rattle.following_cell.specs.Opening.{nothing, once, after, later, hops, repeated, picked, waiting, answered, opened}
+use Rattle.following_turn.specs.Machine.{Frame, frame, State, outcome-of, passed, enter, step-at, step-on, step}
+use Rattle.following_cell.specs.laws.Siblings.{hops-are}
 
 -- ---- cells done in order
 module _ (f : ℕ → Drill → Drill) where

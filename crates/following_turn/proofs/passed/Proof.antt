@@ -1,6 +1,6 @@
 use mathlib.Core.Path.{ap}
 use lib.ListN.{set}
-use Rattle.following_turn.specs.declared.Todo.{Todo}
+use Rattle.following_cell.specs.declared.Todo.{Todo}
 use borrow.Author.Needs.{needs}
 use Rattle.following_turn.proofs.passed.Statement.{statement}
 use Rattle.following_turn.proofs.passed.Tie as tie

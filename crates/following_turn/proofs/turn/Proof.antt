@@ -3,7 +3,7 @@ use lib.ListN.{length-set}
 use native.Mathlib.Omega.{arith}
 use Rattle.following_turn.specs.Machine.{chain}
 use Rattle.following_turn.specs.laws.Machine.{turn-close, turn-open, pass-is, wrote-none}
-use Rattle.following_turn.specs.laws.Siblings.{cell-room}
+use Rattle.following_cell.specs.laws.Siblings.{cell-room}
 use borrow.Author.Needs.{needs}
 use Rattle.following_turn.proofs.turn.Statement.{statement}
 use Rattle.following_turn.proofs.turn.Tie as tie

@@ -10,11 +10,11 @@ use lib.ListN.{length, getD, set, take}
 use lib.Seq.{take-suc-set, getD-set-same, getD-set-other, length-take-le}
 use lib.Dec.{ltb}
 use borrow.Author.Tests.{eq-eqb, ne-eqb, lt-ltb, le-ltb}
-use Rattle.links.specs.Links.{link}
-use Rattle.following_turn.specs.declared.Opened.{Opened}
+use Rattle.following_cell.specs.declared.Opened.{Opened}
 use Rattle.plan.specs.Limits.{most-steps}
 use Rattle.moves.specs.Drill.{Drill, recorded}
-use Rattle.following_turn.specs.Machine.{nothing, once, after, hops, repeated, picked, waiting, answered, opened, Frame, frame, Chain, frames, top, below, frames-of, State, outcome-of, so-far, passed, enter, step-at, step-on, step}
+use Rattle.following_cell.specs.Opening.{after, opened}
+use Rattle.following_turn.specs.Machine.{Frame, frame, Chain, frames, top, below, frames-of, State, outcome-of, so-far, passed, enter, step-at, step-on, step}
 use Rattle.following_turn.specs.Needed.{Wrote}
 
 -- ---- the stack that three arrays and a count show
@@ -53,33 +53,6 @@ unfolding frames-of
 frames-top cs ns ks k lt =
     let e : k ≡ suc (k - 1) = omega arith in
     ap (frames-of cs ns ks) e
-
--- ---- a byte
-module _ (ls : List ℕ) (s kind a used : ℕ) {r : Opened} where
-  pub answered-repeat : {first : ℕ} → kind ≡ 3 → first ≡ link ls s 0 → r ≡ repeated first a used → r ≡ answered ls s kind a used
-  unfolding answered
-  answered-repeat e ef er = er ∙ rw (ef, eq-eqb kind 3 e, answered)
-
-  pub answered-choice : {first n : ℕ} → (kind ≡ 3 → ⊥) → kind ≡ 4 → first ≡ link ls s 0 → n ≡ hops ls first a → r ≡ picked n used → r ≡ answered ls s kind a used
-  unfolding answered
-  answered-choice z e ef en er = er ∙ rw (en, ef, ne-eqb kind 3 z, eq-eqb kind 4 e, answered)
-
-  pub answered-wait : {first : ℕ} → (kind ≡ 3 → ⊥) → (kind ≡ 4 → ⊥) → first ≡ link ls s 0 → r ≡ waiting first a used → r ≡ answered ls s kind a used
-  unfolding answered
-  answered-wait z e ef er = er ∙ rw (ef, ne-eqb kind 3 z, ne-eqb kind 4 e, answered)
-
-module _ (ls bs : List ℕ) (s kind used : ℕ) where
-  pub opened-run : {n : ℕ} → kind ≡ 2 → n ≡ link ls s 0 → once n used ≡ opened ls bs s kind used
-  unfolding opened
-  opened-run e en = rw (en, eq-eqb kind 2 e, opened)
-
-  pub opened-byte : {a : ℕ} {r : Opened} → (kind ≡ 2 → ⊥) → used < length bs → a ≡ getD bs used 0 → r ≡ answered ls s kind a (used + 1) → r ≡ opened ls bs s kind used
-  unfolding opened
-  opened-byte z l ea er = er ∙ rw (ea, ne-eqb kind 2 z, lt-ltb used (length bs) l, opened)
-
-  pub opened-spent : (kind ≡ 2 → ⊥) → length bs ≤ used → nothing 1 used ≡ opened ls bs s kind used
-  unfolding opened
-  opened-spent z l = rw (ne-eqb kind 2 z, le-ltb used (length bs) l, opened)
 
 -- ---- a step is recorded
 module _ (s used records : ℕ) (xs : List ℕ) (long : most-steps ≤ length xs) where

@@ -1,7 +1,7 @@
-use Rattle.following_turn.specs.Machine.{repeated}
+use Rattle.following_cell.specs.Opening.{repeated}
 use borrow.Author.Tests.{eq-eqb, ne-eqb}
-use Rattle.following_turn.proofs.repeated.Statement.{statement}
-use Rattle.following_turn.proofs.repeated.Tie as tie
+use Rattle.following_cell.proofs.repeated.Statement.{statement}
+use Rattle.following_cell.proofs.repeated.Tie as tie
 
 returns : tie.Need-returns
 unfolding repeated

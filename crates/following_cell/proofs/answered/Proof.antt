@@ -1,9 +1,9 @@
 use native.Mathlib.Omega.{arith}
-use Rattle.following_turn.specs.laws.Machine.{answered-repeat, answered-choice, answered-wait}
-use Rattle.following_turn.specs.laws.Siblings.{cell-room, cell-first}
+use Rattle.following_cell.specs.laws.Opening.{answered-repeat, answered-choice, answered-wait}
+use Rattle.following_cell.specs.laws.Siblings.{cell-room, cell-first}
 use borrow.Author.Needs.{needs}
-use Rattle.following_turn.proofs.answered.Statement.{statement}
-use Rattle.following_turn.proofs.answered.Tie as tie
+use Rattle.following_cell.proofs.answered.Statement.{statement}
+use Rattle.following_cell.proofs.answered.Tie as tie
 
 link-requires : tie.Need-link-requires
 link-requires c κs = (cell-room (c .before .pre), omega arith)

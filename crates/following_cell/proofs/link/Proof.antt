@@ -1,6 +1,6 @@
 use borrow.Author.Needs.{needs}
-use Rattle.following_turn.proofs.link.Statement.{statement}
-use Rattle.following_turn.proofs.link.Tie as tie
+use Rattle.following_cell.proofs.link.Statement.{statement}
+use Rattle.following_cell.proofs.link.Tie as tie
 
 wide16-requires : tie.Need-wide16-requires
 wide16-requires c κs = search needs

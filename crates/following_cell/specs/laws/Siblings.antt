@@ -12,8 +12,7 @@ use Rattle.plan.specs.Plan.{Table, Is, children}
 use Rattle.plan.specs.laws.Plan.{child-read}
 use Rattle.plan.specs.Fit.{Fit}
 use Rattle.links.specs.Links.{Links, link}
-use Rattle.following_turn.specs.Machine.{later, hops}
-use Rattle.following_turn.specs.Needed.{Row, Cell}
+use Rattle.following_cell.specs.Opening.{later, hops, Row, Cell}
 
 module _ (t : Table) (fit : Fit t) (ls : List ℕ) (links : Links t ls) where
   pub room : (s : ℕ) → Is t s → 4 * s + 4 ≤ length ls

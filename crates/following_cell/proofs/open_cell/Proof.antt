@@ -1,9 +1,9 @@
 use native.Mathlib.Omega.{arith}
-use Rattle.following_turn.specs.laws.Machine.{opened-run, opened-byte, opened-spent}
-use Rattle.following_turn.specs.laws.Siblings.{cell-room}
+use Rattle.following_cell.specs.laws.Opening.{opened-run, opened-byte, opened-spent}
+use Rattle.following_cell.specs.laws.Siblings.{cell-room}
 use borrow.Author.Needs.{needs}
-use Rattle.following_turn.proofs.open_cell.Statement.{statement}
-use Rattle.following_turn.proofs.open_cell.Tie as tie
+use Rattle.following_cell.proofs.open_cell.Statement.{statement}
+use Rattle.following_cell.proofs.open_cell.Tie as tie
 
 link-requires : tie.Need-link-requires
 link-requires c κs = (cell-room (c .before .before .before .pre), omega arith)

@@ -1,11 +1,10 @@
 use borrow.Author.Needs.{needs}
 use mathlib.Core.Path.{_≡_, refl}
 use native.Mathlib.Omega.{arith}
-use Rattle.following_turn.specs.Machine.{hops}
-use Rattle.following_turn.specs.Needed.{Row}
-use Rattle.following_turn.specs.laws.Siblings.{row-room, row-later, hops-more, hops-none}
-use Rattle.following_turn.proofs.sibling.Statement.{statement}
-use Rattle.following_turn.proofs.sibling.Tie as tie
+use Rattle.following_cell.specs.Opening.{hops, Row}
+use Rattle.following_cell.specs.laws.Siblings.{row-room, row-later, hops-more, hops-none}
+use Rattle.following_cell.proofs.sibling.Statement.{statement}
+use Rattle.following_cell.proofs.sibling.Tie as tie
 
 abbrev Inv-loop : tie.InvT-loop
 Inv-loop links n a s₀ i₀ s i = Row links s × (hops links s i ≡ hops links n a)

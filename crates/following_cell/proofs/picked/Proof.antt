@@ -1,7 +1,7 @@
-use Rattle.following_turn.specs.Machine.{picked}
+use Rattle.following_cell.specs.Opening.{picked}
 use borrow.Author.Tests.{eq-eqb, ne-eqb}
-use Rattle.following_turn.proofs.picked.Statement.{statement}
-use Rattle.following_turn.proofs.picked.Tie as tie
+use Rattle.following_cell.proofs.picked.Statement.{statement}
+use Rattle.following_cell.proofs.picked.Tie as tie
 
 returns : tie.Need-returns
 unfolding picked

@@ -1,8 +1,8 @@
-use Rattle.following_turn.specs.Machine.{later}
+use Rattle.following_cell.specs.Opening.{later}
 use borrow.Author.Tests.{eq-eqb, ne-eqb}
 use borrow.Author.Needs.{needs}
-use Rattle.following_turn.proofs.later.Statement.{statement}
-use Rattle.following_turn.proofs.later.Tie as tie
+use Rattle.following_cell.proofs.later.Statement.{statement}
+use Rattle.following_cell.proofs.later.Tie as tie
 
 returns : tie.Need-returns
 unfolding later

@@ -1,7 +1,7 @@
-use Rattle.following_turn.specs.Machine.{waiting}
+use Rattle.following_cell.specs.Opening.{waiting}
 use borrow.Author.Tests.{eq-eqb, ne-eqb}
-use Rattle.following_turn.proofs.waiting.Statement.{statement}
-use Rattle.following_turn.proofs.waiting.Tie as tie
+use Rattle.following_cell.proofs.waiting.Statement.{statement}
+use Rattle.following_cell.proofs.waiting.Tie as tie
 
 returns : tie.Need-returns
 unfolding waiting

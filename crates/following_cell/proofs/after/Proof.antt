@@ -1,8 +1,8 @@
-use Rattle.following_turn.specs.Machine.{after}
+use Rattle.following_cell.specs.Opening.{after}
 use borrow.Author.Tests.{eq-eqb, ne-eqb, lt-ltb, le-ltb}
 use borrow.Author.Needs.{needs}
-use Rattle.following_turn.proofs.after.Statement.{statement}
-use Rattle.following_turn.proofs.after.Tie as tie
+use Rattle.following_cell.proofs.after.Statement.{statement}
+use Rattle.following_cell.proofs.after.Tie as tie
 
 sub-t6 : tie.Need-sub-t6
 sub-t6 c = search needs
