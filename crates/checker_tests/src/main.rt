@@ -43,15 +43,23 @@ fn show_ends(r: Ended) {
     }
 }
 
+fn show_check(t: Columns, xs: &[i32], allowance: u32) {
+    show(check(t, xs, allowance));
+}
+
+fn show_joined(t: Columns, xs: &[i32], cell: u32) {
+    show_ends(ends(t, xs, cell as usize));
+}
+
 // The answer, with the first numbers of the positions lent.
 fn answer(word: u8, t: Columns, n: u32, xs: &[i32], lent: usize) {
     if xs.len() < lent {
         return;
     }
     if word == b'c' {
-        show(check(t, &xs[0..lent], n));
+        show_check(t, &xs[0..lent], n);
     } else {
-        show_ends(ends(t, &xs[0..lent], n as usize));
+        show_joined(t, &xs[0..lent], n);
     }
 }
 

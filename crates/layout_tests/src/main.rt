@@ -41,11 +41,11 @@ fn clear(scratch: &[u32]) -> bool {
     true
 }
 
-// Whether the numbers from place a on are as they were lent: all 9.
-fn kept(positions: &[i32], a: usize) -> bool {
-    let mut i: usize = a;
+// Whether the numbers past those of n cells are as they were lent: all 9.
+fn kept(positions: &[i32], n: usize) -> bool {
+    let mut i: usize = 0;
     while i < positions.len() {
-        if positions[i] != 9 {
+        if n <= i / 2 && positions[i] != 9 {
             return false;
         }
         i += 1;
@@ -104,23 +104,24 @@ fn print_answer(r: Laid, n: usize) -> usize {
     }
 }
 
-// The positions of the cells placed, and what is amiss.
-fn print_rest(n: usize, scratch: &[u32], positions: &[i32]) {
+fn print_positions(n: usize, positions: &[i32]) {
     if n < 16 {
         print_xs(positions, n);
     } else {
         print_number(checksum(positions, n));
     }
-    unless(n == 0 || clear(scratch), b" unclear");
-    if n <= 256 {
-        unless(kept(positions, 2 * n), b" beyond");
-    }
+}
+
+fn lay(t: Columns, allowance: u32, scratch: &mut [u32], positions: &mut [i32]) -> Laid {
+    layout(t, allowance, scratch, positions)
 }
 
 fn run(t: Columns, allowance: u32, scratch: &mut [u32], positions: &mut [i32]) {
     let n = t.count;
-    let placed = print_answer(layout(t, allowance, scratch, positions), n);
-    print_rest(placed, scratch, positions);
+    let placed = print_answer(lay(t, allowance, scratch, positions), n);
+    print_positions(placed, positions);
+    unless(placed == 0 || clear(scratch), b" unclear");
+    unless(kept(positions, placed), b" beyond");
 }
 
 // Layout on s numbers of scratch, all 7, and p of positions, all 9.
@@ -138,20 +139,22 @@ fn lend_both(t: Columns, allowance: u32, s: usize, p: usize) {
     }
 }
 
-// The case in a line, where it has one, of the table at another.
+// The case in a line, of the table at another.
 fn answer(text: &[u8], line: usize, tabled: usize) {
-    if byte_at(text, line) != b'l' {
-        return;
-    }
-    print_name(text, line);
+    let t = table(text, tabled);
     let sizes = after(text, line, b' ');
-    lend_both(
-        table(text, tabled),
-        first(text, line),
-        first(text, sizes) as usize,
-        second(text, sizes) as usize,
-    );
-    write_all(STDOUT_FILENO, b"\n");
+    let s = first(text, sizes) as usize;
+    let p = second(text, sizes) as usize;
+    lend_both(t, first(text, line), s, p);
+}
+
+// The same where the line has one.
+fn print_line(text: &[u8], line: usize, tabled: usize) {
+    if byte_at(text, line) == b'l' {
+        print_name(text, line);
+        answer(text, line, tabled);
+        write_all(STDOUT_FILENO, b"\n");
+    }
 }
 
 // Line by line.
@@ -161,7 +164,7 @@ fn run_all(text: &[u8]) {
     let mut turns: usize = 0;
     while turns < 1000 {
         tabled = latest(text, line, tabled);
-        answer(text, line, tabled);
+        print_line(text, line, tabled);
         line = after(text, line, b'\n');
         turns += 1;
     }

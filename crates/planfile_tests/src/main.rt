@@ -1,10 +1,18 @@
 // What Read and Label answer for each case on standard input. A case is three numbers of two bytes, low byte first, and a file:
 // the file's length, the length of the table to fill, and the cell whose label is asked for.
+use plan::Refusal;
 use planfile_spec::Reading;
 ghost use Prim.Native.Nat.{_<_};
 
 fn number(low: u8, high: u8) -> usize {
     (low as usize) + 256 * (high as usize)
+}
+
+// The number of two bytes of a case's head.
+fn field(head: &[u8; 6], i: usize) -> usize
+    requires { ⌜ i < 5 ⌝ }
+{
+    number(head[i], head[i + 1])
 }
 
 fn print(n: u64, after: u8) {
@@ -18,6 +26,13 @@ fn print16(n: u16, after: u8) {
 
 fn print8(n: u8, after: u8) {
     print(n as u64, after);
+}
+
+// A word, the number and the cell of a refusal.
+fn print_refusal(word: &[u8], refusal: Refusal, after: u8) {
+    io::write_all(1, word);
+    print8(refusal.number, b' ');
+    print16(refusal.cell, after);
 }
 
 // The record of a cell: parent, kind, W, D, label's length and start, and the label itself.
@@ -58,9 +73,7 @@ fn print_reading(file: &[u8], room: usize) {
     let plan = planfile::read(file, room);
     let refusal = plan.refusal;
     if refusal.number != 0 {
-        io::write_all(1, b"refused ");
-        print(refusal.number as u64, b' ');
-        print(refusal.cell as u64, b'\n');
+        print_refusal(b"refused ", refusal, b'\n');
         return;
     }
     let columns = plan.columns;
@@ -72,10 +85,7 @@ fn print_reading(file: &[u8], room: usize) {
 }
 
 fn print_label(file: &[u8], cell: usize) {
-    let refusal = planfile::label_refusal(file, cell);
-    io::write_all(1, b"label ");
-    print(refusal.number as u64, b' ');
-    print(refusal.cell as u64, b' ');
+    print_refusal(b"label ", planfile::label_refusal(file, cell), b' ');
     io::write_all(1, planfile::label(file, cell));
     io::write_all(1, b"\n");
 }
@@ -104,16 +114,11 @@ fn answer(space: &mut [u8]) -> bool {
     if io::read_full(0, &mut head) < 6 {
         return false;
     }
-    let size = number(head[0], head[1]);
+    let size = field(&head, 0);
     if !filled(space, size) {
         return false;
     }
-    print_case(
-        space,
-        size,
-        number(head[2], head[3]),
-        number(head[4], head[5]),
-    );
+    print_case(space, size, field(&head, 2), field(&head, 4));
     true
 }
 

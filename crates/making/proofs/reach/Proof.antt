@@ -55,7 +55,7 @@ module _ {M : Type 1} (𝓤 : URA M) (H : Heap 𝓤) (A : Atoms 𝓤) (W : Given
 pub reach-spec : {M : Type 1} → stated.statement M
 unfolding code.routine
 reach-spec 𝓤 H 𝓜 𝓖 𝓡 =
-    meets-lent by-columns 𝓤 H 𝓜 𝓖 𝓡 code.env own.name core.name code.function (code.unfolded 𝓤 H 𝓜 𝓡) apart.routine core.routine code.calls-records·columns-of code.calls-finishing_reach·reach (apart-thm.met 𝓤 H 𝓜 𝓖 𝓡) (columned 𝓤 H (𝓖 .A) (givenOf 𝓤 H 𝓜 𝓖)) L′.mir
+    meets-lent by-columns 𝓤 H 𝓜 𝓖 𝓡 code.env own.name core.name code.function (code.unfolded 𝓤 H 𝓜 𝓡) apart.routine core.routine code.calls-records·columns-of code.calls-finishing-reach·reach (apart-thm.met 𝓤 H 𝓜 𝓖 𝓡) (columned 𝓤 H (𝓖 .A) (givenOf 𝓤 H 𝓜 𝓖)) L′.mir
     2 others L.the-row (λ r u is. EL.lawful L.the-type L′.the-laws 𝓤 H (𝓖 .A) (givenOf 𝓤 H 𝓜 𝓖) tt .typed r _ is .0)
     (λ κs t a e r. Reaches t (a .0) (a .1 .0 .now) (a .1 .1 .0 .now) (a .1 .1 .1 .0) r)
     (λ κs t c q a e r. reach-lent t c q (a .0) (a .1 .0 .now) (a .1 .1 .0 .now) (a .1 .1 .1 .0) r) (λ κ. core-thm.met 𝓤 H 𝓜 𝓖 𝓡)
