@@ -7,6 +7,7 @@ use listing::refused_line;
 use plan::Columns;
 use plan::limits::MOST_CELLS;
 use plan::limits::SCRATCH_SIZE;
+use planfile_spec::Reading;
 ghost use mathlib.Core.Path.{_≡_};
 ghost use Prim.Native.Nat.{_≤_};
 ghost use lib.ListN.{length};
@@ -54,7 +55,7 @@ fn print_sheet(t: Columns, positions: &[i32], width: u32, rows: u32) -> bool
 
 // Writes the bitmap of a plan file, or the line of its refusal; whether all of it was written.
 fn print_plan(file: &[u8]) -> bool {
-    let plan = planfile::read(file, MOST_CELLS);
+    let plan: Reading = planfile::read(file, MOST_CELLS);
     let refusal = plan.refusal;
     if refusal.number != 0 {
         return print_line(refused_line(refusal.number as u32, refusal.cell as u32));

@@ -11,6 +11,7 @@ use plan::Columns;
 use plan::Refusal;
 use plan::limits::MOST_CELLS;
 use plan::limits::SCRATCH_SIZE;
+use planfile_spec::Reading;
 use walk::Chain;
 use walk::begin;
 use walk::turn;
@@ -143,7 +144,7 @@ fn show(t: Columns, allowance: u32) -> bool {
 
 // The turns of a plan file, or its refusal.
 fn show_file(file: &[u8]) -> bool {
-    let plan = planfile::read(file, MOST_CELLS);
+    let plan: Reading = planfile::read(file, MOST_CELLS);
     let refusal = plan.refusal;
     if refusal.number != 0 {
         return refuse(refusal);

@@ -35,8 +35,9 @@ use Rattle.content.specs.laws.Fine.{row-sound}
 use Rattle.content.specs.laws.Promised.{copy-passed, copy-small}
 use Rattle.copying.specs.declared.Copied.the-variants.{Written, Refused}
 use Rattle.copying.specs.Copied.{copied-of, output-after, Copies}
-use Rattle.copying.specs.Steps.{Put, narrow-to, form-to, text-at, labels-to, sum-to, row-from, records-to, Rows, Ready, lettered-steps}
-use Rattle.copying.specs.laws.Put.{then, text-long, form-holds}
+use Rattle.copying_records.specs.Parts.{Put, narrow-to, form-to, text-at, labels-to, sum-to, row-from, records-to, Rows}
+use Rattle.copying.specs.Steps.{Ready, lettered-steps}
+use Rattle.copying_records.specs.laws.Put.{then, text-long, form-holds}
 
 -- ---- lists that grow at the end
 from-last : (k d : ℕ) → from k (suc d) ≡ from k d ++ ((k + d) ∷ [])

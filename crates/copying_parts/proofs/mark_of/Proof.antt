@@ -1,7 +1,7 @@
 use Rattle.content.specs.Clean.{mark-of}
 use borrow.Author.Needs.{needs}
-use Rattle.copying.proofs.mark_of.Statement.{statement}
-use Rattle.copying.proofs.mark_of.Tie as tie
+use Rattle.copying_parts.proofs.mark_of.Statement.{statement}
+use Rattle.copying_parts.proofs.mark_of.Tie as tie
 
 enum-told : tie.Need-enum-told
 enum-told c = search needs

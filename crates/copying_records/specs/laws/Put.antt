@@ -18,7 +18,7 @@ use Rattle.plan.specs.declared.forms.Form.{Form}
 use Rattle.plan.specs.declared.forms.Form.the-variants.{Old, Wide}
 use Rattle.content.specs.Clean.{record-bytes}
 use Rattle.content.specs.laws.Clean.{record-length}
-use Rattle.copying.specs.Steps.{Put, narrow-to, form-to, Holds, text-at, labels-to, sum-to, row-from, records-to, Texts, Rows}
+use Rattle.copying_records.specs.Parts.{Put, narrow-to, form-to, Holds, text-at, labels-to, sum-to, row-from, records-to, Texts, Rows}
 
 sets-append : (s t l : List ℕ) (i : ℕ) → sets l i (s ++ t) ≡ sets (sets l i s) (i + length s) t
 sets-append [] t l i = let e : i + 0 ≡ i = omega arith in rw e

@@ -1,7 +1,7 @@
-use Rattle.copying.specs.laws.Put.{then}
+use Rattle.copying_records.specs.laws.Put.{then}
 use borrow.Author.Needs.{needs}
-use Rattle.copying.proofs.put_trailer.Statement.{statement}
-use Rattle.copying.proofs.put_trailer.Tie as tie
+use Rattle.copying_parts.proofs.put_trailer.Statement.{statement}
+use Rattle.copying_parts.proofs.put_trailer.Tie as tie
 
 -- src/lib.rt:126:22
 cast-put-pair : tie.Need-cast-put-pair

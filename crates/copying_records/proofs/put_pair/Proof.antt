@@ -1,7 +1,7 @@
-use Rattle.copying.specs.laws.Put.{then}
+use Rattle.copying_records.specs.laws.Put.{then}
 use borrow.Author.Needs.{needs}
-use Rattle.copying.proofs.put_pair.Statement.{statement}
-use Rattle.copying.proofs.put_pair.Tie as tie
+use Rattle.copying_records.proofs.put_pair.Statement.{statement}
+use Rattle.copying_records.proofs.put_pair.Tie as tie
 
 -- src/lib.rt:26:20
 cast-put : tie.Need-cast-put

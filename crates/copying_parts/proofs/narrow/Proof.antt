@@ -1,6 +1,6 @@
 use borrow.Author.Tests.{lt-leb, le-leb}
-use Rattle.copying.proofs.narrow.Statement.{statement}
-use Rattle.copying.proofs.narrow.Tie as tie
+use Rattle.copying_parts.proofs.narrow.Statement.{statement}
+use Rattle.copying_parts.proofs.narrow.Tie as tie
 
 returns : tie.Need-returns
 returns c = rw (lt-leb _ _ (c .if1 .taken))

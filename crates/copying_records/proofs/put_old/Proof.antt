@@ -1,7 +1,7 @@
-use Rattle.copying.specs.laws.Put.{then}
+use Rattle.copying_records.specs.laws.Put.{then}
 use borrow.Author.Needs.{needs}
-use Rattle.copying.proofs.put_old.Statement.{statement}
-use Rattle.copying.proofs.put_old.Tie as tie
+use Rattle.copying_records.proofs.put_old.Statement.{statement}
+use Rattle.copying_records.proofs.put_old.Tie as tie
 
 -- src/lib.rt:77:9
 put-pair-requires : tie.Need-put-pair-requires

@@ -1,11 +1,11 @@
 use Prim.Native.Nat.{_-_, _≤_}
 use mathlib.Core.Path.{_≡_, refl}
 use native.Mathlib.Omega.{arith}
-use Rattle.copying.specs.Steps.{narrow-to}
-use Rattle.copying.specs.laws.Put.{narrow-start, narrow-more, form-ends}
+use Rattle.copying_records.specs.Parts.{narrow-to}
+use Rattle.copying_records.specs.laws.Put.{narrow-start, narrow-more, form-ends}
 use borrow.Author.Needs.{needs}
-use Rattle.copying.proofs.form_for.Statement.{statement}
-use Rattle.copying.proofs.form_for.Tie as tie
+use Rattle.copying_parts.proofs.form_for.Statement.{statement}
+use Rattle.copying_parts.proofs.form_for.Tie as tie
 
 abbrev Inv-loop : tie.InvT-loop
 Inv-loop widths ranks n good₀ c₀ good c = (c ≤ n) × (good ≡ narrow-to widths ranks c)

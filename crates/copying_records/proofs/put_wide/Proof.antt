@@ -1,7 +1,7 @@
-use Rattle.copying.specs.laws.Put.{then}
+use Rattle.copying_records.specs.laws.Put.{then}
 use borrow.Author.Needs.{needs}
-use Rattle.copying.proofs.put_wide.Statement.{statement}
-use Rattle.copying.proofs.put_wide.Tie as tie
+use Rattle.copying_records.proofs.put_wide.Statement.{statement}
+use Rattle.copying_records.proofs.put_wide.Tie as tie
 
 put-pair-requires : tie.Need-put-pair-requires
 put-pair-requires c κs = search needs

@@ -1,10 +1,10 @@
 use Prim.Native.Nat.{_-_, _≤_}
 use native.Mathlib.Omega.{arith}
 use mathlib.Core.Path.{_≡_}
-use Rattle.copying.specs.laws.Put.{Laid, laid-start, laid-room, laid-more, laid-all}
+use Rattle.copying_records.specs.laws.Put.{Laid, laid-start, laid-room, laid-more, laid-all}
 use borrow.Author.Needs.{needs}
-use Rattle.copying.proofs.put_labels.Statement.{statement}
-use Rattle.copying.proofs.put_labels.Tie as tie
+use Rattle.copying_parts.proofs.put_labels.Statement.{statement}
+use Rattle.copying_parts.proofs.put_labels.Tie as tie
 
 abbrev Inv-loop : tie.InvT-loop
 Inv-loop lengths starts n letters out₀ at₀ c₀ out at c = (c ≤ n) × Laid lengths starts letters out₀ out c at

@@ -1,11 +1,11 @@
 use Prim.Native.Nat.{_+_, _-_, _≤_, _<_}
 use native.Mathlib.Omega.{arith}
 use lib.ListN.{length, take, drop}
-use Rattle.copying.specs.laws.Put.{part-start, part-more, part-all}
-use Rattle.copying.specs.Steps.{Put}
+use Rattle.copying_records.specs.laws.Put.{part-start, part-more, part-all}
+use Rattle.copying_records.specs.Parts.{Put}
 use borrow.Author.Needs.{needs}
-use Rattle.copying.proofs.put_part.Statement.{statement}
-use Rattle.copying.proofs.put_part.Tie as tie
+use Rattle.copying_parts.proofs.put_part.Statement.{statement}
+use Rattle.copying_parts.proofs.put_part.Tie as tie
 
 abbrev Inv-loop : tie.InvT-loop
 Inv-loop letters start size out₀ at i₀ out i = (i ≤ size) × Put out₀ at (take i (drop start letters)) out (at + i)

@@ -1,10 +1,10 @@
 use Prim.Native.Nat.{_-_, _≤_}
 use mathlib.Core.Path.{_≡_}
 use native.Mathlib.Omega.{arith}
-use Rattle.copying.specs.laws.Put.{Rowed, rowed-start, rowed-room, rowed-more, rowed-all}
+use Rattle.copying_records.specs.laws.Put.{Rowed, rowed-start, rowed-room, rowed-more, rowed-all}
 use borrow.Author.Needs.{needs}
-use Rattle.copying.proofs.put_records.Statement.{statement}
-use Rattle.copying.proofs.put_records.Tie as tie
+use Rattle.copying_records.proofs.put_records.Statement.{statement}
+use Rattle.copying_records.proofs.put_records.Tie as tie
 
 abbrev Inv-loop : tie.InvT-loop
 Inv-loop form parents kinds widths depths ranks lengths n out₀ begin at₀ start₀ c₀ out at start c = (c ≤ n) × Rowed form parents kinds widths depths ranks lengths out₀ out begin c at start

@@ -1,9 +1,9 @@
 use Rattle.plan.specs.Forms.{record-size}
 use Rattle.content.specs.laws.Clean.{record-old, record-wide}
-use Rattle.copying.specs.Steps.{Holds}
+use Rattle.copying_records.specs.Parts.{Holds}
 use borrow.Author.Needs.{needs}
-use Rattle.copying.proofs.put_record.Statement.{statement}
-use Rattle.copying.proofs.put_record.Tie as tie
+use Rattle.copying_records.proofs.put_record.Statement.{statement}
+use Rattle.copying_records.proofs.put_record.Tie as tie
 
 enum-told : tie.Need-enum-told
 enum-told c = search needs
