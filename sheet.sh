@@ -9,6 +9,8 @@ root="$(cd "$(dirname "$0")" && pwd)"
 sheet="$root/target/bin/sheet"
 work="$(mktemp -d)" || exit 2
 trap 'rm -rf "$work"' EXIT
+# the checker's copies of what lies below a crate: in memory where the machine has a place for that
+if [ -z "${TMPDIR:-}" ] && [ -w /dev/shm ]; then memory=/dev/shm; else memory="${TMPDIR:-/tmp}"; fi
 
 trouble() {
     echo "sheet.sh: $1" >&2
@@ -18,7 +20,7 @@ trouble() {
 # Proves and builds the program where that is not done, and says which crates it had to prove.
 built() {
     [ -x "$sheet" ] || trouble "proving the program and the crates that it stands on, once; this takes some minutes"
-    (cd "$root" && rt check sheet) 2>&1 | tee "$work/log" | sed -un '/^rt: .* proved ([0-9]* s)$/p' >&2 && return
+    (cd "$root" && TMPDIR="$memory" rt check sheet) 2>&1 | tee "$work/log" | sed -un '/^rt: .* proved ([0-9]* s)$/p' >&2 && return
     cat "$work/log" >&2
     trouble "the program is not proved"
 }
