@@ -1,19 +1,17 @@
 // The cases of a test program, a text of lines: each a word and its numbers, one space before each. A table is six lines: table (how many
 // cells), parents, kinds, widths, depths, ranks. A case that follows it ends with a colon, a space and its name.
-mod printed;
 mod scanned;
 
+use io::write_all;
+use libc::STDOUT_FILENO;
 use plan::Columns;
-pub use printed::pair;
-pub use printed::print_name;
-pub use printed::print_number;
-pub use printed::print_signed;
 pub use scanned::after;
 pub use scanned::byte_at;
-pub use scanned::number_at;
+use scanned::find;
+use scanned::number_at;
 use whole::difference;
 
-// The number k of a line, from 1 on: the first or the second.
+// The first number of a line, and the second.
 pub fn first(text: &[u8], line: usize) -> u32 {
     number_at(text, after(text, line, b' '))
 }
@@ -108,4 +106,17 @@ pub fn positions(text: &[u8], line: usize) -> [i32; 512] {
         i += 1;
     }
     xs
+}
+
+// The name of the case at `at`: after the colon and a space, to the end of the line.
+pub fn print_name(text: &[u8], at: usize) {
+    let colon = find(text, at, b':');
+    let end = find(text, colon, b'\n');
+    if end <= text.len() {
+        if 2 <= end {
+            if colon <= end - 2 {
+                write_all(STDOUT_FILENO, &text[colon + 2..end]);
+            }
+        }
+    }
 }

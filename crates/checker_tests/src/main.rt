@@ -4,41 +4,31 @@ use cases::after;
 use cases::byte_at;
 use cases::first;
 use cases::latest;
-use cases::pair;
 use cases::positions;
 use cases::print_name;
-use cases::print_number;
-use cases::print_signed;
 use cases::second;
 use cases::table;
 use checker::Checked;
 use checker::check;
 use ends::Ended;
 use ends::ends;
-use io::write_all;
-use libc::STDOUT_FILENO;
+use outcomes::end_line;
+use outcomes::pair;
+use outcomes::points;
+use outcomes::triple;
 use plan::Columns;
 
 fn show(r: Checked) {
     match r {
         Checked::Kept(w, h) => pair(b" kept", w, h),
-        Checked::Broken(rule, a, b) => {
-            pair(b" broken", rule as u32, a as u32);
-            print_number(b as u32);
-        }
+        Checked::Broken(rule, a, b) => triple(b" broken", rule as u32, a as u32, b as u32),
         Checked::Refused(k, c) => pair(b" refused", k as u32, c as u32),
     }
 }
 
 fn show_ends(r: Ended) {
     match r {
-        Ended::Joined(x, y, u, v) => {
-            write_all(STDOUT_FILENO, b" joined");
-            print_signed(x);
-            print_signed(y);
-            print_signed(u);
-            print_signed(v);
-        }
+        Ended::Joined(x, y, u, v) => points(b" joined", x, y, u, v),
         Ended::Refused(k, c) => pair(b" refused", k as u32, c as u32),
     }
 }
@@ -78,7 +68,7 @@ fn run(text: &[u8], line: usize, tabled: usize) {
         &xs,
         second(text, line) as usize,
     );
-    write_all(STDOUT_FILENO, b"\n");
+    end_line();
 }
 
 // Line by line.

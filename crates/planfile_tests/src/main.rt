@@ -1,5 +1,6 @@
 // What Read and Label answer for each case on standard input. A case is three numbers of two bytes, low byte first, and a file:
 // the file's length, the length of the table to fill, and the cell whose label is asked for.
+use plan::Columns;
 use plan::Refusal;
 use planfile_spec::Reading;
 ghost use Prim.Native.Nat.{_<_};
@@ -35,25 +36,24 @@ fn print_refusal(word: &[u8], refusal: Refusal, after: u8) {
     print16(refusal.cell, after);
 }
 
-// The record of a cell: parent, kind, W, D, label's length and start, and the label itself.
+// The numbers of a cell: parent, kind, rank, W, D.
+fn print_cell(t: Columns, c: usize)
+    requires { ⌜ c < 256 ⌝ }
+{
+    print16(t.parent[c], b' ');
+    print8(t.kind[c], b' ');
+    print8(t.rank[c], b' ');
+    print16(t.width[c], b' ');
+    print8(t.depth[c], b' ');
+}
+
+// The same, its label's length and start, and the label itself.
 fn print_record(plan: Reading, file: &[u8], c: usize)
     requires { ⌜ c < 256 ⌝ }
 {
-    let columns = plan.columns;
-    let parents = columns.parent;
-    let kinds = columns.kind;
-    let ranks = columns.rank;
-    let widths = columns.width;
-    let depths = columns.depth;
-    let lengths = plan.label_length;
-    let starts = plan.label_start;
-    print16(parents[c], b' ');
-    print8(kinds[c], b' ');
-    print8(ranks[c], b' ');
-    print16(widths[c], b' ');
-    print8(depths[c], b' ');
-    print8(lengths[c], b' ');
-    print16(starts[c], b' ');
+    print_cell(plan.columns, c);
+    print8(plan.label_length[c], b' ');
+    print16(plan.label_start[c], b' ');
     io::write_all(1, planfile::label(file, c));
     io::write_all(1, b"\n");
 }
@@ -108,18 +108,23 @@ fn print_case(space: &[u8], size: usize, room: usize, cell: usize) {
     print_label(file, cell);
 }
 
+// The case with this head; false where the input ends before.
+fn answer_to(head: &[u8; 6], space: &mut [u8]) -> bool {
+    let size = field(head, 0);
+    if !filled(space, size) {
+        return false;
+    }
+    print_case(space, size, field(head, 2), field(head, 4));
+    true
+}
+
 // One case; false where the input has ended.
 fn answer(space: &mut [u8]) -> bool {
     let mut head = [0u8; 6];
     if io::read_full(0, &mut head) < 6 {
         return false;
     }
-    let size = field(&head, 0);
-    if !filled(space, size) {
-        return false;
-    }
-    print_case(space, size, field(&head, 2), field(&head, 4));
-    true
+    answer_to(&head, space)
 }
 
 fn main() {

@@ -15,8 +15,8 @@ loop-holds c = search needs
 latest-requires : tie.Need-latest-requires Inv-loop μ-loop
 latest-requires c κs = search needs
 
-print-line-requires : tie.Need-print-line-requires Inv-loop μ-loop
-print-line-requires c κs = search needs
+answer-requires : tie.Need-answer-requires Inv-loop μ-loop
+answer-requires c κs = search needs
 
 after-requires : tie.Need-after-requires Inv-loop μ-loop
 after-requires c κs = search needs
@@ -41,7 +41,7 @@ run-all-spec =
     μ-loop
     loop-holds
     latest-requires
-    print-line-requires
+    answer-requires
     after-requires
     add-turns
     loop-less

@@ -4,8 +4,8 @@ use borrow.Author.Tests.{not-false}
 use mathlib.Core.Path.{sym, _∙_}
 use native.Mathlib.Omega.{arith}
 use borrow.Author.Needs.{needs}
-use Rattle.cases.proofs.printed.print_signed.Statement.{statement}
-use Rattle.cases.proofs.printed.print_signed.Tie as tie
+use Rattle.outcomes.proofs.print_signed.Statement.{statement}
+use Rattle.outcomes.proofs.print_signed.Tie as tie
 
 within-requires : tie.Need-within-requires
 within-requires c κs = search needs

@@ -1,8 +1,8 @@
 use Prim.Native.Nat.{_-_}
 use lib.ListN.{length}
 use borrow.Author.Needs.{needs}
-use Rattle.layout_tests.proofs.print_xs.Statement.{statement}
-use Rattle.layout_tests.proofs.print_xs.Tie as tie
+use Rattle.outcomes.proofs.print_xs.Statement.{statement}
+use Rattle.outcomes.proofs.print_xs.Tie as tie
 
 abbrev Inv-loop : tie.InvT-loop
 Inv-loop positions n i₀ i = Unit {0}

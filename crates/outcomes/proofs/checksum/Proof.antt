@@ -1,8 +1,8 @@
 use Prim.Native.Nat.{_≤_, _<_, _-_}
 use lib.ListN.{length}
 use borrow.Author.Needs.{needs}
-use Rattle.layout_tests.proofs.checksum.Statement.{statement}
-use Rattle.layout_tests.proofs.checksum.Tie as tie
+use Rattle.outcomes.proofs.checksum.Statement.{statement}
+use Rattle.outcomes.proofs.checksum.Tie as tie
 
 abbrev Inv-loop : tie.InvT-loop
 Inv-loop positions n sum₀ i₀ sum i = (i ≤ length positions) × (sum < 65537)

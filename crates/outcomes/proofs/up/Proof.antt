@@ -3,8 +3,8 @@ use Rattle.whole.specs.laws.Says.{holds}
 use mathlib.Core.Path.{sym, _∙_}
 use native.Mathlib.Omega.{arith}
 use borrow.Author.Needs.{needs}
-use Rattle.layout_tests.proofs.up.Statement.{statement}
-use Rattle.layout_tests.proofs.up.Tie as tie
+use Rattle.outcomes.proofs.up.Statement.{statement}
+use Rattle.outcomes.proofs.up.Tie as tie
 
 within-requires : tie.Need-within-requires
 within-requires c κs = search needs
