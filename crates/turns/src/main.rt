@@ -1,18 +1,17 @@
 // Layout's walk, turn by turn, for the plan file on standard input: before each turn a line with the open cells from the root down and the child
 // that is opened next. The turns are crate walk's own.
 use asking::tree::survey;
-use io::print_decimal;
+use chains::print_turn;
+use chains::refuse;
+use chains::word;
 use io::write_all;
 use layout::layout_refusal;
-use libc::STDOUT_FILENO;
 use links::links_of;
 use marks::MARKS;
 use plan::Columns;
-use plan::Refusal;
 use plan::limits::MOST_CELLS;
 use plan::limits::SCRATCH_SIZE;
 use planfile_spec::Reading;
-use walk::Chain;
 use walk::begin;
 use walk::turn;
 ghost use lib.ListN.{replicate};
@@ -25,39 +24,6 @@ ghost use Rattle.walk.specs.Walked.{Walking};
 
 // Positions of a whole table, two numbers a cell.
 const POSITIONS: usize = 2 * MOST_CELLS;
-
-// Writes a text; whether all of it was written.
-fn word(text: &[u8]) -> bool {
-    write_all(STDOUT_FILENO, text)
-}
-
-fn number(n: usize) {
-    word(b" ");
-    print_decimal(STDOUT_FILENO, n as u64);
-}
-
-// The numbers of the chain up to its count.
-fn print_chain(chain: Chain) {
-    let cells = chain.cells;
-    let mut i: usize = 0;
-    while i < 32 {
-        if i < chain.count {
-            number(cells[i] as usize);
-        }
-        i += 1;
-    }
-}
-
-// The line before a turn.
-fn print_turn(chain: Chain, next: usize) {
-    word(b"open");
-    print_chain(chain);
-    if 0 < next {
-        word(b", next");
-        number(next);
-    }
-    word(b"\n");
-}
 
 // The walk of crate walk, with a line before each turn; whether the last line was written: to a full or a closed output it is not.
 fn watch<'a>(
@@ -124,14 +90,6 @@ fn survey_and_tour(t: Columns, allowance: u32) -> bool
         &mut tops,
     );
     tour(t, &tops, allowance)
-}
-
-// The line of a refusal; whether its end was written.
-fn refuse(refusal: Refusal) -> bool {
-    word(b"refused");
-    number(refusal.number as usize);
-    number(refusal.cell as usize);
-    word(b"\n")
 }
 
 fn show(t: Columns, allowance: u32) -> bool {

@@ -1,7 +1,7 @@
 use Prim.Native.Nat.{_≤_, _-_}
 use borrow.Author.Needs.{needs}
-use Rattle.turns.proofs.print_chain.Statement.{statement}
-use Rattle.turns.proofs.print_chain.Tie as tie
+use Rattle.chains.proofs.print_chain.Statement.{statement}
+use Rattle.chains.proofs.print_chain.Tie as tie
 
 abbrev Inv-loop : tie.InvT-loop
 Inv-loop chain cells i₀ i = i ≤ 32
