@@ -1,6 +1,5 @@
 #!/usr/bin/env bash
-# The programs and the script sheet.sh from outside: what they print, where, and with which status; and
-# what they do when the output cannot be written. Needs the programs in target/bin. The gate runs it after `rt ci`.
+# The programs from outside: what they print, and where; and what they do when the output cannot be written. Needs the programs in target/bin. The gate runs it after `rt ci`.
 set -u
 cd "$(dirname "$0")/.."
 sheet=target/bin/sheet
@@ -146,63 +145,6 @@ if strace -o "$work/trace" true 2> "$work/err"; then
 else
     echo "tests/program.sh: strace is not installed, or may not trace: how often the program writes is not looked at"
 fi
-
-# ---- the script: 0 for a sheet, 1 for a refusal, 2 for trouble; of several plans, the greatest
-# status EXPECTED OUTPUT PLAN...: runs the script, with its output in a file that ends as OUTPUT
-status() {
-    expected=$1
-    wanted=$2
-    shift 2
-    ./sheet.sh "$@" > "$work/out" 2> "$work/err"
-    same "status of sheet.sh $*" "$expected" $?
-    same_files "output of sheet.sh $*" "$wanted" "$work/out"
-    [ "$expected" -eq 2 ] || same_files "standard error of sheet.sh $*" "$work/empty" "$work/err"
-    [ "$expected" -ne 2 ] || same "lines on standard error of sheet.sh $*" 1 "$(wc -l < "$work/err")"
-}
-echo "refused 2 0" > "$work/refused"
-cat plans/A.txt "$work/refused" plans/B.txt > "$work/three"
-cat plans/A.txt plans/B.txt > "$work/two"
-status 0 plans/pond.txt
-status 0 "$work/two" plans/A.plan plans/B.plan
-status 1 "$work/refused" "$work/short.plan"
-status 1 "$work/three" plans/A.plan "$work/short.plan" plans/B.plan
-status 2 "$work/empty" "$work/none.plan"
-status 2 "$work/empty" "$work"
-status 2 "$work/three" plans/A.plan "$work/short.plan" "$work/none.plan" plans/B.plan
-for full in plans/full.plan "$work/short.plan"; do
-    ./sheet.sh "$full" > /dev/full 2> "$work/err"
-    same "status of sheet.sh $full to a full device" 2 $?
-    same "lines on standard error of sheet.sh to a full device" 1 "$(wc -l < "$work/err")"
-    ./sheet.sh "$full" >&- 2> "$work/err"
-    same "status of sheet.sh $full to a closed output" 2 $?
-done
-
-# the script beside an `rt` and a program of the test's own: fake RT PROGRAM, the lines of each, no program where there are none
-fake() {
-    rm -rf "$work/fake"
-    mkdir -p "$work/fake/bin" "$work/fake/target/bin"
-    cp sheet.sh "$work/fake"
-    printf '#!/bin/sh\n%s\n' "$1" > "$work/fake/bin/rt"
-    chmod +x "$work/fake/bin/rt"
-    [ -z "$2" ] || printf '#!/bin/sh\n%s\n' "$2" > "$work/fake/target/bin/sheet"
-    [ -z "$2" ] || chmod +x "$work/fake/target/bin/sheet"
-    PATH="$work/fake/bin:$PATH" "$work/fake/sheet.sh" plans/A.plan > "$work/out" 2> "$work/err"
-    got=$?
-}
-fake 'echo "rt: plan is not proved"; exit 1' 'echo sheet 1'
-same "status where the program is not proved" 2 $got
-same_files "output where the program is not proved" "$work/empty" "$work/out"
-same "what is said where the program is not proved" "rt: plan is not proved" "$(head -n 1 "$work/err")"
-fake 'exit 0' 'echo sheet 1 0; echo "no room" >&2'
-same "status where the program has trouble" 2 $got
-same_files "output where the program has trouble" "$work/empty" "$work/out"
-same "what is said where the program has trouble" "sheet.sh: plans/A.plan: no listing: no room" "$(cat "$work/err")"
-fake 'exit 0' 'exit 0'
-same "status where the program prints nothing" 2 $got
-fake 'echo "rt: plan proved (7 s)"; echo "rt: io proved (unchanged since it was last proved)"; echo "echo sheet 1" > target/bin/sheet; chmod +x target/bin/sheet' ''
-same "status of a first run" 0 $got
-same "first line of what a first run says" "sheet.sh: proving the program and the crates that it stands on, once; this takes some minutes" "$(head -n 1 "$work/err")"
-same "the rest of what a first run says" "rt: plan proved (7 s)" "$(tail -n +2 "$work/err")"
 
 # ---- the program plot: a drawing in SVG, or the line of a refusal
 plot=target/bin/plot
@@ -427,4 +369,4 @@ done
 "$folder" plans/A.plan > /dev/full 2> "$work/err"
 same "what folder says of a full device" "folder: the report could not be written whole" "$(cat "$work/err")"
 
-echo "the programs and sheet.sh: $checks checks, no difference"
+echo "the programs: $checks checks, no difference"

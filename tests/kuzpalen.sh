@@ -1,0 +1,201 @@
+#!/usr/bin/env bash
+# ./kuzpalen from outside: every command and every way to fail, with what is printed, what is said and the status. Needs the
+# programs in target/bin. The gate runs it after `rt ci`.
+set -u
+cd "$(dirname "$0")/.."
+work="$(mktemp -d)"
+trap 'rm -rf "$work"' EXIT
+checks=0
+
+# same WHAT EXPECTED GOT
+same() {
+    checks=$((checks + 1))
+    [ "$2" = "$3" ] && return
+    printf 'tests/kuzpalen.sh: %s\n  expected: %s\n  got:      %s\n' "$1" "$2" "$3"
+    exit 1
+}
+
+# same_files WHAT EXPECTED GOT
+same_files() {
+    checks=$((checks + 1))
+    cmp "$2" "$3" && return
+    echo "tests/kuzpalen.sh: $1"
+    exit 1
+}
+
+# run STATUS OUTPUT SAID ARGUMENT...: the command prints the file OUTPUT and says the line SAID on standard error, nothing
+# where that is empty; its standard input is $work/in
+run() {
+    local status=$1 wanted=$2 said=$3
+    shift 3
+    ./kuzpalen "$@" < "$work/in" > "$work/out" 2> "$work/err"
+    same "status of kuzpalen $*" "$status" $?
+    same_files "output of kuzpalen $*" "$wanted" "$work/out"
+    same "standard error of kuzpalen $*" "$said" "$(cat "$work/err")"
+}
+
+: > "$work/empty"
+cp "$work/empty" "$work/in"
+head -c 15 plans/printed.plan > "$work/short.plan"
+echo "refused 2 0" > "$work/refused"
+
+# ---- sheet: 0 for a sheet, 1 for a refusal, 2 for trouble; of several plans the greatest
+cat plans/A.txt plans/B.txt > "$work/two"
+cat plans/A.txt "$work/refused" plans/B.txt > "$work/three"
+for plan in plans/*.plan; do run 0 "${plan%.plan}.txt" "" sheet "$plan"; done
+run 0 "$work/two" "" sheet plans/A.plan plans/B.plan
+run 1 "$work/refused" "" sheet "$work/short.plan"
+run 1 "$work/three" "" sheet plans/A.plan "$work/short.plan" plans/B.plan
+run 2 "$work/three" "kuzpalen: $work/none.plan: there is no such file" sheet plans/A.plan "$work/short.plan" "$work/none.plan" plans/B.plan
+run 1 "$work/refused" "" sheet "$work/empty"
+
+# ---- the other commands print what their programs print
+target/bin/clean < plans/pond.plan > "$work/wanted"
+run 0 "$work/wanted" "" clean plans/pond.plan
+run 0 docs/pond.svg "" plot plans/pond.plan
+target/bin/plot 2.5 15 0.5 < plans/B.plan > "$work/wanted"
+run 0 "$work/wanted" "" plot plans/B.plan 2.5 15 0.5
+target/bin/strip < plans/pond.plan > "$work/wanted"
+run 0 "$work/wanted" "" strip plans/pond.plan
+tests/turns.py plans/pond.plan > "$work/wanted"
+run 0 "$work/wanted" "" turns plans/pond.plan
+printf '4 Measure the level\n10 Close both gates\nspent 3 2\n' > "$work/wanted"
+printf '\0\1\1' > "$work/answers"
+run 0 "$work/wanted" "" drill plans/pond.plan "$work/answers"
+cp "$work/answers" "$work/in"
+run 0 "$work/wanted" "" drill plans/pond.plan
+cp "$work/empty" "$work/in"
+target/bin/folder plans/*.plan > "$work/wanted"
+run 0 "$work/wanted" "" folder plans/*.plan
+{ echo "$work/short.plan refused 2 0"; target/bin/folder plans/A.plan; } > "$work/wanted"
+run 1 "$work/wanted" "" folder "$work/short.plan" plans/A.plan
+# a box of width 0 and one of depth 0, mended
+{ head -c 9 plans/printed.plan; printf '\0'; tail -c 28 plans/printed.plan; } > "$work/cramped.plan"
+target/bin/mend "$work/wanted.plan" < "$work/cramped.plan" > "$work/wanted"
+run 0 "$work/wanted" "" mend "$work/cramped.plan" "$work/mended.plan"
+same_files "what mend writes" "$work/wanted.plan" "$work/mended.plan"
+
+# ---- a plan on standard input
+cp plans/B.plan "$work/in"
+run 0 plans/B.txt "" sheet -
+cat plans/A.txt plans/B.txt > "$work/two"
+run 0 "$work/two" "" sheet plans/A.plan -
+target/bin/clean < plans/B.plan > "$work/wanted"
+run 0 "$work/wanted" "" clean -
+target/bin/plot 2 < plans/B.plan > "$work/wanted"
+run 0 "$work/wanted" "" plot - 2
+target/bin/strip < plans/B.plan > "$work/wanted"
+run 0 "$work/wanted" "" strip -
+tests/turns.py plans/B.plan > "$work/wanted"
+run 0 "$work/wanted" "" turns -
+printf '1\n2\nfinished 0 2\n' > "$work/wanted"
+run 0 "$work/wanted" "" drill - "$work/empty"
+target/bin/folder plans/B.plan > "$work/wanted"
+run 0 "$work/wanted" "" folder -
+cp "$work/short.plan" "$work/in"
+{ echo "- refused 2 0"; target/bin/folder; } > "$work/wanted"
+run 1 "$work/wanted" "" folder -
+cp "$work/empty" "$work/in"
+
+# ---- refused: a line on standard output, or on standard error where the output is a file of another kind
+echo before > "$work/kept"
+for command in turns drill "mend"; do
+    set -- $command "$work/short.plan"
+    [ $command = turns ] || set -- "$@" "$work/kept"
+    run 1 "$work/refused" "" "$@"
+done
+same "what mend leaves of a file where the plan is refused" before "$(cat "$work/kept")"
+for command in clean plot strip; do run 1 "$work/empty" "kuzpalen: $work/short.plan: refused 2 0" $command "$work/short.plan"; done
+
+# ---- trouble: one line that names the file and the reason, and nothing printed
+for command in sheet clean plot strip turns folder drill; do
+    run 2 "$work/empty" "kuzpalen: $work/none.plan: there is no such file" $command "$work/none.plan"
+    run 2 "$work/empty" "kuzpalen: $work: is a folder" $command "$work"
+    ./kuzpalen $command - <&- > "$work/out" 2> "$work/err"
+    same "status of $command, standard input closed" 2 $?
+    same_files "output of $command, standard input closed" "$work/empty" "$work/out"
+    same "lines on standard error of $command, standard input closed" 1 "$(wc -l < "$work/err")"
+    ./kuzpalen $command plans/A.plan - < "$work" > "$work/out" 2> "$work/err"
+    same "status of $command, an input that fails" 2 $?
+done
+for command in clean strip turns; do run 2 "$work/empty" "kuzpalen: $command takes PLAN" $command plans/A.plan plans/B.plan; done
+for command in clean strip turns; do run 2 "$work/empty" "kuzpalen: $command takes PLAN" $command; done
+run 2 "$work/empty" "kuzpalen: mend takes PLAN OUT" mend plans/A.plan
+run 2 "$work/empty" "kuzpalen: drill takes PLAN [ANSWERS]" drill plans/A.plan "$work/empty" "$work/empty"
+run 2 "$work/empty" "kuzpalen: plot takes PLAN [PITCH [MARGIN-X [MARGIN-Y]]]" plot plans/A.plan 1 2 3 4
+run 2 "$work/empty" "kuzpalen: sheet takes PLAN..." sheet
+run 2 "$work/empty" "kuzpalen: folder takes PLAN..." folder
+run 2 "$work/empty" "kuzpalen: plans/A.plan: arguments are pitch, margin x and margin y in millimetres, each with at most three digits after the point" plot plans/A.plan x
+run 2 "$work/empty" "kuzpalen: drill: the plan and the answers cannot both be standard input" drill -
+run 2 "$work/empty" "kuzpalen: there is no command draw; ./kuzpalen help lists them" draw plans/A.plan
+# the second file of mend: a folder, a device, a link, a folder that is not there
+ln -s "$work/kept" "$work/link"
+for out in "$work" /dev/null "$work/link"; do run 2 "$work/empty" "kuzpalen: $out: is no regular file, and is not replaced" mend plans/A.plan "$out"; done
+same "the file behind a link" before "$(cat "$work/kept")"
+run 2 "$work/empty" "kuzpalen: plans/A.plan: the file could not be written" mend plans/A.plan "$work/none/out.plan"
+run 2 "$work/empty" "kuzpalen: plans/A.plan: the file could not be written" mend plans/A.plan /proc/out.plan     # a folder where nothing can be written
+# an output that cannot be written: a full device, a closed one, a pipe that nobody reads
+for command in sheet clean plot strip turns folder; do
+    ./kuzpalen $command plans/full.plan > /dev/full 2> "$work/err"
+    same "status of $command to a full device" 2 $?
+    same "lines on standard error of $command to a full device" 1 "$(wc -l < "$work/err")"
+    ./kuzpalen $command plans/full.plan >&- 2> "$work/err"
+    same "status of $command to a closed output" 2 $?
+    (trap '' PIPE; ./kuzpalen $command plans/full.plan 2> "$work/err"; echo $? > "$work/status") | true
+    same "lines on standard error of $command to a pipe that nobody reads" 1 "$(wc -l < "$work/err")"
+    same "status of $command to a pipe that nobody reads" 2 "$(cat "$work/status")"
+done
+# a signal while a plan is awaited: the status says so, nothing is printed, and nothing is left behind
+mkfifo "$work/pipe"
+mkdir "$work/temporary"
+TMPDIR="$work/temporary" ./kuzpalen sheet - < "$work/pipe" > "$work/out" 2> "$work/err" &
+exec 3> "$work/pipe"
+sleep 2
+kill -TERM $!
+exec 3>&-
+wait $!
+same "status after a signal" 143 $?
+same_files "output after a signal" "$work/empty" "$work/out"
+same "what a signal leaves behind" "" "$(ls "$work/temporary")"
+
+# ---- help: every command with an example, each of which runs
+./kuzpalen help > "$work/out"
+same "status of help" 0 $?
+for command in sheet clean mend plot strip drill folder turns; do
+    same "help names $command" 1 "$(grep -c "^kuzpalen $command " "$work/out")"
+    ./kuzpalen help $command > "$work/one"
+    same "lines of help $command" 3 "$(wc -l < "$work/one")"
+    sed -n 3p "$work/one" | grep -q "kuzpalen $command " || same "the example of $command" "./kuzpalen $command" "$(sed -n 3p "$work/one")"
+done
+./kuzpalen > "$work/one"
+same_files "without a command" "$work/out" "$work/one"
+run 2 "$work/empty" "kuzpalen: there is no command draw; ./kuzpalen help lists them" help draw
+
+# ---- beside an `rt` and a program of the test's own: fake RT PROGRAM, the lines of each, no program where there are none
+fake() {
+    rm -rf "$work/fake"
+    mkdir -p "$work/fake/bin" "$work/fake/target/bin"
+    cp kuzpalen "$work/fake"
+    printf '#!/bin/sh\n%s\n' "$1" > "$work/fake/bin/rt"
+    chmod +x "$work/fake/bin/rt"
+    [ -z "$2" ] || printf '#!/bin/sh\n%s\n' "$2" > "$work/fake/target/bin/sheet"
+    [ -z "$2" ] || chmod +x "$work/fake/target/bin/sheet"
+    PATH="$work/fake/bin:$PATH" "$work/fake/kuzpalen" sheet plans/A.plan > "$work/out" 2> "$work/err"
+    got=$?
+}
+fake 'echo "rt: plan is not proved"; exit 1' 'echo sheet 1'
+same "status where the program is not proved" 2 $got
+same_files "output where the program is not proved" "$work/empty" "$work/out"
+same "what is said where the program is not proved" "rt: plan is not proved" "$(head -n 1 "$work/err")"
+fake 'exit 0' 'echo sheet 1 0; echo "sheet: no room" >&2'
+same "status where the program has trouble" 2 $got
+same_files "output where the program has trouble" "$work/empty" "$work/out"
+same "what is said where the program has trouble" "kuzpalen: plans/A.plan: no room" "$(cat "$work/err")"
+fake 'exit 0' 'exit 0'
+same "status where the program prints nothing" 2 $got
+fake 'echo "rt: plan proved (7 s)"; echo "rt: io proved (unchanged since it was last proved)"; echo "echo sheet 1" > target/bin/sheet; chmod +x target/bin/sheet' ''
+same "status of a first run" 0 $got
+same "first line of what a first run says" "kuzpalen: proving the program sheet and the crates that it stands on, once; this takes some minutes" "$(head -n 1 "$work/err")"
+same "the rest of what a first run says" "rt: plan proved (7 s)" "$(tail -n +2 "$work/err")"
+
+echo "kuzpalen: $checks checks, no difference"
