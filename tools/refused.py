@@ -28,7 +28,7 @@ ERROR = re.compile(r'^\S*?/must-fail/[^/]+/[^/]+/((?:src|specs|proofs)/[^:]+):\d
 # a function whose proof the checker makes itself
 UNMADE = re.compile(r'^fn [a-z_0-9]+::(\S+): no proof: expected .*; (`search` does not close (`[^`]*`).*)')
 # what the checker says of a declaration that rests on a refused one, or of a name: no fact
-NO_FACT = re.compile(r'was not admitted|not in scope|be named from here|this pattern needs|no such|unknown')
+NO_FACT = re.compile(r'was not admitted|not in scope|be named from here|this pattern needs')
 
 
 class Edit:
