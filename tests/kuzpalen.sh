@@ -141,11 +141,14 @@ for command in sheet clean plot strip turns folder; do
     same "lines on standard error of $command to a full device" 1 "$(wc -l < "$work/err")"
     ./kuzpalen $command plans/full.plan >&- 2> "$work/err"
     same "status of $command to a closed output" 2 $?
-    (trap '' PIPE; ./kuzpalen $command plans/full.plan 2> "$work/err"; echo $? > "$work/status") | true
+    rm -f "$work/pipe"
+    mkfifo "$work/pipe"
+    (trap '' PIPE; exec 3<> "$work/pipe" 4> "$work/pipe" 3>&-; ./kuzpalen $command plans/full.plan >&4 2> "$work/err"; echo $? > "$work/status")
     same "lines on standard error of $command to a pipe that nobody reads" 1 "$(wc -l < "$work/err")"
     same "status of $command to a pipe that nobody reads" 2 "$(cat "$work/status")"
 done
 # a signal while a plan is awaited: the status says so, nothing is printed, and nothing is left behind
+rm -f "$work/pipe"
 mkfifo "$work/pipe"
 mkdir "$work/temporary"
 TMPDIR="$work/temporary" ./kuzpalen sheet - < "$work/pipe" > "$work/out" 2> "$work/err" &
