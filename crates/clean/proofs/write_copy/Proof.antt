@@ -11,8 +11,8 @@ use Rattle.listing.specs.Printed.{Bytes}
 use Rattle.listing.specs.Line.{line-size, line-of}
 use Rattle.listing.specs.declared.Line.{Line}
 use borrow.Author.Needs.{needs}
-use Rattle.clean.proofs.main.Statement.{statement}
-use Rattle.clean.proofs.main.Tie as tie
+use Rattle.clean.proofs.write_copy.Statement.{statement}
+use Rattle.clean.proofs.write_copy.Tie as tie
 
 -- the copy's length is at most the output's
 fits : (d : Copied) (n : ℕ) → d ≡ Written n → size d ≤ most-file → n ≤ most-file
@@ -26,20 +26,8 @@ line-long r t e h =
     let k : length t ≤ line-size = rw e at h in
     rw e (length-append t (replicate (line-size - length t) 0) ∙ rw (length-replicate {A = ℕ} (line-size - length t) 0) (omega arith))
 
-slice-aggregate-read-full : tie.Need-slice-aggregate-read-full
-slice-aggregate-read-full c = search needs
-
-read-full-requires : tie.Need-read-full-requires
-read-full-requires c κs = search needs
-
-array-share-prefix-file : tie.Need-array-share-prefix-file
-array-share-prefix-file c = search needs
-
 slice-aggregate-clean : tie.Need-slice-aggregate-clean
 slice-aggregate-clean c = search needs
-
-slice-aggregate-clean-2 : tie.Need-slice-aggregate-clean-2
-slice-aggregate-clean-2 c = search needs
 
 clean-requires : tie.Need-clean-requires
 clean-requires c κs = search needs
@@ -100,15 +88,11 @@ returns-2 c = search needs
 returns-3 : tie.Need-returns-3
 returns-3 c = search needs
 
-pub main-spec : {M : Type 1} → statement M
-main-spec =
+pub write-copy-spec : {M : Type 1} → statement M
+write-copy-spec =
     tie.close
     (tie.spec
-    slice-aggregate-read-full
-    read-full-requires
-    array-share-prefix-file
     slice-aggregate-clean
-    slice-aggregate-clean-2
     clean-requires
     enum-known-answer
     array-share-prefix-out
