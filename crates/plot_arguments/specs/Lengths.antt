@@ -1,8 +1,8 @@
 -- WHAT AN ARGUMENT OF `plot` SAYS: a length in thousandths of a millimetre, read byte by byte, or that it is no number (docs/DECISIONS.md). A number has digits and at most one
 -- point before, among or behind them, one digit at least, and three behind the point at most. Question 17 judges every number; what is none is trouble. Assumes nothing.
-use mathlib.Core.Bool.{Bool, true, false, _&&_, not, cond}
+use mathlib.Core.Bool.{true, false, _&&_, cond}
 use mathlib.Core.List.{List, [], _∷_}
-use Prim.Native.Nat.{ℕ, zero, suc, _+_, _*_, _-_, min}
+use Prim.Native.Nat.{ℕ, _+_, _*_, _-_, min}
 use lib.Dec.{eqb, leb, ltb}
 use Rattle.plot_arguments.specs.declared.Digits.{Digits}
 use Rattle.plot_arguments.specs.declared.Length.{Length}
@@ -24,8 +24,7 @@ broken = record { value = 0; place = 0; seen = false; fault = true }
 
 -- a digit more: before the point it stands before it, behind it one place further
 unfoldable pub next-place : ℕ → ℕ
-next-place zero = 0
-next-place (suc k) = suc (suc k)
+next-place p = cond (eqb p 0) 0 (p + 1)
 
 unfoldable pub with-point : Digits → Digits
 with-point d = cond (eqb (d .place) 0) (record { value = d .value; place = 1; seen = d .seen; fault = false }) broken
@@ -42,11 +41,7 @@ run d (b ∷ bs) = run (step d b) bs
 
 -- a number whose last digit stands at a place, in thousandths
 unfoldable pub thousandths : (value place : ℕ) → ℕ
-thousandths v zero = v * 1000
-thousandths v (suc zero) = v * 1000
-thousandths v (suc (suc zero)) = v * 100
-thousandths v (suc (suc (suc zero))) = v * 10
-thousandths v (suc (suc (suc (suc k)))) = v
+thousandths v p = cond (leb p 1) (v * 1000) (cond (eqb p 2) (v * 100) (cond (eqb p 3) (v * 10) v))
 
 unfoldable pub finish : Digits → Length
 finish d = cond (d .fault) NoNumber (cond (d .seen) (Thousandths (thousandths (d .value) (d .place))) NoNumber)

@@ -108,12 +108,16 @@ fn thousandths(value: u32, place: u8) -> u32
     requires { ⌜ value ≤ most ⌝ }
     ensures { λ r. ⌜ r ≡ thousandths value place ⌝ }
 {
-    match place {
-        0 | 1 => value * 1000,
-        2 => value * 100,
-        3 => value * 10,
-        _ => value,
+    if place <= 1 {
+        return value * 1000;
     }
+    if place == 2 {
+        return value * 100;
+    }
+    if place == 3 {
+        return value * 10;
+    }
+    value
 }
 
 fn finish(d: Digits) -> Length

@@ -20,5 +20,5 @@ worked =
       two-points = refl;
       four-behind = refl;
       signed = refl;
-      lettered = refl
+      lettered = refl;
     }
