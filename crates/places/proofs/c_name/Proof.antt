@@ -1,8 +1,8 @@
 use native.Mathlib.Omega.{arith}
 use borrow.Author.Needs.{needs}
-use Rattle.saving.specs.laws.Names.{c-name-put}
-use Rattle.saving.proofs.c_name.Statement.{statement}
-use Rattle.saving.proofs.c_name.Tie as tie
+use Rattle.places.specs.laws.Names.{c-name-put}
+use Rattle.places.proofs.c_name.Statement.{statement}
+use Rattle.places.proofs.c_name.Tie as tie
 
 slice-aggregate-put-text : tie.Need-slice-aggregate-put-text
 slice-aggregate-put-text c = search needs

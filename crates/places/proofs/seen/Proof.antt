@@ -1,4 +1,4 @@
--- `saving::seen` meets its contract: a walk of its MIR, by hand, since it lends a struct. `blank` gives the struct; it is lent to `libc::lstat` for a lifetime that is made for the call, and comes back at whatever value lstat leaves; `told` is passed that value.
+-- `places::seen` meets its contract: a walk of its MIR, by hand, since it lends a struct. `blank` gives the struct; it is lent to `libc::lstat` for a lifetime that is made for the call, and comes back at whatever value lstat leaves; `told` is passed that value.
 -- All that the proof knows of the three is that each meets its contract. Assumes nothing.
 use mathlib.Core.Path.{refl}
 use Prim.Native.Nat.{ℕ}
@@ -48,19 +48,19 @@ use Rattle.libc.proofs.types.stat.Laws as T′
 use Rattle.libc.proofs.lstat as lstat
 use Rattle.libc.proofs.lstat.Symbol as lstat-def
 use Rattle.libc.proofs.lstat.Met as lstat-thm
-use Rattle.saving.specs.declared.Place.{Place}
-use Rattle.saving.proofs.Place as P
-use Rattle.saving.proofs.Place.Laws as P′
-use Rattle.saving.proofs.blank as blank
-use Rattle.saving.proofs.blank.Symbol as blank-def
-use Rattle.saving.proofs.blank.Met as blank-thm
-use Rattle.saving.proofs.told as told
-use Rattle.saving.proofs.told.Symbol as told-def
-use Rattle.saving.proofs.told.Met as told-thm
-use Rattle.saving.proofs.seen.Key as own
-use Rattle.saving.proofs.seen as seen
-use Rattle.saving.proofs.seen.Statement as stated
-use Rattle.saving.proofs.seen.Code as code
+use Rattle.places.specs.declared.Place.{Place}
+use Rattle.places.proofs.Place as P
+use Rattle.places.proofs.Place.Laws as P′
+use Rattle.places.proofs.blank as blank
+use Rattle.places.proofs.blank.Symbol as blank-def
+use Rattle.places.proofs.blank.Met as blank-thm
+use Rattle.places.proofs.told as told
+use Rattle.places.proofs.told.Symbol as told-def
+use Rattle.places.proofs.told.Met as told-thm
+use Rattle.places.proofs.seen.Key as own
+use Rattle.places.proofs.seen as seen
+use Rattle.places.proofs.seen.Statement as stated
+use Rattle.places.proofs.seen.Code as code
 
 -- the bytes of the path
 abbrev Bytes : RattleType
@@ -197,6 +197,6 @@ seen-spec 𝓤 H 𝓜 𝓖 𝓡 =
     entered 𝓤 H (tripleOf 𝓤 H (𝓖 .A) seen.signature (seen.spec 𝓤 H (𝓖 .A) (𝓜 .mem) (𝓡 .run)))
     (tables 𝓤 H 𝓜 𝓡 code.env .C) (tables 𝓤 H 𝓜 𝓡 code.env .Λ) own.name code.function (code.unfolded 𝓤 H 𝓜 𝓡)
     (seen-meets 𝓤 H (𝓖 .A) (givenOf 𝓤 H 𝓜 𝓖) (𝓜 .mem) (𝓡 .run) (tablesOf 𝓤 H 𝓜 (tables 𝓤 H 𝓜 𝓡 code.env))
-    (cited 𝓤 H (Blank 𝓤 H (𝓖 .A) (𝓜 .mem) (𝓡 .run)) 𝓜 𝓡 code.env blank-def.name blank-def.routine code.calls-saving·blank (blank-thm.met 𝓤 H 𝓜 𝓖 𝓡))
+    (cited 𝓤 H (Blank 𝓤 H (𝓖 .A) (𝓜 .mem) (𝓡 .run)) 𝓜 𝓡 code.env blank-def.name blank-def.routine code.calls-places·blank (blank-thm.met 𝓤 H 𝓜 𝓖 𝓡))
     (cited 𝓤 H (Lstat 𝓤 H (𝓖 .A) (𝓜 .mem) (𝓡 .run)) 𝓜 𝓡 code.env lstat-def.name lstat-def.routine code.calls-libc·lstat (lstat-thm.met 𝓤 H 𝓜 𝓖 𝓡))
-    (cited 𝓤 H (Tell 𝓤 H (𝓖 .A) (𝓜 .mem) (𝓡 .run)) 𝓜 𝓡 code.env told-def.name told-def.routine code.calls-saving·told (told-thm.met 𝓤 H 𝓜 𝓖 𝓡)))
+    (cited 𝓤 H (Tell 𝓤 H (𝓖 .A) (𝓜 .mem) (𝓡 .run)) 𝓜 𝓡 code.env told-def.name told-def.routine code.calls-places·told (told-thm.met 𝓤 H 𝓜 𝓖 𝓡)))

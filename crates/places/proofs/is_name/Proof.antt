@@ -2,9 +2,9 @@ use Prim.Native.Nat.{ℕ, _-_, _≤_, _<_}
 use mathlib.Core.Logic.{_≢_}
 use native.Mathlib.Omega.{arith}
 use lib.ListN.{length, getD}
-use Rattle.saving.specs.laws.Names.{no-name, a-name, one-more}
-use Rattle.saving.proofs.is_name.Statement.{statement}
-use Rattle.saving.proofs.is_name.Tie as tie
+use Rattle.places.specs.laws.Names.{no-name, a-name, one-more}
+use Rattle.places.proofs.is_name.Statement.{statement}
+use Rattle.places.proofs.is_name.Tie as tie
 
 abbrev Inv-loop : tie.InvT-loop
 Inv-loop name i₀ i = (i ≤ length name) × ((j : ℕ) → j < i → getD name j 0 ≢ 0)

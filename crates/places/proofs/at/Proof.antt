@@ -1,7 +1,7 @@
 use borrow.Author.Needs.{needs}
-use Rattle.saving.specs.laws.Names.{told-short}
-use Rattle.saving.proofs.looked.Statement.{statement}
-use Rattle.saving.proofs.looked.Tie as tie
+use Rattle.places.specs.laws.Names.{told-short}
+use Rattle.places.proofs.at.Statement.{statement}
+use Rattle.places.proofs.at.Tie as tie
 
 is-name-requires : tie.Need-is-name-requires
 is-name-requires c κs = search needs
@@ -18,5 +18,5 @@ seen-requires c κs = search needs
 returns-2 : tie.Need-returns-2
 returns-2 c = search needs
 
-pub looked-spec : {M : Type 1} → statement M
-looked-spec = tie.close (tie.spec is-name-requires returns c-name-requires seen-requires returns-2)
+pub at-spec : {M : Type 1} → statement M
+at-spec = tie.close (tie.spec is-name-requires returns c-name-requires seen-requires returns-2)

@@ -5,8 +5,8 @@ use mathlib.Core.List.{[], _∷_, map}
 use Prim.Native.Nat.{ℕ}
 use lib.Dec.{T}
 use borrow.Author.Tests.{eq-eqb, ne-eqb}
-use Rattle.saving.specs.declared.Place.{Place}
-use Rattle.saving.specs.Places.{kind, permissions, place-of}
+use Rattle.places.specs.declared.Place.{Place}
+use Rattle.places.specs.Places.{kind, permissions, place-of}
 
 -- the four cases, as the code tells them apart
 pub free : (f m : Bool) (mode : ℕ) → not f ≡ true → m ≡ true → Place.Free ≡ place-of f m mode

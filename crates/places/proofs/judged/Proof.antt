@@ -1,6 +1,6 @@
-use Rattle.saving.specs.laws.Places.{free, unknown, other, plain}
-use Rattle.saving.proofs.judged.Statement.{statement}
-use Rattle.saving.proofs.judged.Tie as tie
+use Rattle.places.specs.laws.Places.{free, unknown, other, plain}
+use Rattle.places.proofs.judged.Statement.{statement}
+use Rattle.places.proofs.judged.Tie as tie
 
 returns : tie.Need-returns
 returns c = free _ _ _ (c .before .if1 .taken) (c .if2 .taken)

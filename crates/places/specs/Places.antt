@@ -2,7 +2,7 @@
 use mathlib.Core.Bool.{Bool, true, false, cond}
 use Prim.Native.Nat.{ℕ, _/_, _%_}
 use lib.Dec.{eqb}
-use Rattle.saving.specs.declared.Place.{Place}
+use Rattle.places.specs.declared.Place.{Place}
 
 -- a mode is a kind, four bits of which 8 is a regular file, above twelve of permissions
 abbrev pub kind : ℕ → ℕ
