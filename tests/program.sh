@@ -147,6 +147,10 @@ for program in sheet clean plot strip turns; do
     same "standard error of $program, an input that fails" "$program: the plan cannot be read" "$(cat "$work/err")"
     same_files "output of $program, an input that fails" "$work/empty" "$work/out"
 done
+tests/cut_input.py plans/printed.plan target/bin/mend "$work/mended" > "$work/out" 2> "$work/err"
+same "standard error of mend, an input that fails" "mend: the plan cannot be read" "$(cat "$work/err")"
+same_files "output of mend, an input that fails" "$work/empty" "$work/out"
+same "what mend writes of an input that fails" "absent" "$([ -e "$work/mended" ] && echo there || echo absent)"
 printf '\0\1\1' > "$work/answers"
 tests/cut_input.py "$work/answers" "$drill" plans/pond.plan > "$work/out" 2> "$work/err"
 same "standard error of drill, answers that fail" "drill: the answers cannot be read" "$(cat "$work/err")"

@@ -45,6 +45,26 @@ fn hand_over(name: &[u8], file: &[u8], length: usize, lines: &[u8], told: usize)
     }
 }
 
+fn mend_file(name: &[u8], file: &[u8]) {
+    let mut out = [0u8; MOST_FILE];
+    let mut lines = [0u8; LINES_SIZE];
+    match mending::mend(file, &mut out, &mut lines) {
+        Mended::Refused(number, cell) => refuse(number, cell),
+        Mended::Written(length, told) => hand_over(name, &out, length, &lines, told),
+    }
+}
+
+fn mend_into(name: &[u8]) {
+    let mut file = [0u8; MOST_FILE + 1];
+    let input = input::read_whole(0, &mut file);
+    if input::failed(input) {
+        trouble(b"mend: the plan cannot be read\n");
+        return;
+    }
+    let n = input.length;
+    mend_file(name, &file[..n]);
+}
+
 fn main() {
     if os::arg_count() != 2 {
         trouble(b"mend: one argument, the file to write\n");
@@ -56,12 +76,5 @@ fn main() {
         trouble(b"mend: no file can have that name\n");
         return;
     }
-    let mut file = [0u8; 16385];
-    let size = io::read_full(0, &mut file);
-    let mut out = [0u8; MOST_FILE];
-    let mut lines = [0u8; LINES_SIZE];
-    match mending::mend(&file[..size], &mut out, &mut lines) {
-        Mended::Refused(number, cell) => refuse(number, cell),
-        Mended::Written(length, told) => hand_over(&argument[..n], &out, length, &lines, told),
-    }
+    mend_into(&argument[..n]);
 }
