@@ -1,0 +1,4 @@
+pub mod Contents
+pub mod Asked
+pub mod Read
+pub mod Promised
