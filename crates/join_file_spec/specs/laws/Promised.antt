@@ -41,13 +41,13 @@ module _ (f : List ℕ) (c : ℕ) (g : List ℕ) where
   unfolding joined-file
   content-read = clean-content (joined-content (file-content f) (file-content g) c)
 
-  abbrev as : List Item
-  as = file-content f .items
+  abbrev top : List Item
+  top = file-content f .items
 
-  abbrev bs : List Item
-  bs = file-content g .items
+  abbrev below : List Item
+  below = file-content g .items
 
-  items-read : file-content (joined-file f c g) .items ≡ joined-items as bs c
+  items-read : file-content (joined-file f c g) .items ≡ joined-items top below c
   unfolding joined-content
   items-read = ap (λ (x : Content). x .items) content-read
 
@@ -57,12 +57,12 @@ module _ (f : List ℕ) (c : ℕ) (g : List ℕ) where
 
   pub table-read : cells-of (records-of (joined-file f c g)) ≡ joined (cells-of (records-of f)) (cells-of (records-of g)) c
   table-read =
-      sym (cells-read (joined-file f c g)) ∙ ap (λ (x : List Item). cells-in x) items-read ∙ items-table as bs c
+      sym (cells-read (joined-file f c g)) ∙ ap (λ (x : List Item). cells-in x) items-read ∙ items-table top below c
       ∙ rw (cells-read f, cells-read g)
 
   count-read : trailer-of (joined-file f c g) .count ≡ trailer-of f .count + trailer-of g .count
   unfolding joined-items
-  count-read = sym (items-count (joined-file f c g)) ∙ ap length items-read ∙ length-behind item-father item-under as bs c ∙ rw (items-count f, items-count g)
+  count-read = sym (items-count (joined-file f c g)) ∙ ap length items-read ∙ length-behind item-father item-under top below c ∙ rw (items-count f, items-count g)
 
   -- ---- how far subtrees reach
   module _ (z : tables-refusal f c g .number ≡ 0) where
@@ -128,23 +128,23 @@ module _ (f : List ℕ) (c : ℕ) (g : List ℕ) (a : reading-of f most-cells .r
   -- ---- the labels
   first-item : (i : ℕ) → i < trailer-of f .count → getD (file-content (joined-file f c g) .items) i no-item ≡ getD (file-content f .items) i no-item
   unfolding joined-items
-  first-item i h = ap (λ (x : List Item). getD x i no-item) (items-read f c g) ∙ behind-first item-father item-under (as f c g) (bs f c g) c no-item i (omega (arith, items-count f))
+  first-item i h = ap (λ (x : List Item). getD x i no-item) (items-read f c g) ∙ behind-first item-father item-under (top f c g) (below f c g) c no-item i (omega (arith, items-count f))
 
   pub first-label : (i : ℕ) → i < trailer-of f .count → bytes-in (joined-file f c g) (label-part (joined-file f c g) i) ≡ bytes-in f (label-part f i)
   first-label i h =
       label-item (joined-file f c g) passes i (omega (arith, count-read f c g)) ∙ ap (λ (x : Item). x .text) (first-item i h) ∙ sym (label-item f (read-passes f a) i h)
 
-  second-text : (i : ℕ) → i < trailer-of g .count → getD (joined-items (as f c g) (bs f c g) c) (length (as f c g) + i) no-item .text ≡ getD (bs f c g) i no-item .text
+  second-text : (i : ℕ) → i < trailer-of g .count → getD (joined-items (top f c g) (below f c g) c) (length (top f c g) + i) no-item .text ≡ getD (below f c g) i no-item .text
   unfolding joined-items item-under
-  second-text zero h = ap (λ (x : Item). x .text) (behind-root item-father item-under (as f c g) (bs f c g) c no-item (omega (arith, items-count g)))
-  second-text (suc i) h = ap (λ (x : Item). x .text) (behind-later item-father item-under (as f c g) (bs f c g) c no-item (suc i) (omega arith) (omega (arith, items-count g))) ∙ raised-text
+  second-text zero h = ap (λ (x : Item). x .text) (behind-root item-father item-under (top f c g) (below f c g) c no-item (omega (arith, items-count g)))
+  second-text (suc i) h = ap (λ (x : Item). x .text) (behind-later item-father item-under (top f c g) (below f c g) c no-item (suc i) (omega arith) (omega (arith, items-count g))) ∙ raised-text
     where
-      raised-text : raised item-father item-under (length (as f c g)) (getD (bs f c g) (suc i) no-item) .text ≡ getD (bs f c g) (suc i) no-item .text
+      raised-text : raised item-father item-under (length (top f c g)) (getD (below f c g) (suc i) no-item) .text ≡ getD (below f c g) (suc i) no-item .text
       raised-text = unfold raised item-under in refl
 
   pub second-label : (i : ℕ) → i < trailer-of g .count → bytes-in (joined-file f c g) (label-part (joined-file f c g) (trailer-of f .count + i)) ≡ bytes-in g (label-part g i)
   second-label i h =
       label-item (joined-file f c g) passes (trailer-of f .count + i) (omega (arith, count-read f c g))
       ∙ ap (λ (x : List Item). getD x (trailer-of f .count + i) no-item .text) (items-read f c g)
-      ∙ ap (λ (k : ℕ). getD (joined-items (as f c g) (bs f c g) c) (k + i) no-item .text) (sym (items-count f))
+      ∙ ap (λ (k : ℕ). getD (joined-items (top f c g) (below f c g) c) (k + i) no-item .text) (sym (items-count f))
       ∙ second-text i h ∙ sym (label-item g (read-passes g b) i h)

@@ -100,10 +100,10 @@ module _ (f : List ℕ) (z : file-refusal f .number ≡ 0) where
     entry-inside = rw record-is at record-inside
 
     whole-text : take (entry f i .«label_length») (drop (entry f i .«label_start») f) ≡ text-of (letters-of f) (entry f i)
-    whole-text = ap (λ (x : List ℕ). take (entry f i .«label_length») (drop (entry f i .«label_start») x)) (sym (take-append-drop (trailer-of f .begin) f)) ∙ inner
-      where
-        inner : take (entry f i .«label_length») (drop (entry f i .«label_start») (letters-of f ++ drop (trailer-of f .begin) f)) ≡ text-of (letters-of f) (entry f i)
-        inner = unfold text-of in text-first (letters-of f) (drop (trailer-of f .begin) f) (entry f i) entry-inside
+    unfolding letters-of text-of
+    whole-text =
+        ap (λ (x : List ℕ). take (entry f i .«label_length») (drop (entry f i .«label_start») x)) (sym (take-append-drop (trailer-of f .begin) f))
+        ∙ text-first (letters-of f) (drop (trailer-of f .begin) f) (entry f i) entry-inside
 
     -- what Label lends is the text of the content
     pub label-text : bytes-in f (label-part f i) ≡ text-of (letters-of f) (entry f i)
