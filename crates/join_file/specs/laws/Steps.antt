@@ -46,10 +46,29 @@ use Rattle.join_file_spec.specs.laws.Read.{read-passes, headed, file-short, beg
 use Rattle.join_file_spec.specs.laws.Promised.{file-is, file-copied, file-small}
 use Rattle.join_file.specs.Steps.{Ended, Read, Movable, Shiftable, lettered, shifted, told, Writes}
 
--- ---- the loop that moves label starts
-pub column-none : (h : ℕ → ℕ) → replicate most-cells 0 ≡ column h 0
-unfolding column
-column-none h = refl
+-- ---- the columns with each label so many bytes on
+pub shift-is : (by : ℕ) (p : Reading) (ss : List ℕ) → ss ≡ column (λ i. by + getD (p .«label_start») i 0) (p .columns .count)
+    → _≡_ {A = Lettered} (record { columns = p .columns; «label_length» = p .«label_length»; «label_start» = ss }) (shifted by p)
+shift-is by p ss e = rw e
+
+-- ---- the writer's answer
+pub told-written : {d : Copied} {n : ℕ} → d ≡ copied.Written n → Written n ≡ told d
+unfolding told
+told-written e = rw e refl
+
+pub told-refused : {d : Copied} {k a : ℕ} → d ≡ copied.Refused k a → Refused k a ≡ told d
+unfolding told
+told-refused e = rw e refl
+
+pub write-done : (p : Reading) (l : Lettered) (s t letters : List ℕ) (al : ℕ) {out out′ : List ℕ} {d : Copied} {r : Joined} → l ≡ lettered p → letters ≡ s ++ t → Copies (records-in l) letters al out out′ d → r ≡ told d → Writes p (s ++ t) al out out′ r
+write-done p l s t letters al {d = d} e q k a = record { copied = d; copies = rw (e, q) at k; answers = a }
+
+writer-writes : (rs : List Record) (letters : List ℕ) (al : ℕ) (out out′ : List ℕ) (d : Copied) → Copies rs letters al out out′ d → copy-refusal rs letters al (length out) .number ≡ 0
+    → (d ≡ copied.Written (length (copy rs letters al))) × (out′ ≡ copy rs letters al ++ drop (length (copy rs letters al)) out)
+unfolding copied-of output-after
+writer-writes rs letters al out out′ d k z =
+    let e : d ≡ copied.Written (length (copy rs letters al)) = k .answers ∙ rw (eq-eqb (copy-refusal rs letters al (length out) .number) 0 z) refl in
+    (e, k .output ∙ rw e refl)
 
 -- ---- the label bytes of both, put one behind the other
 pub both-letters : (n : ℕ) {s t a b : List ℕ} {i j : ℕ} → Put (replicate n 0) 0 s a i → Put a i t b j → length s + length t ≤ n → (j ≤ n) × (take j b ≡ s ++ t)
@@ -63,7 +82,7 @@ both-letters n {s} {t} {b = b} {j = j} p q h =
 
 -- ---- a file that Read accepts
 module _ (p : Reading) (f : List ℕ) (h : Read p f) where
-  zero-read : reading-of f most-cells .refusal .number ≡ 0
+  pub zero-read : reading-of f most-cells .refusal .number ≡ 0
   zero-read = ap (λ (x : Reading). x .refusal .number) (sym (h .is)) ∙ h .passes
 
   passed : file-refusal f .number ≡ 0
@@ -158,6 +177,11 @@ refused-there : (r : Refusal) → refused r .reading .refusal ≡ r
 unfolding refused columns-of
 refused-there r = refl
 
+-- the join of the columns that the code has
+pub graft-is : (a b : Reading) (f : List ℕ) (c : ℕ) (t u : Lettered) (ls : List ℕ) (G : Graft) → t ≡ lettered a → ls ≡ letters-of f → u ≡ shifted (length ls) b → G ≡ graft-of most-cells t u c
+    → G ≡ graft-of most-cells (lettered a) (shifted (length (letters-of f)) b) c
+graft-is a b f c t u ls G p l q e = e ∙ rw (p, q, l)
+
 module _ (a : Reading) (f : List ℕ) (c : ℕ) (b : Reading) (g : List ℕ) (ra : Read a f) (rb : Read b g) (G : Graft) (e : G ≡ graft-of most-cells (lettered a) (shifted (length (letters-of f)) b) c) where
   abbrev by : ℕ
   by = length (letters-of f)
@@ -207,7 +231,6 @@ module _ (a : Reading) (f : List ℕ) (c : ℕ) (b : Reading) (g : List ℕ) (ra
         given d k s =
             let x = zero-read a f ra in
             let y = zero-read b g rb in
-            let o = file-copied f c g x y zero-tables (length out) room in
-            let m : d ≡ copied.Written (length (joined-file f c g)) = k .answers ∙ unfold copied-of in rw (eq-eqb _ 0 o, file-is f c g x y zero-tables) refl in
-            let n : out′ ≡ joined-file f c g ++ drop (length (joined-file f c g)) out = k .output ∙ unfold output-after in rw (m, file-is f c g x y zero-tables) refl in
-            join-written f c g out room x y zero-tables r out′ (s ∙ unfold told in ap told m) n
+            let w = writer-writes (joined-records (records-of f) (map (moved (length (letters-of f))) (records-of g)) c) (letters-of f ++ letters-of g) (trailer-of f .allowance) out out′ d k (file-copied f c g x y zero-tables (length out) room) in
+            let v = rw (file-is f c g x y zero-tables) at w in
+            join-written f c g out room x y zero-tables r out′ (s ∙ sym (told-written (v .0))) (v .1)
