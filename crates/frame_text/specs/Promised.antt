@@ -1,4 +1,4 @@
--- DOCUMENT 02, E2: WHAT IS PROMISED of the line that `frame` prints, and lines of document 01's ◆E and ◆F, computed. Statements only; the proofs are in laws/. Assumes nothing.
+-- WHAT IS PROMISED of the line that `frame` prints (document 02, E2), and lines of document 01's ◆E and ◆F, computed. Statements only; the proofs are in laws/. Assumes nothing.
 use mathlib.Core.Path.{_≡_}
 use mathlib.Core.List.{[], _∷_}
 use Prim.Native.Nat.{ℕ, _≤_}

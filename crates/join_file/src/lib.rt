@@ -105,14 +105,7 @@ fn write(plan: Reading, allowance: u16, first: &[u8], second: &[u8], out: &mut [
 }
 
 // Two plans that Read gave, joined and written.
-fn hang(
-    a: Reading,
-    first: &[u8],
-    cell: usize,
-    b: Reading,
-    second: &[u8],
-    out: &mut [u8],
-) -> Joined
+fn hang(a: Reading, first: &[u8], cell: usize, b: Reading, second: &[u8], out: &mut [u8]) -> Joined
     requires { ⌜ Read a (now first) × Read b (now second) × (most-file ≤ length (now out)) ⌝ }
     ensures { λ r. ⌜ JoinsFiles (now (first .entry)) cell (now (second .entry)) (now (out .entry)) (now (out .exit)) r ⌝ }
 {

@@ -2,8 +2,6 @@
 -- and the second's root becomes the last son of that cell; fields other than the father are copied", label texts among them. The allowance is the first plan's. Assumes nothing.
 use mathlib.Core.List.{List}
 use Prim.Native.Nat.{ℕ}
-use lib.ListN.{getD}
-use Rattle.plan.specs.Plan.{blank}
 use Rattle.content.specs.Content.{Item, Content}
 use Rattle.graft.specs.Joined.{hung-behind, cell-under}
 

@@ -1,4 +1,4 @@
--- WHAT IS PROMISED OF A JOINED FILE (document 02, E10). Statements only; the proofs are in laws/. Assumes nothing.
+-- WHAT IS PROMISED of a joined file (document 02, E10). Statements only; the proofs are in laws/. Assumes nothing.
 use mathlib.Core.Path.{_≡_}
 use mathlib.Core.List.{List, [], _∷_}
 use Prim.Native.Nat.{ℕ, _+_, _≤_, _<_}

@@ -1,6 +1,6 @@
 -- A WORKED JOIN, computed: a rinse hung under cell 0 of document 01's printed example. Assumes nothing.
 use mathlib.Core.Path.{_≡_, refl}
-use mathlib.Core.List.{List, [], _∷_, _++_, map}
+use mathlib.Core.List.{List, [], _∷_}
 use Prim.Native.Nat.{ℕ}
 use Rattle.plan.specs.Lists.{from}
 use Rattle.plan.specs.Forms as forms

@@ -183,7 +183,9 @@ fn read_plans(cell: usize) {
 
 fn main() {
     if os::arg_count() != 5 {
-        trouble(b"join: four arguments: the first plan's file, a cell of it, the second plan's file, the file to write\n");
+        trouble(
+            b"join: four arguments: the first plan's file, a cell of it, the second plan's file, the file to write\n",
+        );
         return;
     }
     let mut text = io::buffer();

@@ -1,6 +1,5 @@
 use mathlib.Core.Path.{refl}
 use native.Mathlib.Omega.{arith}
-use Rattle.plan.specs.laws.Tables.{length-is}
 use Rattle.frame_text.specs.laws.FrameText.{drawn-measures, table-drawable}
 use borrow.Author.Needs.{needs}
 use Rattle.frame_text.proofs.measured.Statement.{statement}

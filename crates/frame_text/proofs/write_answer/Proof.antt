@@ -1,4 +1,3 @@
-use mathlib.Core.Path.{sym}
 use Rattle.frame_text.specs.laws.FrameText.{answered}
 use borrow.Author.Needs.{needs}
 use Rattle.frame_text.proofs.write_answer.Statement.{statement}

@@ -1,6 +1,5 @@
 -- What `frame` prints of a file that Read accepts: the proofs. Assumes nothing.
 use mathlib.Core.Path.{_≡_, refl, sym, ap, _∙_}
-use mathlib.Core.List.{List}
 use Prim.Native.Nat.{ℕ, _*_, _≤_}
 use native.Mathlib.Omega.{arith}
 use borrow.Author.Tests.{eq-eqb, ne-eqb}
@@ -13,7 +12,7 @@ use Rattle.plan.specs.Limits.{between, most-cells, most-allowance, scratch-size
 use Rattle.plan.specs.Plan.{Table}
 use Rattle.plan.specs.Columns.{table-of}
 use Rattle.plan.specs.Fit.{Fit}
-use Rattle.plan.specs.Questions.{refusal, layout, frame, layout-given, frame-given, none, asked}
+use Rattle.plan.specs.Questions.{refusal, frame, frame-given, none, asked}
 use Rattle.plan.specs.laws.Questions.{first-none, both-none}
 use Rattle.plan.specs.laws.Kept.{asked-true}
 use Rattle.plan.specs.Steps.{table-refusal, counted-refusal, lent-refusal}
@@ -21,7 +20,7 @@ use Rattle.plan.specs.laws.Calls.{layout-refusal, frame-refusal}
 use Rattle.plan.specs.declared.Refusal.{Refusal}
 use Rattle.rules.specs.Placement.{width}
 use Rattle.contours.specs.Sheet.{sheet}
-use Rattle.least.specs.Frame.{Found, nowhere, found, least-allowance, Least}
+use Rattle.least.specs.Frame.{least-allowance, Least}
 use Rattle.least.specs.laws.Frame.{found-least, nowhere-wide}
 use Rattle.planfile_spec.specs.declared.Reading.{Reading}
 use Rattle.planfile_spec.specs.Reading.{reading-of}
@@ -29,7 +28,6 @@ use Rattle.listing.specs.Printed.{Bytes, refused-line}
 use Rattle.printing.specs.Printing.{Taken}
 use Rattle.printing.specs.laws.Taken.{taken-layout}
 use Rattle.fitting.specs.Fitted.{told, fitted-of}
-use Rattle.fitting.specs.declared.Fitted.the-variants.{Allowance, None, Refused}
 use Rattle.frame_text.specs.FrameText.{allowance-line, none-line, measures-of, fitted-line, answer-line, frame-text}
 use Rattle.frame_text.specs.laws.FrameText.{file-fit}
 

@@ -1,5 +1,4 @@
 use Rattle.join_file.specs.laws.Steps.{shift-is}
-use borrow.Author.Needs.{needs}
 use Rattle.join_file.proofs.shift.Statement.{statement}
 use Rattle.join_file.proofs.shift.Tie as tie
 

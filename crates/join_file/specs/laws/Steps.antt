@@ -1,6 +1,6 @@
 -- From the columns of two readings to the joined file: for the code. Nothing that a reader must believe stands here. Assumes nothing.
 use mathlib.Core.Path.{_≡_, refl, sym, ap, _∙_}
-use mathlib.Core.List.{List, [], _∷_, _++_, map}
+use mathlib.Core.List.{List, _∷_, _++_, map}
 use Prim.Native.Nat.{ℕ, zero, suc, _+_, _≤_, _<_}
 use native.Mathlib.Omega.{arith}
 use native.Mathlib.Decide.{ℕ-discrete}
@@ -10,8 +10,6 @@ use lib.Seq.{sets-eq, take-at}
 use Rattle.whole.specs.laws.Says.{is-true, is-false, says-le}
 use Rattle.plan.specs.Limits.{most-cells, most-file}
 use Rattle.plan.specs.Lists.{from}
-use Rattle.plan.specs.Columns.{table-of}
-use Rattle.plan.specs.Records.{cells-of}
 use Rattle.plan.specs.Questions.{none}
 use Rattle.plan.specs.declared.Record.{Record}
 use Rattle.plan.specs.declared.Columns.{Columns}
@@ -32,7 +30,6 @@ use Rattle.copying.specs.declared.Copied.{Copied}
 use Rattle.copying.specs.declared.Copied.the-variants as copied
 use Rattle.copying.specs.laws.Cleaned.{clean-records, clean-table, clean-allowance}
 use Rattle.graft.specs.Joined.{joined-records}
-use Rattle.graft.specs.Sequence.{join-refusal}
 use Rattle.grafting.specs.Grafted.{grafted, refused, accepted, graft-of}
 use Rattle.grafting.specs.laws.Made.{stop, graft-accepted, graft-refused, count-joined, made-records, row-in}
 use Rattle.grafting.specs.declared.Graft.{Graft}
@@ -44,7 +41,7 @@ use Rattle.join_file_spec.specs.declared.Joined.the-variants.{Written, FirstRef
 use Rattle.join_file_spec.specs.laws.Contents.{moved}
 use Rattle.join_file_spec.specs.laws.Read.{read-passes, headed, file-short, begin-inside, letters-long, record-inside}
 use Rattle.join_file_spec.specs.laws.Promised.{file-is, file-copied, file-small}
-use Rattle.join_file.specs.Steps.{Ended, Read, Movable, Shiftable, lettered, shifted, told, Writes}
+use Rattle.join_file.specs.Steps.{Ended, Read, Shiftable, lettered, shifted, told, Writes}
 
 -- ---- the columns with each label so many bytes on
 pub shift-is : (by : ℕ) (p : Reading) (ss : List ℕ) → ss ≡ column (λ i. by + getD (p .«label_start») i 0) (p .columns .count)

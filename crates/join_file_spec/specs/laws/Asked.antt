@@ -4,7 +4,7 @@ use mathlib.Core.List.{List, [], _∷_, _++_, map}
 use Prim.Native.Nat.{ℕ, zero, suc, _+_, _≤_, _<_}
 use native.Mathlib.Omega.{arith}
 use lib.Dec.{T, leb, ltb, le→leb, lt→ltb}
-use lib.ListN.{length, getD, length-map, length-append}
+use lib.ListN.{length, length-map, length-append}
 use Rattle.plan.specs.Limits.{between, most-cells, most-label, most-allowance, most-file}
 use Rattle.plan.specs.Forms.{widest}
 use Rattle.plan.specs.Plan.{Table}

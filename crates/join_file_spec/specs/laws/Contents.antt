@@ -2,7 +2,7 @@
 use mathlib.Core.Path.{_≡_, refl, ap, _∙_}
 use mathlib.Core.List.{List, [], _∷_, _++_, map, map-append}
 use mathlib.Core.Bool.{true}
-use Prim.Native.Nat.{ℕ, suc, _+_, _≤_, _<_}
+use Prim.Native.Nat.{ℕ, _+_, _≤_}
 use native.Mathlib.Omega.{arith}
 use lib.Dec.{T}
 use lib.ListN.{length, take, drop, length-drop, length-map}
@@ -10,7 +10,7 @@ use lib.Seq.{take-append-le, drop-append-le, drop-append-add}
 use Rattle.plan.specs.Plan.{Cell, Table}
 use Rattle.plan.specs.Records.{bare, cells-of}
 use Rattle.plan.specs.declared.Record.{Record}
-use Rattle.content.specs.Content.{Item, Content, text-of, item-of, content}
+use Rattle.content.specs.Content.{Item, text-of, item-of, content}
 use Rattle.graft.specs.Joined.{raised, hung, hung-behind, cell-under, record-under, joined, joined-records}
 use Rattle.join_file_spec.specs.Contents.{item-under, joined-items, joined-content}
 
