@@ -1,9 +1,9 @@
 -- WHAT IS PROMISED of a joined file (document 02, E10). Statements only; the proofs are in laws/. Assumes nothing.
 use mathlib.Core.Path.{_≡_}
-use mathlib.Core.List.{List, [], _∷_}
+use mathlib.Core.List.{List, [], _∷_, _++_}
 use Prim.Native.Nat.{ℕ, _+_, _≤_, _<_}
 use lib.Dec.{T}
-use lib.ListN.{length}
+use lib.ListN.{length, drop}
 use Rattle.plan.specs.Limits.{most-cells, most-file}
 use Rattle.plan.specs.Plan.{Is, within}
 use Rattle.plan.specs.Records.{cells-of}
@@ -16,10 +16,38 @@ use Rattle.planfile.specs.Subslice.{bytes-in}
 use Rattle.content.specs.Content.{file-content}
 use Rattle.graft.specs.Joined.{joined}
 use Rattle.join_file_spec.specs.Contents.{joined-content}
-use Rattle.join_file_spec.specs.Joined.{joined-file, tables-refusal}
+use Rattle.join_file_spec.specs.Joined.{joined-file, tables-refusal, JoinsFiles}
+use Rattle.join_file_spec.specs.declared.Joined.{Joined}
+use Rattle.join_file_spec.specs.declared.Joined.the-variants.{Written, FirstRefused, SecondRefused, Refused}
+use Rattle.join_file_spec.specs.laws.Answers as answers
 use Rattle.join_file_spec.specs.laws.Promised as laws
 
--- Two files that Read accepts, and a cell of the first under which Join hangs the second
+-- ---- A call, refused or not. An output that is too short: 1;
+module _ (f : List ℕ) (c : ℕ) (g out out′ : List ℕ) (r : Joined) (h : JoinsFiles f c g out out′ r) where
+  pub short : length out < most-file → (r ≡ Refused 1 0) × (out′ ≡ out)
+  short = answers.short-refused f c g out out′ r h
+
+  module _ (room : most-file ≤ length out) where
+    -- else Read's refusal of the first file;
+    pub first-refused : ¬ (reading-of f most-cells .refusal .number ≡ 0) → (r ≡ FirstRefused (reading-of f most-cells .refusal .number) (reading-of f most-cells .refusal .cell)) × (out′ ≡ out)
+    first-refused = answers.first-refused f c g out out′ r h room
+
+    -- else Read's of the second;
+    pub second-refused : reading-of f most-cells .refusal .number ≡ 0 → ¬ (reading-of g most-cells .refusal .number ≡ 0)
+        → (r ≡ SecondRefused (reading-of g most-cells .refusal .number) (reading-of g most-cells .refusal .cell)) × (out′ ≡ out)
+    second-refused = answers.second-refused f c g out out′ r h room
+
+    -- else Join's; and the output is as it was;
+    pub join-refused : reading-of f most-cells .refusal .number ≡ 0 → reading-of g most-cells .refusal .number ≡ 0 → ¬ (tables-refusal f c g .number ≡ 0)
+        → (r ≡ Refused (tables-refusal f c g .number) (tables-refusal f c g .cell)) × (out′ ≡ out)
+    join-refused = answers.join-refused f c g out out′ r h room
+
+    -- else the joined file, and the rest of the output as it was: Copy refuses none of it.
+    pub written : reading-of f most-cells .refusal .number ≡ 0 → reading-of g most-cells .refusal .number ≡ 0 → tables-refusal f c g .number ≡ 0
+        → (r ≡ Written (length (joined-file f c g))) × (out′ ≡ joined-file f c g ++ drop (length (joined-file f c g)) out)
+    written = answers.written f c g out out′ r h room
+
+-- ---- Two files that Read accepts, and a cell of the first under which Join hangs the second
 module _ (f : List ℕ) (c : ℕ) (g : List ℕ) (a : reading-of f most-cells .refusal .number ≡ 0) (b : reading-of g most-cells .refusal .number ≡ 0) (z : tables-refusal f c g .number ≡ 0) where
   -- 1. Read accepts the joined file, and what it reads is exactly the joined content.
   pub file-read : (table : ℕ) → most-cells ≤ table → refusal read (file-given (joined-file f c g) (to-fill table ∷ []) nothing) ≡ none
