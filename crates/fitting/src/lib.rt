@@ -70,12 +70,7 @@ pub fn tops_of(t: Columns) -> [u16; MOST_CELLS]
 }
 
 // The width of the sheet for this allowance, over a scratch of zeros. No position is written.
-pub fn width_at(
-    t: Columns,
-    tops: &[u16; MOST_CELLS],
-    allowance: u32,
-    scratch: &mut [u32],
-) -> u32
+pub fn width_at(t: Columns, tops: &[u16; MOST_CELLS], allowance: u32, scratch: &mut [u32]) -> u32
     requires { ⌜ Placeable t (now tops) (now scratch) ⌝ }
     ensures { λ r. ⌜ (pos r ≡ width (table-of t) (sheet (table-of t) allowance)) × (now (scratch .exit) ≡ replicate scratch-size 0) ⌝ }
 {

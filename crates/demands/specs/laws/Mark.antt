@@ -70,6 +70,6 @@ module _ (t : Table) (ps : List ℤ) (al : ℕ) (s : List ℕ) where
 
   pub exactly : Exactly
   exactly = elim (none-or-refused mark (mark-given t ps al (length s))) [
-    inl z ↦ of-answer z (one-answer t ps al s _ answered call)
+    | inl z ↦ of-answer z (one-answer t ps al s _ answered call)
     | inr n ↦ fourth (λ (z, x). accepted z n) (λ (z, w, l, h, x). accepted z n) (λ (z, k, a, b, x). accepted z n) n
   ]
