@@ -5,7 +5,7 @@ use mathlib.Core.Bool.{Bool, true, false, cond}
 use mathlib.Core.Option.{Option, some}
 use Prim.Native.Nat.{ℕ, zero, suc, _≤_}
 use native.Mathlib.Omega.{arith}
-use lib.Dec.{eqb, eqb·suc-zero}
+use lib.Dec.{eqb, leb, eqb·suc-zero}
 use lib.IntN.{ℤ}
 use lib.ListN.{length, getD}
 use Rattle.plan.specs.Plan.{Table, cells}
@@ -150,9 +150,13 @@ unfolding mark-answer numbered coded
 width-told l w h true = refl
 width-told l w h false = refl
 
+by-width-told : (l w h : ℕ) → said-mark (mark-answer (by-width l w h)) ≡ some (by-width l w h)
+unfolding by-width
+by-width-told l w h = width-told l w h (leb w l)
+
 graded-told : (l : ℕ) (a : Answer) → said-mark (mark-answer (graded l a)) ≡ some (graded l a)
-unfolding graded by-width mark-answer numbered coded
-graded-told l (fine w h) = width-told l _ _ _
+unfolding graded mark-answer numbered coded
+graded-told l (fine w h) = by-width-told l _ _
 graded-told l (faulty r a b) = refl
 
 pub mark-says : {t : Table} {ps : List ℤ} {al : ℕ} {s s′ : List ℕ} {r : MarkAnswer} (c : Marking t ps al s s′ r) → said-mark r ≡ some (c .marked)
