@@ -15,7 +15,7 @@ use Rattle.spans.specs.Spans.{at}
 use Rattle.spans.specs.laws.Columns.{all, all-long, Put, put}
 use Rattle.looking_sights.specs.Sights.{Sights, Sighted}
 use Rattle.looking_sights.specs.declared.View.{View}
-use Rattle.why_search.specs.Ties.{Ready, rule-of}
+use Rattle.why_ties.specs.Ties.{Ready, rule-of}
 use Rattle.why_search.specs.Rules.{rule-between, Inside}
 use Rattle.why_search.specs.Marks.{seek, leads-on, source, at-end, mark-first, mark-next}
 

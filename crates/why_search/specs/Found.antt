@@ -12,7 +12,7 @@ use Rattle.looking_sights.specs.Sights.{Sights}
 use Rattle.why_spec.specs.Measures.{across}
 use Rattle.why_spec.specs.Layers.{New}
 use Rattle.why_spec.specs.Search.{first, tight, tied, leftmost, rightmost, reached, closes, fewest, final}
-use Rattle.why_search.specs.Ties.{rule-of}
+use Rattle.why_ties.specs.Ties.{rule-of}
 
 module _ (t : Table) (al : ℕ) (p : Placement) where
   -- the marks after k turns

@@ -5,7 +5,7 @@ use Prim.Native.Nat.{ℕ, zero, suc, _+_}
 use lib.ListN.{getD}
 use lib.Dec.{eqb, ltb}
 use Rattle.looking_sights.specs.Sights.{Sights}
-use Rattle.why_search.specs.Ties.{rule-of}
+use Rattle.why_ties.specs.Ties.{rule-of}
 
 -- the first of d numbers from k on that passes; k + d where none does
 unfoldable pub seek : (ℕ → Bool) → ℕ → ℕ → ℕ

@@ -3,7 +3,7 @@ use mathlib.Core.List.{List}
 use Prim.Native.Nat.{ℕ, _+_, _≤_, _<_}
 use lib.ListN.{getD}
 use Rattle.looking_sights.specs.Sights.{Sights}
-use Rattle.why_search.specs.Ties.{rule-of}
+use Rattle.why_ties.specs.Ties.{rule-of}
 
 -- the rule between cell number j and the next
 unfoldable pub rule-between : Sights → ℕ → List ℕ → ℕ → ℕ

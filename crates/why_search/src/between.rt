@@ -1,5 +1,5 @@
 // The rule of each link of a chain.
-use crate::ties::rule_of;
+use why_ties::rule_of;
 use looking_columns::SIGHTS;
 use looking_sights::see;
 use plan::limits::MOST_CELLS;

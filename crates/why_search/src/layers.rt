@@ -1,5 +1,5 @@
 // The search: a cell's mark is 1 more than the fewest links that lead to it, 0 where none do so far.
-use crate::ties::rule_of;
+use why_ties::rule_of;
 use looking_columns::SIGHTS;
 use looking_sights::see;
 use plan::limits::MOST_CELLS;
@@ -8,7 +8,7 @@ ghost use Prim.Native.Nat.{_^_, _≤_, _<_};
 ghost use Rattle.plan.specs.Limits.{«most-cells»};
 ghost use Rattle.plan.specs.Trees.{Column};
 ghost use Rattle.looking_sights.specs.Sights.{«view-in», Sighted};
-ghost use Rattle.why_search.specs.Ties.{Ready};
+ghost use Rattle.why_ties.specs.Ties.{Ready};
 ghost use Rattle.why_search.specs.Marks.{«leads-on», source, «at-end», ending, «mark-first», «mark-next»};
 
 // a has mark m, and a tight link leads from it to b.

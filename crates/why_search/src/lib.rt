@@ -2,7 +2,6 @@
 pub mod between;
 pub mod layers;
 pub mod search;
-pub mod ties;
 
 use crate::between::rules_of;
 use crate::search::search;

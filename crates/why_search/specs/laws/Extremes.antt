@@ -22,7 +22,7 @@ use Rattle.why_spec.specs.Measures.{across, far}
 use Rattle.why_spec.specs.Search.{leftmost, rightmost}
 use Rattle.why_spec.specs.laws.Moved.{says-leftmost, says-rightmost}
 use Rattle.why_search.specs.Extremes.{From, Extremes}
-use Rattle.why_search.specs.laws.Ties.{ties-is, rule-is}
+use Rattle.why_ties.specs.laws.Ties.{ties-is, rule-is}
 use Rattle.why_search.specs.Found.{Stands}
 
 -- ---- the loop

@@ -1,8 +1,8 @@
-use Rattle.why_search.proofs.Chains.{is2, is3-ends, is3-starts, is4-box, is4-stem, is5, is0}
+use Rattle.why_ties.proofs.Chains.{is2, is3-ends, is3-starts, is4-box, is4-stem, is5, is0}
 use mathlib.Core.Path.{_∙_, sym}
 use borrow.Author.Needs.{needs}
-use Rattle.why_search.proofs.ties.rule_of.Statement.{statement}
-use Rattle.why_search.proofs.ties.rule_of.Tie as tie
+use Rattle.why_ties.proofs.rule_of.Statement.{statement}
+use Rattle.why_ties.proofs.rule_of.Tie as tie
 
 tied2-requires : tie.Need-tied2-requires
 tied2-requires c κs = search needs

@@ -1,10 +1,10 @@
-use Rattle.why_search.proofs.Chains.{and-no, and-yes}
-use Rattle.why_search.specs.Ties.{tie4-stem}
+use Rattle.why_ties.proofs.Chains.{and-no, and-yes}
+use Rattle.why_ties.specs.Ties.{tie4-stem}
 use mathlib.Core.Path.{_∙_}
 use borrow.Author.Tests.{eq-eqb, le-leb, le-ltb, lt-leb, lt-ltb, ne-eqb}
 use borrow.Author.Needs.{needs}
-use Rattle.why_search.proofs.ties.tied4_stem.Statement.{statement}
-use Rattle.why_search.proofs.ties.tied4_stem.Tie as tie
+use Rattle.why_ties.proofs.tied4_stem.Statement.{statement}
+use Rattle.why_ties.proofs.tied4_stem.Tie as tie
 
 add-if1 : tie.Need-add-if1
 add-if1 c = search needs

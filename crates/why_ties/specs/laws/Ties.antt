@@ -24,7 +24,7 @@ use Rattle.why_spec.specs.Links.{box-meets, stem-meets, asks}
 use Rattle.plan.specs.Lists.{from, some}
 use Rattle.why_spec.specs.Search.{first, tight, tied}
 use Rattle.why_spec.specs.laws.Links.{bears, bottom-child}
-use Rattle.why_search.specs.Ties.{appoints, tie2, tie3-ends, tie3-starts, tie4-box, tie4-stem, tie5, rule-of}
+use Rattle.why_ties.specs.Ties.{appoints, tie2, tie3-ends, tie3-starts, tie4-box, tie4-stem, tie5, rule-of}
 
 and-same : {p q p′ q′ : Bool} → p ≡ p′ → q ≡ q′ → p && q ≡ p′ && q′
 and-same e f = rw (e, f)

@@ -3,7 +3,7 @@ use mathlib.Core.Path.{_≡_}
 use mathlib.Core.Bool.{Bool, true, false, _&&_, _||_}
 use Prim.Native.Nat.{ℕ}
 use Rattle.looking_sights.specs.declared.View.{View}
-use Rattle.why_search.specs.Ties.{tie2, tie3-ends, tie3-starts, tie4-box, tie4-stem, tie5, rule-of}
+use Rattle.why_ties.specs.Ties.{tie2, tie3-ends, tie3-starts, tie4-box, tie4-stem, tie5, rule-of}
 
 pub and-no : {p : Bool} (q : Bool) → p ≡ false → false ≡ p && q
 and-no q e = rw e

@@ -3,7 +3,7 @@ use looking_sights::View;
 ghost use mathlib.Core.Path.{_≡_};
 ghost use Prim.Native.Nat.{_^_, _<_};
 ghost use Rattle.plan.specs.Limits.{«most-cells»};
-ghost use Rattle.why_search.specs.Ties.{appoints, tie2, «tie3-ends», «tie3-starts», «tie4-box», «tie4-stem», tie5, «rule-of», Ready};
+ghost use Rattle.why_ties.specs.Ties.{appoints, tie2, «tie3-ends», «tie3-starts», «tie4-box», «tie4-stem», tie5, «rule-of», Ready};
 
 // w's cell is the appointed child of v's cell a.
 fn appoints(a: usize, v: View, w: View) -> bool

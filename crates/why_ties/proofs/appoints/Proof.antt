@@ -1,9 +1,9 @@
-use Rattle.why_search.proofs.Chains.{and-no, and-yes}
-use Rattle.why_search.specs.Ties.{appoints}
+use Rattle.why_ties.proofs.Chains.{and-no, and-yes}
+use Rattle.why_ties.specs.Ties.{appoints}
 use borrow.Author.Tests.{eq-eqb, ne-eqb}
 use borrow.Author.Needs.{needs}
-use Rattle.why_search.proofs.ties.appoints.Statement.{statement}
-use Rattle.why_search.proofs.ties.appoints.Tie as tie
+use Rattle.why_ties.proofs.appoints.Statement.{statement}
+use Rattle.why_ties.proofs.appoints.Tie as tie
 
 cast-if1 : tie.Need-cast-if1
 cast-if1 c = search needs

@@ -1,10 +1,10 @@
-use Rattle.why_search.proofs.Chains.{and-no, and-yes, or-no, or-yes}
-use Rattle.why_search.specs.Ties.{tie2}
+use Rattle.why_ties.proofs.Chains.{and-no, and-yes, or-no, or-yes}
+use Rattle.why_ties.specs.Ties.{tie2}
 use mathlib.Core.Path.{_∙_, sym}
 use borrow.Author.Tests.{eq-eqb, ne-eqb}
 use borrow.Author.Needs.{needs}
-use Rattle.why_search.proofs.ties.tied2.Statement.{statement}
-use Rattle.why_search.proofs.ties.tied2.Tie as tie
+use Rattle.why_ties.proofs.tied2.Statement.{statement}
+use Rattle.why_ties.proofs.tied2.Tie as tie
 
 returns : tie.Need-returns
 unfolding tie2

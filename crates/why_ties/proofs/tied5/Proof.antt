@@ -1,9 +1,9 @@
-use Rattle.why_search.proofs.Chains.{and-no, and-yes}
-use Rattle.why_search.specs.Ties.{tie5}
+use Rattle.why_ties.proofs.Chains.{and-no, and-yes}
+use Rattle.why_ties.specs.Ties.{tie5}
 use borrow.Author.Tests.{eq-eqb, ne-eqb}
 use borrow.Author.Needs.{needs}
-use Rattle.why_search.proofs.ties.tied5.Statement.{statement}
-use Rattle.why_search.proofs.ties.tied5.Tie as tie
+use Rattle.why_ties.proofs.tied5.Statement.{statement}
+use Rattle.why_ties.proofs.tied5.Tie as tie
 
 add-if1 : tie.Need-add-if1
 add-if1 c = search needs
