@@ -9,3 +9,4 @@ pub mod Copy
 pub mod Making
 pub mod Between
 pub mod Prints
+pub mod Why
