@@ -7,7 +7,7 @@ use whole::numbers::wide8to32;
 ghost use mathlib.Core.Path.{_≡_};
 ghost use mathlib.Core.List.{_∷_};
 ghost use Prim.Native.Nat.{_+_, _*_, _^_, _≤_, _<_};
-ghost use lib.ListN.{length, getD};
+ghost use lib.ListN.{length};
 ghost use lib.IntN.{pos, _-ℤ_};
 ghost use Rattle.listing.specs.Printed.{space, decimal, signed};
 ghost use Rattle.listing.specs.Put.{Put};
@@ -51,7 +51,14 @@ fn put_apart(a: u32, b: u32, out: &mut [u8], at: usize) -> usize
 }
 
 // The first line.
-pub fn put_head(cells: u64, allowance: u64, width: u64, links: u64, out: &mut [u8], at: usize) -> usize
+pub fn put_head(
+    cells: u64,
+    allowance: u64,
+    width: u64,
+    links: u64,
+    out: &mut [u8],
+    at: usize,
+) -> usize
     requires { ⌜ at + head-size ≤ length (now out) ⌝ }
     ensures { λ r. ⌜ Put (now (out .entry)) at (head-line cells allowance width links) (now (out .exit)) r × (r ≤ at + head-size) ⌝ }
 {
@@ -99,7 +106,12 @@ pub fn put_last(cell: u64, width: u32, x: u32, x_first: u32, out: &mut [u8], at:
 }
 
 // The x of cell number j of a chain.
-fn x_of<'a>(cells: &'a [usize; MOST_CELLS], xs: &'a [u32; MOST_CELLS], count: usize, j: usize) -> u32
+fn x_of<'a>(
+    cells: &'a [usize; MOST_CELLS],
+    xs: &'a [u32; MOST_CELLS],
+    count: usize,
+    j: usize,
+) -> u32
     requires { ⌜ Few (now cells) count × (j ≤ count) ⌝ }
     ensures { λ r. ⌜ r ≡ x-of (now (cells .entry)) (now (xs .entry)) j ⌝ }
 {

@@ -1,8 +1,8 @@
 // The rule of each link of a chain.
-use why_ties::rule_of;
 use looking_columns::SIGHTS;
 use looking_sights::see;
 use plan::limits::MOST_CELLS;
+use why_ties::rule_of;
 ghost use mathlib.Core.Path.{_≡_};
 ghost use Prim.Native.Nat.{_^_, _<_};
 ghost use Rattle.plan.specs.Trees.{Column};

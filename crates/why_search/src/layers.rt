@@ -1,8 +1,8 @@
 // The search: a cell's mark is 1 more than the fewest links that lead to it, 0 where none do so far.
-use why_ties::rule_of;
 use looking_columns::SIGHTS;
 use looking_sights::see;
 use plan::limits::MOST_CELLS;
+use why_ties::rule_of;
 ghost use mathlib.Core.Path.{_≡_};
 ghost use Prim.Native.Nat.{_^_, _≤_, _<_};
 ghost use Rattle.plan.specs.Limits.{«most-cells»};

@@ -38,7 +38,14 @@ fn write_chain<'a>(
     let xs = raised(positions, t.count, 0);
     let last = cells[count];
     let wide = wide16to32(t.width[last]);
-    let a = put_head(t.count as u64, allowance as u64, width as u64, count as u64, out, 0);
+    let a = put_head(
+        t.count as u64,
+        allowance as u64,
+        width as u64,
+        count as u64,
+        out,
+        0,
+    );
     let b = put_steps(cells, rules, &xs, count, out, a);
     put_end(cells, &xs, count, wide, out, b)
 }
@@ -56,7 +63,16 @@ fn write_plan(plan: Reading, file: &[u8], out: &mut [u8]) -> usize
     let chain = explain(columns, &positions, allowance);
     let cells = chain.cells;
     let rules = chain.rules;
-    write_chain(columns, allowance, drawn.width, &positions, chain.count, &cells, &rules, out)
+    write_chain(
+        columns,
+        allowance,
+        drawn.width,
+        &positions,
+        chain.count,
+        &cells,
+        &rules,
+        out,
+    )
 }
 
 // The reason of a plan file, or the line of the refusal, into an output that is long enough: its length.

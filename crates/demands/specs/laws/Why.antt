@@ -16,7 +16,7 @@ use Rattle.layout.specs.declared.Laid.the-variants.{Sheet}
 use Rattle.layout.specs.laws.Laid.{sheet-asks, sheet-wide}
 use Rattle.checker.specs.declared.Checked.the-variants.{Kept}
 use Rattle.why_spec.specs.Measures.{extent, across, Demanded}
-use Rattle.why_spec.specs.Links.{Link, Reason, Certifies}
+use Rattle.why_spec.specs.Links.{Reason, Certifies}
 use Rattle.why_spec.specs.Search.{reason}
 use Rattle.why_spec.specs.Theorems.{width-is, reason-least, reason-found, reason-fewest}
 use Rattle.why_search.specs.Explains.{told}

@@ -14,7 +14,7 @@ use Rattle.plan.specs.Fit.{Fit}
 use Rattle.plan.specs.Near.{Near}
 use Rattle.plan.specs.Questions.{check, none, refusal, check-given}
 use Rattle.rules.specs.Placement.{placed, Agree}
-use Rattle.rules.specs.Rules.{S1, Keeps}
+use Rattle.rules.specs.Rules.{Keeps}
 use Rattle.rules.specs.laws.Agreement.{width-same, answer-same}
 use Rattle.rules.specs.laws.Verdict.{kept-keeps, keeps-kept, fine-answer, answer-fine}
 use Rattle.contours.specs.Sheet.{sheet}

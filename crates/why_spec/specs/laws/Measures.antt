@@ -6,7 +6,7 @@ use Prim.Native.Nat.{ℕ, _≤_}
 use lib.ListN.{length}
 use lib.Dec.{T}
 use lib.IntN.{ℤ, pos, _+ℤ_, _-ℤ_}
-use Rattle.whole.specs.laws.Whole.{whole, sum, diff}
+use Rattle.whole.specs.laws.Whole.{whole, sum}
 use Rattle.plan.specs.Lists.{mem}
 use Rattle.plan.specs.laws.Lists.{mem-here, mem-cases, mem-none}
 use Rattle.plan.specs.Plan.{Table, Is, Sound}

@@ -1,23 +1,20 @@
 -- The lines of a reason are those of its chain, cell by cell. Assumes nothing.
 use mathlib.Core.Path.{_≡_, refl, sym, ap, _∙_}
-use mathlib.Core.List.{List, [], _∷_, _++_, append-nil, append-assoc}
-use Prim.Native.Nat.{ℕ, zero, suc, _+_, _*_, _≤_, _<_}
+use mathlib.Core.List.{List, _∷_, _++_, append-nil, append-assoc}
+use Prim.Native.Nat.{ℕ, zero, suc, _+_, _≤_, _<_}
 use native.Mathlib.Numerals.{add-one}
 use native.Mathlib.Omega.{arith}
 use lib.ListN.{length, getD}
 use lib.IntN.{ℤ, pos, _+ℤ_, _-ℤ_}
-use Rattle.whole.specs.Bias.{bias}
-use Rattle.whole.specs.Range.{InRange}
 use Rattle.whole.specs.laws.Whole.{whole, sum, diff}
 use Rattle.plan.specs.Limits.{farthest}
 use Rattle.plan.specs.Plan.{Table, Is, W}
 use Rattle.rules.specs.Placement.{Placement}
 use Rattle.listing.specs.Printed.{Bytes, lines-joined}
-use Rattle.listing.specs.laws.Line.{joined-append}
-use Rattle.why_spec.specs.Links.{Link, adds-up}
+use Rattle.why_spec.specs.Links.{adds-up}
 use Rattle.why_spec.specs.Search.{link}
 use Rattle.why_search.specs.Stops.{steps}
-use Rattle.why_search.specs.Explains.{told, Chained}
+use Rattle.why_search.specs.Explains.{Chained}
 use Rattle.why_lines.specs.Printed.{link-line, last-line, link-lines}
 use Rattle.why_lines.specs.Steps.{x-of, step-line, steps-text, end-line}
 

@@ -12,7 +12,7 @@ use Rattle.whole.specs.Bias.{bias}
 use Rattle.whole.specs.Range.{InRange}
 use Rattle.whole.specs.laws.Whole.{whole, sum, narrow}
 use Rattle.plan.specs.Limits.{most-cells, most-allowance, farthest, scratch-size}
-use Rattle.plan.specs.Plan.{Table, Is, W}
+use Rattle.plan.specs.Plan.{Is, W}
 use Rattle.plan.specs.Fit.{Fit}
 use Rattle.plan.specs.Near.{Near}
 use Rattle.plan.specs.Columns.{table-of}
