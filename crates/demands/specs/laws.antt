@@ -10,3 +10,4 @@ pub mod Making
 pub mod Mark
 pub mod Between
 pub mod Prints
+pub mod Why
