@@ -118,7 +118,7 @@ refuses "second refused 7 1" printed.plan 9 child.plan
 refuses "refused 16 0" printed.plan 3 rinse.plan
 refuses "refused 16 0" printed.plan 4294967295 rinse.plan
 refuses "refused 11 1" printed.plan 1 rinse.plan
-refuses "refused 11 3" printed.plan 0 bare.plan
+refuses "second refused 11 0" printed.plan 0 bare.plan
 refuses "refused 4 0" full.plan 0 rinse.plan
 
 # ---- trouble
