@@ -118,8 +118,23 @@ refuses "second refused 7 1" printed.plan 9 child.plan
 refuses "refused 16 0" printed.plan 3 rinse.plan
 refuses "refused 16 0" printed.plan 4294967295 rinse.plan
 refuses "refused 11 1" printed.plan 1 rinse.plan
-refuses "refused 11 3" printed.plan 0 bare.plan
+refuses "second refused 11 0" printed.plan 0 bare.plan
 refuses "refused 4 0" full.plan 0 rinse.plan
+# 31 runs in a chain and a step under the last; 15 of depth 15; a run and a step of depth 15: levels and rows of the joined plan, by its numbers
+python3 - <<'END'
+import struct
+def chain(name, runs, depth):
+    cells = [(65535 if c == 0 else c - 1, 2 if c < runs else 1) for c in range(runs + 1)]
+    records = b''.join(struct.pack('<HBBBBH', parent, kind, 2, depth, 0, 0) for parent, kind in cells)
+    open(name, 'wb').write(records + struct.pack('<4H', 0, runs + 1, 0, 0x5453))
+chain('deep.plan', 31, 1)
+chain('tall.plan', 15, 15)
+chain('high.plan', 1, 15)
+END
+refuses "refused 12 33" deep.plan 30 rinse.plan
+joins deep.plan 29 rinse.plan
+refuses "refused 13 17" tall.plan 14 high.plan
+joins tall.plan 13 high.plan
 
 # ---- trouble
 troubled "join: four arguments: the first plan's file, a cell of it, the second plan's file, the file to write"

@@ -10,14 +10,16 @@ use Rattle.argument_number.specs.laws.Number.{decimal-number}
 pub told : (n : ℕ) → n < no-number → number-in (decimal n) ≡ n
 told = decimal-number
 
--- ``, `-1`, `3 `, `1.5` and `4294967296` tell none; `007` and `4294967295` tell one
+-- ``, `-1`, `3 `, `1.5`, `/`, `:` and `4294967296` tell none; `007` and `4294967295` tell one
 pub texts :
     (number-in [] ≡ no-number)
     × (number-in (45 ∷ 49 ∷ []) ≡ no-number)
     × (number-in (51 ∷ 32 ∷ []) ≡ no-number)
     × (number-in (49 ∷ 46 ∷ 53 ∷ []) ≡ no-number)
+    × (number-in (47 ∷ []) ≡ no-number)
+    × (number-in (58 ∷ []) ≡ no-number)
     × (number-in (52 ∷ 50 ∷ 57 ∷ 52 ∷ 57 ∷ 54 ∷ 55 ∷ 50 ∷ 57 ∷ 54 ∷ []) ≡ no-number)
     × (number-in (48 ∷ 48 ∷ 55 ∷ []) ≡ 7)
     × (number-in (52 ∷ 50 ∷ 57 ∷ 52 ∷ 57 ∷ 54 ∷ 55 ∷ 50 ∷ 57 ∷ 53 ∷ []) ≡ 4294967295)
 unfolding number-in with-digits with-digit
-texts = (refl, refl, refl, refl, refl, refl, refl)
+texts = (refl, refl, refl, refl, refl, refl, refl, refl, refl)

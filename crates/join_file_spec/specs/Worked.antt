@@ -1,4 +1,4 @@
--- A WORKED JOIN, computed: a rinse hung under cell 0 of document 01's printed example. Assumes nothing.
+-- WORKED JOINS, computed: a rinse hung under cell 0 of document 01's printed example, a step under another cell. Assumes nothing.
 use mathlib.Core.Path.{_≡_, refl}
 use mathlib.Core.List.{List, [], _∷_}
 use Prim.Native.Nat.{ℕ}
@@ -33,3 +33,25 @@ pub rinsed : joined-file printed 0 rinse
     ∷ 14 ∷ 0 ∷ 5 ∷ 0 ∷ 0 ∷ 0 ∷ 0x53 ∷ 0x54 ∷ []
 unfolding rinse joined-file joined-content joined-items item-under hung-behind hung raised cell-under plan printed clean clean-end form-for all-narrow narrow mark-of file-content content letters-of item-of text-of bare labels entries record-of record-bytes records-bytes trailer-bytes trailer-of records-of entry record-at from forms.form-of forms.record-size fields.pair fields.set-pair fields.number-at fields.set-number fields.set-record fields.set-trailer fields.parent-place fields.kind-place fields.width-place fields.depth-place fields.length-place fields.rank-place fields.start-place fields.begin-place fields.count-place fields.allowance-place fields.mark-place
 rinsed = refl
+
+-- a lone step `A` under cell 1 of a run over a run over a step `Out`: a cell that is not the root
+unfoldable pub chain : List ℕ
+chain =
+    79 ∷ 117 ∷ 116
+    ∷ 255 ∷ 255 ∷ 2 ∷ 2 ∷ 1 ∷ 0 ∷ 0 ∷ 0
+    ∷ 0 ∷ 0 ∷ 2 ∷ 2 ∷ 1 ∷ 0 ∷ 0 ∷ 0
+    ∷ 1 ∷ 0 ∷ 1 ∷ 5 ∷ 1 ∷ 3 ∷ 0 ∷ 0
+    ∷ 3 ∷ 0 ∷ 3 ∷ 0 ∷ 0 ∷ 0 ∷ 0x53 ∷ 0x54 ∷ []
+
+unfoldable pub step : List ℕ
+step = 65 ∷ 255 ∷ 255 ∷ 1 ∷ 3 ∷ 1 ∷ 1 ∷ 0 ∷ 0 ∷ 1 ∷ 0 ∷ 1 ∷ 0 ∷ 0 ∷ 0 ∷ 0x53 ∷ 0x54 ∷ []
+
+pub lower-down : joined-file chain 1 step
+    ≡ 79 ∷ 117 ∷ 116 ∷ 65
+    ∷ 255 ∷ 255 ∷ 2 ∷ 2 ∷ 1 ∷ 0 ∷ 0 ∷ 0
+    ∷ 0 ∷ 0 ∷ 2 ∷ 2 ∷ 1 ∷ 0 ∷ 0 ∷ 0
+    ∷ 1 ∷ 0 ∷ 1 ∷ 5 ∷ 1 ∷ 3 ∷ 0 ∷ 0
+    ∷ 1 ∷ 0 ∷ 1 ∷ 3 ∷ 1 ∷ 1 ∷ 3 ∷ 0
+    ∷ 4 ∷ 0 ∷ 4 ∷ 0 ∷ 0 ∷ 0 ∷ 0x53 ∷ 0x54 ∷ []
+unfolding chain step joined-file joined-content joined-items item-under hung-behind hung raised cell-under plan printed clean clean-end form-for all-narrow narrow mark-of file-content content letters-of item-of text-of bare labels entries record-of record-bytes records-bytes trailer-bytes trailer-of records-of entry record-at from forms.form-of forms.record-size fields.pair fields.set-pair fields.number-at fields.set-number fields.set-record fields.set-trailer fields.parent-place fields.kind-place fields.width-place fields.depth-place fields.length-place fields.rank-place fields.start-place fields.begin-place fields.count-place fields.allowance-place fields.mark-place
+lower-down = refl

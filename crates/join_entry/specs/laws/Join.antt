@@ -17,7 +17,7 @@ use Rattle.plan.specs.declared.Record.{Record}
 use Rattle.plan.specs.declared.Lettered.{Lettered}
 use Rattle.plan.specs.declared.Refusal.{Refusal}
 use Rattle.planfile_spec.specs.Reading.{columns-of}
-use Rattle.records.specs.Apart.{no-record, lent-at, columns, lettering, lent-columns, lent-lettered}
+use Rattle.records.specs.Apart.{no-record, lent-at, columns, lettering, lent-columns, lent-lettered, records-in}
 use Rattle.records.specs.laws.Apart.{of-records, apart-records}
 use Rattle.records.specs.Together.{record-in, filled}
 use Rattle.records.specs.laws.Together.{filled-none, filled-all}
@@ -93,8 +93,9 @@ module _ (t u : List Record) (c : ℕ) (o : List Record) where
     record-is : (i : ℕ) → i < length t + length u → record-in (made A B c few-all) i ≡ lent-at (joined-records t u c) i
     record-is i h =
         let (p, q) = counts in
+        let same : joined-records (records-in A) (records-in B) c ≡ joined-records t u c = rw (apart-records t first-few, apart-records u second-few) in
         sym (row-in (lettered (made A B c few-all)) i (omega (arith, made-count A B c few-all second-some)))
-        ∙ ap (λ (x : List Record). lent-at x i) (made-records A B c few-all second-some ∙ rw (apart-records t first-few, apart-records u second-few))
+        ∙ ap (λ (x : List Record). lent-at x i) (made-records A B c few-all second-some ∙ same)
 
     all-written : filled (made A B c few-all) (length t + length u) o ≡ joined-records t u c ++ drop (length t + length u) o
     all-written =
