@@ -52,7 +52,7 @@ module _ (f : Bytes) (z : file-refusal f .number ≡ 0) where
   unfolding file-refusal body-refusal record-refusal
   inside-letters c h =
       let e = each-none (entry-refusal f) (trailer-of f .count) (both-none _ _ (both-none (header-refusal f) (body-refusal f) z .1) .0) c h in
-      leb→le _ _ (and-right _ _ (asked-yes 8 _ c (both-none _ _ (both-none _ _ e .1) .0)))
+      leb→le _ _ (and-right (leb (entry f c .«label_length») most-label) (leb (entry f c .«label_start» + entry f c .«label_length») (trailer-of f .begin)) (asked-yes 8 _ c (both-none _ _ (both-none _ _ e .1) .0)))
 
   pub label-no-feed : (c : ℕ) → c < trailer-of f .count → Each NoFeed (label-bytes f c)
   label-no-feed c h =

@@ -41,10 +41,10 @@ unfolding by-words said-as.passes begins first
 passed-first ws = refl
 
 solid-sheet : Each Solid sheet-word
-solid-sheet = (solid 115 (omega arith), solid 104 (omega arith), solid 101 (omega arith), solid 101 (omega arith), solid 116 (omega arith), omega arith)
+solid-sheet = (solid 115 (omega arith), (solid 104 (omega arith), (solid 101 (omega arith), (solid 101 (omega arith), (solid 116 (omega arith), omega arith)))))
 
 free-sheet : Each NoFeed sheet-word
-free-sheet = (λ e. absurd (omega arith), λ e. absurd (omega arith), λ e. absurd (omega arith), λ e. absurd (omega arith), λ e. absurd (omega arith), omega arith)
+free-sheet = (λ e. absurd (omega arith), (λ e. absurd (omega arith), (λ e. absurd (omega arith), (λ e. absurd (omega arith), (λ e. absurd (omega arith), omega arith)))))
 
 free-decimal : (n : ℕ) → Each NoFeed (decimal n)
 free-decimal n = each-decimal NoFeed (λ d h e. absurd (omega arith)) n
@@ -64,7 +64,7 @@ module _ (n al w h : ℕ) where
 
   sheet-lines : (r : Bytes) → lines (sheet-line n al w h ++ r) ≡ inner sheet-fields ∷ lines r
   unfolding sheet-line
-  sheet-lines r = lines-line sheet-fields r (free-sheet, free-decimal n, free-decimal al, free-decimal w, free-decimal h, omega arith)
+  sheet-lines r = lines-line sheet-fields r (free-sheet, (free-decimal n, (free-decimal al, (free-decimal w, (free-decimal h, omega arith)))))
 
   sheet-words : words (inner sheet-fields) ≡ sheet-word ∷ words (inner (decimal n ∷ decimal al ∷ decimal w ∷ decimal h ∷ []))
   unfolding inner
@@ -95,7 +95,7 @@ module _ (c : ℕ) (x y : ℤ) (w d : ℕ) (label : Bytes) where
 
   cell-lines : (r : Bytes) → Each NoFeed label → lines (cell-line c x y w d label ++ r) ≡ inner cell-fields ∷ lines r
   unfolding cell-line
-  cell-lines r h = lines-line cell-fields r (free-decimal c, free-signed x, free-signed y, free-decimal w, free-decimal d, label-fields-free h)
+  cell-lines r h = lines-line cell-fields r (free-decimal c, (free-signed x, (free-signed y, (free-decimal w, (free-decimal d, label-fields-free h)))))
 
   cell-words : words (inner cell-fields) ≡ decimal c ∷ signed x ∷ signed y ∷ words (inner (decimal w ∷ decimal d ∷ label-field label))
   unfolding inner
@@ -211,11 +211,12 @@ module _ (p : Reading) (f : Bytes) (h : Taken p f) where
       let t = read-table p in
       rw (cell-lines k (q .x k) (q .y k) (W t k) (D t k) l (cells (suc k) d) (cell-free k i), cell-said k (q .x k) (q .y k) (W t k) (D t k) l k, stepped (suc (suc k)) k i, said-lines)
 
+  cells-end : (k : ℕ) → k ≡ n → said-lines n (suc (suc k)) (sketch-at k) (lines (cells k 0)) ≡ complete n (sketch-at n)
+  unfolding said-lines lines lines-joined from
+  cells-end k z = rw z
+
   cells-said : (d k : ℕ) → k + d ≡ n → said-lines n (suc (suc k)) (sketch-at k) (lines (cells k d)) ≡ complete n (sketch-at n)
-  cells-said zero k e = let z : k ≡ n = omega arith in last k z
-    where
-      last : (k : ℕ) → k ≡ n → said-lines n (suc (suc k)) (sketch-at k) (lines (cells k 0)) ≡ complete n (sketch-at n)
-      last k z = rw z refl
+  cells-said zero k e = cells-end k (omega arith)
   cells-said (suc d) k e = cell-goes k d (omega arith) ∙ cells-said d (suc k) (omega arith)
 
   -- the root's corner is 0 0
@@ -225,9 +226,9 @@ module _ (p : Reading) (f : Bytes) (h : Taken p f) where
   agree : (c : ℕ) → c < n → (moved (placed (sketch-at n .places)) .x c ≡ q .x c) × (moved (placed (sketch-at n .places)) .y c ≡ q .y c)
   unfolding moved
   agree c i =
-      let a : Agree (read-table p) (placed (written (replicate (2 * most-cells) (pos 0)) q n)) q = rw long at (written-agree q (read-table p) (replicate (2 * most-cells) (pos 0))) in
-      let (u, v) = a c (is-cell c i) in
-      let (s, t) = a 0 (is-cell 0 (omega arith)) in
+      let z = replicate {A = ℤ} (2 * most-cells) (pos 0) in
+      let (u, v) = rw long at (written-agree q (read-table p) z c (is-cell c i)) in
+      let (s, t) = rw long at (written-agree q (read-table p) z 0 (is-cell 0 (omega arith))) in
       (less-zero _ _ (s ∙ root .0) ∙ u, less-zero _ _ (t ∙ root .1) ∙ v)
 
   completed : complete n (sketch-at n) ≡ placed-at (corners q 0 n)
