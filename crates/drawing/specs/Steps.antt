@@ -8,6 +8,7 @@ use lib.Dec.{eqb, leb}
 use lib.IntN.{ℤ, pos}
 use lib.ListN.{length, getD, take, drop}
 use Rattle.whole.specs.Range.{in-range, InRange}
+use Rattle.whole.specs.Bias.{bias}
 use Rattle.plan.specs.Limits.{most-cells, farthest}
 use Rattle.listing.specs.Printed.{Bytes, line-feed}
 use Rattle.drawing_spec.specs.Words.{lines, blank, words, first, others}
@@ -56,18 +57,18 @@ unfoldable pub number-told : Option ℕ → Number
 number-told none = record { number = false; value = 0 }
 number-told (some v) = record { number = true; value = capped v }
 
--- a number that is near; else 0
-unfoldable pub near-value : ℤ → ℤ
-near-value z = cond (in-range farthest z) z (pos 0)
+-- a number that is near, moved up; else 0
+unfoldable pub near-up : ℤ → ℕ
+near-up z = cond (in-range farthest z) (bias farthest z) 0
 
 unfoldable pub integer-told : Option ℤ → Signed
-integer-told none = record { number = false; near = false; value = pos 0 }
-integer-told (some z) = record { number = true; near = in-range farthest z; value = near-value z }
+integer-told none = record { number = false; near = false; value = 0 }
+integer-told (some z) = record { number = true; near = in-range farthest z; value = near-up z }
 
 unfoldable pub line-told : Line → Told
-line-told passed = record { kind = 0; cell = 0; «x_near» = false; x = pos 0; «y_near» = false; y = pos 0 }
-line-told unread = record { kind = 1; cell = 0; «x_near» = false; x = pos 0; «y_near» = false; y = pos 0 }
-line-told (gives c x y) = record { kind = 2; cell = capped c; «x_near» = in-range farthest x; x = near-value x; «y_near» = in-range farthest y; y = near-value y }
+line-told passed = record { kind = 0; cell = 0; «x_near» = false; x = 0; «y_near» = false; y = 0 }
+line-told unread = record { kind = 1; cell = 0; «x_near» = false; x = 0; «y_near» = false; y = 0 }
+line-told (gives c x y) = record { kind = 2; cell = capped c; «x_near» = in-range farthest x; x = near-up x; «y_near» = in-range farthest y; y = near-up y }
 
 -- ---- one line
 -- every number is near

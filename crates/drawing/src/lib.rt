@@ -11,7 +11,6 @@ ghost use Prim.Native.Nat.{ℕ, _+_, _-_, _*_, _≤_, _<_};
 ghost use lib.Dec.{eqb};
 ghost use lib.IntN.{ℤ, _-ℤ_, pos};
 ghost use lib.ListN.{length, take, drop, getD, set};
-ghost use Rattle.whole.specs.Range.{InRange};
 ghost use Rattle.plan.specs.Limits.{farthest, «most-cells»};
 ghost use Rattle.rules.specs.Placement.{placed};
 ghost use Rattle.positions.specs.Written.{written};
@@ -39,21 +38,21 @@ struct Number {
     value: u32,
 }
 
-// A whole number, if the word is one, and whether it is near; if it is not, 0.
+// A whole number, if the word is one, and whether it is near; moved up by 262,143, so that none is negative.
 struct Signed {
     number: bool,
     near: bool,
-    value: i32,
+    value: u32,
 }
 
-// A line: passed over (0), not three numbers (1), or the corner of a cell (2).
+// A line: passed over (0), not three numbers (1), or the corner of a cell (2), x and y moved up.
 struct Told {
     kind: u8,
     cell: u32,
     x_near: bool,
-    x: i32,
+    x: u32,
     y_near: bool,
-    y: i32,
+    y: u32,
 }
 
 // Where the reader is: a fault, or 0, the line's number, the cell of the fault, and the place in the text.
@@ -245,13 +244,13 @@ fn signed_as(m: Number, below: bool) -> Signed
         return Signed {
             number: true,
             near: true,
-            value: difference(0, m.value),
+            value: FARTHEST - m.value,
         };
     }
     Signed {
         number: true,
         near: true,
-        value: difference(m.value, 0),
+        value: FARTHEST + m.value,
     }
 }
 
@@ -277,7 +276,7 @@ fn integer(word: &[u8]) -> Signed
 
 // A line that gives no cell.
 fn no_cell(kind: u8) -> Told
-    ensures { λ r. ⌜ r ≡ record { kind = kind; cell = 0; «x_near» = Bool.false; x = pos 0; «y_near» = Bool.false; y = pos 0 } ⌝ }
+    ensures { λ r. ⌜ r ≡ record { kind = kind; cell = 0; «x_near» = Bool.false; x = 0; «y_near» = Bool.false; y = 0 } ⌝ }
 {
     Told {
         kind,
@@ -345,7 +344,7 @@ fn put_corner(places: &mut [i32], c: usize, x: i32, y: i32)
 
 // What a line says is noted, or the number of the fault.
 fn put_cell(t: Told, n: usize, given: &mut [u8], places: &mut [i32]) -> u8
-    requires { ⌜ Sized n (now given) (now places) × Held (now places) × InRange farthest (t .x) × InRange farthest (t .y) ⌝ }
+    requires { ⌜ Sized n (now given) (now places) × Held (now places) × (t .x ≤ farthest + farthest) × (t .y ≤ farthest + farthest) ⌝ }
     ensures { λ r. ⌜ Steps n t (now (given .entry)) (now (places .entry)) (now (given .exit)) (now (places .exit)) r ⌝ }
 {
     if t.kind == 0 {
@@ -368,7 +367,12 @@ fn put_cell(t: Told, n: usize, given: &mut [u8], places: &mut [i32]) -> u8
         return 4;
     }
     given[c] = 1;
-    put_corner(places, c, t.x, t.y);
+    put_corner(
+        places,
+        c,
+        difference(t.x, FARTHEST),
+        difference(t.y, FARTHEST),
+    );
     0
 }
 
@@ -444,7 +448,12 @@ fn put_moved(places: &[i32], n: usize, positions: &mut [i32])
 {
     let mut c: usize = 0;
     while c < n {
-        put_corner(positions, c, apart(places, 2 * c, 0), apart(places, 2 * c + 1, 1));
+        put_corner(
+            positions,
+            c,
+            apart(places, 2 * c, 0),
+            apart(places, 2 * c + 1, 1),
+        );
         c += 1;
     }
 }

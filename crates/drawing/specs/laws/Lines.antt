@@ -7,7 +7,7 @@ use Prim.Native.Nat.{ℕ, zero, suc, _+_, _-_, _*_, _≤_, _<_}
 use native.Mathlib.Omega.{arith}
 use native.Mathlib.Decide.{ℕ-discrete, decLt}
 use lib.Dec.{eqb, ltb}
-use lib.IntN.{ℤ, pos}
+use lib.IntN.{ℤ, pos, _-ℤ_}
 use lib.ListN.{length, getD, take, drop, set, length-set}
 use lib.Seq.{getD-set-same, getD-set-other, set-out}
 use borrow.Author.Tests.{eq-eqb, ne-eqb, lt-ltb, le-ltb}
@@ -17,8 +17,8 @@ use Rattle.listing.specs.Printed.{Bytes, sheet-word}
 use Rattle.drawing_spec.specs.Words.{words, first, others, natural, integer}
 use Rattle.drawing_spec.specs.Said.{hash, Line, passed, unread, gives, Said, wrong, begins, passes, numbered, by-words, line-said, Step, goes, stops, with-cell, step}
 use Rattle.drawing_spec.specs.declared.Fault.the-variants.{NoNumber, NoCell, Twice, Far}
-use Rattle.drawing.specs.Steps.{beyond, capped, number-told, near-value, integer-told, line-told, Next, Held, Sized, sketch, fault-said, stepped, Steps}
-use Rattle.drawing.specs.laws.Numbers.{capped-low, capped-high, near-yes, value-near, zero-near}
+use Rattle.drawing.specs.Steps.{beyond, capped, number-told, near-up, integer-told, line-told, Next, Held, Sized, sketch, fault-said, stepped, Steps}
+use Rattle.drawing.specs.laws.Numbers.{capped-low, capped-high, up-low, down-near, down-up}
 use Rattle.drawing.specs.declared.Span.{Span}
 use Rattle.drawing.specs.declared.Number.{Number}
 use Rattle.drawing.specs.declared.Signed.{Signed}
@@ -77,29 +77,50 @@ three-all c x y p q r (some k) none v a b d = no-way (sym q ∙ ap (λ (z : Sign
 three-all c x y p q r (some k) (some z) none a b d = no-way (sym r ∙ ap (λ (z : Signed). z .number) d)
 three-all c x y p q r (some k) (some z) (some w) a b d = rw (a, b, d)
 
-pub told-unread : (r : Told) → r ≡ record { kind = 1; cell = 0; «x_near» = false; x = pos 0; «y_near» = false; y = pos 0 } → r ≡ line-told unread
+pub told-unread : (r : Told) → r ≡ record { kind = 1; cell = 0; «x_near» = false; x = 0; «y_near» = false; y = 0 } → r ≡ line-told unread
 unfolding line-told
 told-unread r e = e
 
 -- ---- a line
 module _ (line : Bytes) (f : Bool) (k : ℕ) (e : f ≡ eqb k 1) where
-  pub line-passed : (r : Told) → passes f (first (words line)) ≡ true → r ≡ record { kind = 0; cell = 0; «x_near» = false; x = pos 0; «y_near» = false; y = pos 0 } → r ≡ line-told (line-said k line)
+  line-passed : (r : Told) → passes f (first (words line)) ≡ true → r ≡ record { kind = 0; cell = 0; «x_near» = false; x = 0; «y_near» = false; y = 0 } → r ≡ line-told (line-said k line)
   unfolding line-said by-words line-told
   line-passed r p q = rw (← e, p) q
 
-  pub line-numbers : (r : Told) → passes f (first (words line)) ≡ false
+  line-numbers : (r : Told) → passes f (first (words line)) ≡ false
       → r ≡ line-told (numbered (natural (first (words line))) (integer (first (others (words line)))) (integer (first (others (others (words line)))))) → r ≡ line-told (line-said k line)
   unfolding line-said by-words
   line-numbers r p q = rw (← e, p) q
 
--- every number that a line gives is near, or 0
-line-near : (l : Line) → InRange farthest (line-told l .x) × InRange farthest (line-told l .y)
-unfolding line-told
-line-near passed = (zero-near, zero-near)
-line-near unread = (zero-near, zero-near)
-line-near (gives c x y) = (value-near x, value-near y)
+-- the words as the code finds them
+abbrev part : Bytes → Span → Bytes
+part line a = take (a .end - a .start) (drop (a .start) line)
 
-pub told-near : (t : Told) (l : Line) → t ≡ line-told l → InRange farthest (t .x) × InRange farthest (t .y)
+module _ (line : Bytes) (f : Bool) (k : ℕ) (e : f ≡ eqb k 1) (a : Span) (na : Next line 0 a) where
+  pub line-pass : passes f (part line a) ≡ true → (r : Told) → r ≡ record { kind = 0; cell = 0; «x_near» = false; x = 0; «y_near» = false; y = 0 } → r ≡ line-told (line-said k line)
+  line-pass p r q = line-passed line f k e r (ap (passes f) (na .word) ∙ p) q
+
+  module _ (b d : Span) (nb : Next line (a .end) b) (nd : Next line (b .end) d) where
+    second : first (others (words line)) ≡ part line b
+    second = ap first (na .rest) ∙ nb .word
+
+    third : first (others (others (words line))) ≡ part line d
+    third = ap (λ ws. first (others ws)) (na .rest) ∙ ap first (nb .rest) ∙ nd .word
+
+    pub line-three : passes f (part line a) ≡ false → (c : Number) → c ≡ number-told (natural (part line a)) → (x : Signed) → x ≡ integer-told (integer (part line b)) → (y : Signed) → y ≡ integer-told (integer (part line d))
+        → (r : Told) → ((o : Option ℕ) (u v : Option ℤ) → c ≡ number-told o → x ≡ integer-told u → y ≡ integer-told v → r ≡ line-told (numbered o u v)) → r ≡ line-told (line-said k line)
+    line-three p c ec x ex y ey r h =
+        line-numbers line f k e r (ap (passes f) (na .word) ∙ p)
+        (h _ _ _ (ec ∙ ap (λ (w : Bytes). number-told (natural w)) (sym (na .word))) (ex ∙ ap (λ (w : Bytes). integer-told (integer w)) (sym second)) (ey ∙ ap (λ (w : Bytes). integer-told (integer w)) (sym third)))
+
+-- every number that a line gives, moved up
+line-near : (l : Line) → (line-told l .x ≤ farthest + farthest) × (line-told l .y ≤ farthest + farthest)
+unfolding line-told
+line-near passed = (omega arith, omega arith)
+line-near unread = (omega arith, omega arith)
+line-near (gives c x y) = (up-low x, up-low y)
+
+pub told-near : (t : Told) (l : Line) → t ≡ line-told l → (t .x ≤ farthest + farthest) × (t .y ≤ farthest + farthest)
 told-near t l e = rw e (line-near l)
 
 -- ---- what a line does to the sketch
@@ -120,10 +141,6 @@ cell-small n c m few e h = elim (decLt farthest c) [ yes l ↦ absurd (omega (ar
 
 cell-large : (n c m : ℕ) → n ≤ most-cells → m ≡ capped c → n ≤ m → n ≤ c
 cell-large n c m few e h = elim (decLt farthest c) [ yes l ↦ omega arith | no l ↦ omega (arith, capped-low c (omega arith)) ]
-
-value-in : (z : ℤ) → in-range farthest z ≡ true → near-value z ≡ z
-unfolding near-value
-value-in z e = rw e
 
 both-in : (a b : Bool) → a ≡ true → b ≡ true → a && b ≡ true
 both-in a b p q = rw (p, q)
@@ -166,8 +183,8 @@ record Parts (t : Told) (c : ℕ) (x y : ℤ) : Type 0 where
   cell : t .cell ≡ capped c
   x-in : t .«x_near» ≡ in-range farthest x
   y-in : t .«y_near» ≡ in-range farthest y
-  x-is : t .x ≡ near-value x
-  y-is : t .y ≡ near-value y
+  x-is : t .x ≡ near-up x
+  y-is : t .y ≡ near-up y
 
 parts : (t : Told) (c : ℕ) (x y : ℤ) → t ≡ line-told (gives c x y) → Parts t c x y
 unfolding line-told
@@ -251,17 +268,19 @@ module _ (n : ℕ) (t : Told) (g : List ℕ) (ps : List ℤ) (few : n ≤ most-c
         pub steps-x : t .«x_near» ≡ false → Steps n t g ps g ps 4
         steps-x q = given-only 4 g ps h (λ k c x y p.
             let e = cell-small n c (t .cell) few (p .cell) i in
-            rw e (step-far n k g ps (t .cell) x y i d (first-out _ _ (sym (p .x-in) ∙ q))) ∙ sym (stepped-4 k (t .cell) g ps))
+            rw e (step-far n k g ps (t .cell) x y i d (first-out (in-range farthest x) (in-range farthest y) (sym (p .x-in) ∙ q))) ∙ sym (stepped-4 k (t .cell) g ps))
 
         pub steps-y : t .«y_near» ≡ false → Steps n t g ps g ps 4
         steps-y q = given-only 4 g ps h (λ k c x y p.
             let e = cell-small n c (t .cell) few (p .cell) i in
-            rw e (step-far n k g ps (t .cell) x y i d (second-out _ _ (sym (p .y-in) ∙ q))) ∙ sym (stepped-4 k (t .cell) g ps))
+            rw e (step-far n k g ps (t .cell) x y i d (second-out (in-range farthest x) (in-range farthest y) (sym (p .y-in) ∙ q))) ∙ sym (stepped-4 k (t .cell) g ps))
 
-        pub steps-near : t .«x_near» ≡ true → t .«y_near» ≡ true → InRange farthest (t .x) → InRange farthest (t .y) → (g′ : List ℕ) (ps′ : List ℤ) → g′ ≡ set g (t .cell) 1
-            → ps′ ≡ set (set ps (2 * t .cell) (t .x)) (2 * t .cell + 1) (t .y) → Steps n t g ps g′ ps′ 0
-        steps-near q r u v g′ ps′ f w = given-only 0 g′ ps′ (rw w (held-corner ps (t .cell) (t .x) (t .y) h u v)) (λ k c x y p.
+        pub steps-near : t .«x_near» ≡ true → t .«y_near» ≡ true → t .x ≤ farthest + farthest → t .y ≤ farthest + farthest → (u v : ℤ) → u ≡ pos (t .x) -ℤ pos farthest → v ≡ pos (t .y) -ℤ pos farthest
+            → (g′ : List ℕ) (ps′ : List ℤ) → g′ ≡ set g (t .cell) 1 → ps′ ≡ set (set ps (2 * t .cell) u) (2 * t .cell + 1) v → Steps n t g ps g′ ps′ 0
+        steps-near q r a b u v eu ev g′ ps′ f w = given-only 0 g′ ps′ (rw w (held-corner ps (t .cell) u v h (down-near (t .x) u a eu) (down-near (t .y) v b ev))) (λ k c x y p.
             let e = cell-small n c (t .cell) few (p .cell) i in
-            let m = p .x-is ∙ value-in x (sym (p .x-in) ∙ q) in
-            let o = p .y-is ∙ value-in y (sym (p .y-in) ∙ r) in
-            rw (e, f, w, m, o) (step-near n k g ps (t .cell) x y i d (both-in _ _ (sym (p .x-in) ∙ q) (sym (p .y-in) ∙ r))) ∙ rw (f, w, m, o) (sym (stepped-0 k (t .cell) g′ ps′)))
+            let m = down-up x u (t .x) (sym (p .x-in) ∙ q) (p .x-is) eu in
+            let o = down-up y v (t .y) (sym (p .y-in) ∙ r) (p .y-is) ev in
+            let z : step n k (sketch g ps) (gives c x y) ≡ goes (sketch g′ ps′) =
+            rw (f, w, m, o, e) (step-near n k g ps (t .cell) x y i d (both-in (in-range farthest x) (in-range farthest y) (sym (p .x-in) ∙ q) (sym (p .y-in) ∙ r))) in
+            z ∙ sym (stepped-0 k (t .cell) g′ ps′))

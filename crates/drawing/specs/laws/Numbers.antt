@@ -7,10 +7,11 @@ use Prim.Native.Nat.{ℕ, zero, suc, _+_, _-_, _*_, _≤_, _<_}
 use native.Mathlib.Omega.{arith}
 use native.Mathlib.Decide.{decLt}
 use lib.IntN.{ℤ, pos, negℤ, _-ℤ_}
-use lib.ListN.{length, getD, take, drop}
+use lib.ListN.{length, getD, take, drop, length-drop}
 use lib.Seq.{take-all}
 use borrow.Author.Tests.{eq-eqb, ne-eqb, le-leb, lt-leb, eqb-true}
 use Rattle.whole.specs.Range.{in-range, InRange}
+use Rattle.whole.specs.Bias.{bias}
 use Rattle.whole.specs.laws.Range.{says-within}
 use Rattle.whole.specs.laws.Says.{is-true, is-false, holds}
 use Rattle.whole.specs.laws.Whole.{whole, diff}
@@ -18,7 +19,7 @@ use Rattle.plan.specs.Limits.{farthest}
 use Rattle.listing.specs.Printed.{Bytes, minus-sign}
 use Rattle.drawing_spec.specs.Words.{is-digit, natural-from, natural, with-sign, begins-below, integer}
 use Rattle.drawing_spec.specs.laws.Words.{digit-yes, from-digit, natural-some}
-use Rattle.drawing.specs.Steps.{beyond, capped, number-told, near-value, integer-told}
+use Rattle.drawing.specs.Steps.{beyond, capped, number-told, near-up, integer-told}
 use Rattle.drawing.specs.laws.Spans.{from-place, past-end}
 use Rattle.drawing.specs.declared.Number.{Number}
 use Rattle.drawing.specs.declared.Signed.{Signed}
@@ -109,45 +110,48 @@ module _ (w : Bytes) (a i : ℕ) (g : Going w a i) where
 no-way : {A : Type 0} → _≡_ {A = Bool} true false → A
 no-way e = let z : _≡_ {A = ℕ} 0 1 = cc in absurd (omega arith)
 
-pub near-yes : (z : ℤ) → InRange farthest z → (in-range farthest z ≡ true) × (near-value z ≡ z)
-unfolding near-value
-near-yes z h = let e = is-true (says-within farthest z) h in (e, rw e)
+near-told : (z : ℤ) (a : ℕ) → InRange farthest z → a ≡ bias farthest z → record { number = true; near = true; value = a } ≡ integer-told (some z)
+unfolding integer-told near-up
+near-told z a h q = rw (is-true (says-within farthest z) h, q)
 
-near-no : (z : ℤ) → ¬ (InRange farthest z) → (in-range farthest z ≡ false) × (near-value z ≡ pos 0)
-unfolding near-value
-near-no z h = let e = is-false (says-within farthest z) h in (e, rw e)
-
-near-told : (z : ℤ) → InRange farthest z → record { number = true; near = true; value = z } ≡ integer-told (some z)
-unfolding integer-told
-near-told z h = let (e, f) = near-yes z h in rw (e, f)
-
-far-told : (z : ℤ) → ¬ (InRange farthest z) → record { number = true; near = false; value = pos 0 } ≡ integer-told (some z)
-unfolding integer-told
-far-told z h = let (e, f) = near-no z h in rw (e, f)
+far-told : (z : ℤ) → ¬ (InRange farthest z) → record { number = true; near = false; value = 0 } ≡ integer-told (some z)
+unfolding integer-told near-up
+far-told z h = rw (is-false (says-within farthest z) h)
 
 pub zero-near : InRange farthest (pos 0)
 zero-near = record { low = omega whole; high = omega whole }
 
-pub value-near : (z : ℤ) → InRange farthest (near-value z)
-unfolding near-value
-value-near z = go (in-range farthest z) refl
+-- a number moved up is at most twice the bound; moved down again it is near, and the number
+pub up-low : (z : ℤ) → near-up z ≤ farthest + farthest
+unfolding near-up
+up-low z = go (in-range farthest z) refl
   where
-    go : (b : Bool) → in-range farthest z ≡ b → InRange farthest (cond b z (pos 0))
-    go true e = holds (says-within farthest z) e
-    go false e = zero-near
+    go : (b : Bool) → in-range farthest z ≡ b → cond b (bias farthest z) 0 ≤ farthest + farthest
+    go true e = let h = holds (says-within farthest z) e in omega (whole, h .low, h .high)
+    go false e = omega arith
+
+pub down-near : (a : ℕ) (z : ℤ) → a ≤ farthest + farthest → z ≡ pos a -ℤ pos farthest → InRange farthest z
+down-near a z h e = rw e (record { low = omega (whole, diff (pos a) (pos farthest)); high = omega (whole, diff (pos a) (pos farthest)) })
+
+pub down-up : (z w : ℤ) (a : ℕ) → in-range farthest z ≡ true → a ≡ near-up z → w ≡ pos a -ℤ pos farthest → w ≡ z
+unfolding near-up
+down-up z w a e q f =
+    let h = holds (says-within farthest z) e in
+    let b : a ≡ bias farthest z = q ∙ rw e in
+    f ∙ omega (whole, diff (pos a) (pos farthest), h .low, h .high)
 
 module _ (m : Number) where
-  pub signed-none : (below : Bool) → m .number ≡ false → (o : Option ℕ) → m ≡ number-told o → record { number = false; near = false; value = pos 0 } ≡ integer-told (with-sign o below)
+  pub signed-none : (below : Bool) → m .number ≡ false → (o : Option ℕ) → m ≡ number-told o → record { number = false; near = false; value = 0 } ≡ integer-told (with-sign o below)
   unfolding number-told integer-told with-sign
   signed-none below n none e = refl
   signed-none below n (some v) e = no-way (sym (ap (λ (x : Number). x .number) e) ∙ n)
 
-  pub signed-far : (below : Bool) → farthest < m .value → (o : Option ℕ) → m ≡ number-told o → record { number = true; near = false; value = pos 0 } ≡ integer-told (with-sign o below)
+  pub signed-far : (below : Bool) → farthest < m .value → (o : Option ℕ) → m ≡ number-told o → record { number = true; near = false; value = 0 } ≡ integer-told (with-sign o below)
   unfolding number-told with-sign
   signed-far below h none e = let z : m .value ≡ 0 = ap (λ (x : Number). x .value) e in absurd (omega arith)
   signed-far below h (some v) e = go below (elim (decLt farthest v) [ yes l ↦ l | no l ↦ absurd (omega (arith, ap (λ (x : Number). x .value) e, capped-low v (omega arith))) ])
     where
-      go : (b : Bool) → farthest < v → record { number = true; near = false; value = pos 0 } ≡ integer-told (with-sign (some v) b)
+      go : (b : Bool) → farthest < v → record { number = true; near = false; value = 0 } ≡ integer-told (with-sign (some v) b)
       go true l = far-told (pos 0 -ℤ pos v) (λ k. absurd (omega (whole, diff (pos 0) (pos v), k .low)))
       go false l = far-told (pos v) (λ k. absurd (omega (whole, k .high)))
 
@@ -162,21 +166,19 @@ module _ (m : Number) where
   unfolding number-told
   none-number e h = no-way (sym h ∙ ap (λ (x : Number). x .number) e)
 
-  pub signed-below : (z : ℤ) → m .number ≡ true → m .value ≤ farthest → z ≡ pos 0 -ℤ pos (m .value) → (o : Option ℕ) → m ≡ number-told o → record { number = true; near = true; value = z } ≡ integer-told (with-sign o true)
+  pub signed-below : (a : ℕ) → m .number ≡ true → m .value ≤ farthest → a ≡ farthest - m .value → (o : Option ℕ) → m ≡ number-told o → record { number = true; near = true; value = a } ≡ integer-told (with-sign o true)
   unfolding with-sign
-  signed-below z n h f none e = none-number e n
-  signed-below z n h f (some v) e =
+  signed-below a n h f none e = none-number e n
+  signed-below a n h f (some v) e =
       let q = small-value v e h in
-      let g : z ≡ pos 0 -ℤ pos v = f ∙ ap (λ k. pos 0 -ℤ pos k) q in
-      rw g (near-told (pos 0 -ℤ pos v) (record { low = omega (whole, diff (pos 0) (pos v)); high = omega (whole, diff (pos 0) (pos v)) }))
+      near-told (pos 0 -ℤ pos v) a (record { low = omega (whole, diff (pos 0) (pos v)); high = omega (whole, diff (pos 0) (pos v)) }) (omega (whole, diff (pos 0) (pos v)))
 
-  pub signed-above : (z : ℤ) → m .number ≡ true → m .value ≤ farthest → z ≡ pos (m .value) -ℤ pos 0 → (o : Option ℕ) → m ≡ number-told o → record { number = true; near = true; value = z } ≡ integer-told (with-sign o false)
+  pub signed-above : (a : ℕ) → m .number ≡ true → m .value ≤ farthest → a ≡ farthest + m .value → (o : Option ℕ) → m ≡ number-told o → record { number = true; near = true; value = a } ≡ integer-told (with-sign o false)
   unfolding with-sign
-  signed-above z n h f none e = none-number e n
-  signed-above z n h f (some v) e =
+  signed-above a n h f none e = none-number e n
+  signed-above a n h f (some v) e =
       let q = small-value v e h in
-      let g : z ≡ pos v = f ∙ ap (λ k. pos k -ℤ pos 0) q ∙ omega (whole, diff (pos v) (pos 0)) in
-      rw g (near-told (pos v) (record { low = omega whole; high = omega whole }))
+      near-told (pos v) a (record { low = omega whole; high = omega whole }) (omega whole)
 
 -- ---- a whole number
 pub below-empty : (w : Bytes) → length w ≡ 0 → false ≡ begins-below w
@@ -189,10 +191,13 @@ unfolding begins-below
 below-some [] e = no-way (sym e)
 below-some (b ∷ w) e = omega arith
 
-pub integer-below : (w : Bytes) (r : Signed) → begins-below w ≡ true → r ≡ integer-told (with-sign (natural (drop 1 w)) true) → r ≡ integer-told (integer w)
-unfolding integer
-integer-below w r e q = q ∙ rw e
+module _ (w : Bytes) (m : Number) (r : Signed) where
+  pub integer-below : begins-below w ≡ true → m ≡ number-told (natural (take (length w - 1) (drop 1 w))) → ((o : Option ℕ) → m ≡ number-told o → r ≡ integer-told (with-sign o true)) → r ≡ integer-told (integer w)
+  unfolding integer
+  integer-below e q f =
+      let n : take (length w - 1) (drop 1 w) ≡ drop 1 w = take-all (length w - 1) (drop 1 w) (omega (arith, length-drop 1 w)) in
+      f (natural (drop 1 w)) (q ∙ ap (λ (l : Bytes). number-told (natural l)) n) ∙ rw e
 
-pub integer-above : (w : Bytes) (r : Signed) → begins-below w ≡ false → r ≡ integer-told (with-sign (natural w) false) → r ≡ integer-told (integer w)
-unfolding integer
-integer-above w r e q = q ∙ rw e
+  pub integer-above : begins-below w ≡ false → m ≡ number-told (natural w) → ((o : Option ℕ) → m ≡ number-told o → r ≡ integer-told (with-sign o false)) → r ≡ integer-told (integer w)
+  unfolding integer
+  integer-above e q f = f (natural w) q ∙ rw e

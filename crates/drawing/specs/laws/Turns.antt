@@ -67,7 +67,7 @@ module _ (n : ℕ) (text : Bytes) (s : State) (g : List ℕ) (ps : List ℤ) (re
   turned-goes z =
       record {
         same = rest-goes n text (record { fault = 0; line = s .line + 1; cell = 0; at = end + 1 }) g′ ps′ refl ∙ rw add-one
-        (sym (before ∙ said-goes n (s .line) (sketch g ps) l (lines (drop (end + 1) text)) (sketch g′ ps′) (stepping ∙ stepped-goes (s .line) r (t .cell) (sketch g′ ps′) z)));
+            (sym (before ∙ said-goes n (s .line) (sketch g ps) l (lines (drop (end + 1) text)) (sketch g′ ps′) (stepping ∙ stepped-goes (s .line) r (t .cell) (sketch g′ ps′) z)));
         held = st .held;
         on = omega arith;
         going = λ h. refl;
@@ -78,7 +78,7 @@ module _ (n : ℕ) (text : Bytes) (s : State) (g : List ℕ) (ps : List ℤ) (re
   turned-stops z =
       record {
         same = rest-stops n text (record { fault = r; line = s .line; cell = t .cell; at = length text }) g′ ps′ z
-        ∙ sym (before ∙ said-stops n (s .line) (sketch g ps) l (lines (drop (end + 1) text)) (wrong (fault-said r (s .line) (t .cell))) (stepping ∙ stepped-stops (s .line) r (t .cell) (sketch g′ ps′) z));
+            ∙ sym (before ∙ said-stops n (s .line) (sketch g ps) l (lines (drop (end + 1) text)) (wrong (fault-said r (s .line) (t .cell))) (stepping ∙ stepped-stops (s .line) r (t .cell) (sketch g′ ps′) z));
         held = st .held;
         on = here;
         going = λ h. absurd (omega arith);

@@ -155,8 +155,8 @@ digits-back (suc k) n h =
     elim (decLt n 10) [
       | yes l ↦ let e : 10 * 0 + n ≡ n = omega arith in rw (decimal-one n l) (from-last 0 n l ∙ ap some e)
       | no l ↦
-        let e : 10 * (n / 10) + n % 10 ≡ n = omega arith in
-        rw (decimal-more n (omega arith), from-append, front (omega arith)) (from-last (n / 10) (n % 10) (omega arith) ∙ ap some e)
+          let e : 10 * (n / 10) + n % 10 ≡ n = omega arith in
+          rw (decimal-more n (omega arith), from-append, front (omega arith)) (from-last (n / 10) (n % 10) (omega arith) ∙ ap some e)
     ]
 
 pub natural-some : (w : Bytes) → 1 ≤ length w → natural w ≡ natural-from 0 w
