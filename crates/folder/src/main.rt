@@ -4,6 +4,7 @@ use decimals::put_refused;
 use plan::limits::MOST_CELLS;
 use plan::limits::MOST_FILE;
 use plan::limits::SCRATCH_SIZE;
+use progress::tell_progress;
 use season::Reported;
 use summary::write_named;
 use summary::write_report;
@@ -12,9 +13,6 @@ ghost use lib.ListN.{length};
 
 // Bytes of a line's or a report's buffer: a path of 4,096 and a refusal; a report has at most 240.
 const TEXT_SIZE: usize = 4352;
-
-// Files after which it is told how far the work has come.
-const MANY: usize = 100;
 
 // A file that was opened: whether it could be read, and what is answered for it.
 struct Opened {
@@ -84,21 +82,6 @@ fn tell(path: &[u8], answer: Reported) -> bool
     }
 }
 
-// How far the work has come, where there are many files and somebody looks.
-fn tell_progress(done: usize, all: usize) {
-    if done % MANY != 0 {
-        return;
-    }
-    if libc::isatty(2) == 0 {
-        return;
-    }
-    io::write_all(2, b"folder: ");
-    io::print_decimal(2, done as u64);
-    io::write_all(2, b" of ");
-    io::print_decimal(2, all as u64);
-    io::write_all(2, b" files\n");
-}
-
 // That there are too many plans.
 fn tell_many(number: u8, cell: u16) -> bool {
     let mut out = [0u8; TEXT_SIZE];
@@ -151,7 +134,7 @@ fn main() {
     let mut i = 1;
     while i < count {
         sum = added(sum, i);
-        tell_progress(i, count - 1);
+        tell_progress(b"folder", i, count - 1);
         i += 1;
     }
     if !sum.read {

@@ -80,14 +80,14 @@ module _ (p : Reading) (f : Bytes) (h : Taken p f) where
   told : (stop .number ≡ 0) × (p ≡ columns-of none (trailer-of f .allowance) (trailer-of f .count) (entry f))
   told = plan-cases (ℕ-discrete (stop .number) 0)
 
-  passes : file-refusal f .number ≡ 0
+  pub passes : file-refusal f .number ≡ 0
   passes = both-none _ (file-refusal f) (zero-of _ _ (Law.read-refusal f most-cells) (told .0)) .1
 
   headed : Headed f
   unfolding file-refusal
   headed = header-read f (both-none (header-refusal f) (body-refusal f) passes .0)
 
-  count-is : p .columns .count ≡ trailer-of f .count
+  pub count-is : p .columns .count ≡ trailer-of f .count
   unfolding columns-of
   count-is = ap (λ (x : Reading). x .columns .count) (told .1)
 
@@ -105,7 +105,7 @@ module _ (p : Reading) (f : Bytes) (h : Taken p f) where
   pub taken-layout : (s n : ℕ) → scratch-size ≤ s → 2 * p .columns .count ≤ n → refusal layout (layout-given (read-table p) (p .allowance) s n) ≡ none
   taken-layout s n a b = rw (cells-are, allowance-is) (file-layout f passes s n a (omega (arith, count-is)))
 
-  fit : Fit (read-table p)
+  pub fit : Fit (read-table p)
   fit = layout-asks (read-table p) (p .allowance) scratch-size (2 * p .columns .count) .0 (taken-layout _ _ (omega arith) (omega arith)) .table .fit
 
   -- so it can be drawn

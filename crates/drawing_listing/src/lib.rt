@@ -1,0 +1,1 @@
+// No code: the listing of a plan, read back as a drawing, is its own sheet.

@@ -1,0 +1,5 @@
+pub mod Words
+pub mod Said
+pub mod Quoted
+pub mod Worked
+pub mod laws

@@ -1,0 +1,44 @@
+use Rattle.mark_text.specs.laws.Text.{missing-put}
+use native.Mathlib.Omega.{arith}
+use borrow.Author.Needs.{needs}
+use Rattle.mark_text.proofs.write_missing.Statement.{statement}
+use Rattle.mark_text.proofs.write_missing.Tie as tie
+use Rattle.mark_text.proofs.write_missing.Reads as reads
+use Rattle.mark_text.proofs.write_missing.Lts as lts
+
+put-text-requires : tie.Need-put-text-requires
+put-text-requires c κs = search needs
+
+slice-aggregate-put-text : tie.Need-slice-aggregate-put-text
+slice-aggregate-put-text c = search needs
+
+put-text-requires-2 : tie.Need-put-text-requires-2
+put-text-requires-2 c κs = search needs
+
+put-decimal-requires : tie.Need-put-decimal-requires
+put-decimal-requires c κs = search needs
+
+slice-aggregate-put-text-2 : tie.Need-slice-aggregate-put-text-2
+slice-aggregate-put-text-2 c = search needs
+
+put-text-requires-3 : tie.Need-put-text-requires-3
+put-text-requires-3 c κs = search needs
+
+same-length : tie.Need-same-length
+same-length c = search needs
+
+returns : tie.Need-returns
+returns c = (missing-put _ _ (c .before .before .before .before .before .before .before .before .before .before .before .before .before .before .before .before .put-text .ensures) (c .before .before .before .before .before .before .before .before .before .before .before .put-text2 .ensures) (c .before .before .before .before .before .before .before .put-decimal .ensures .0) (c .before .before .put-text3 .ensures), omega (arith, c .before .before .before .before .before .before .before .before .before .before .before .before .before .before .before .before .put-text .ensures .place, c .before .before .before .before .before .before .before .before .before .before .before .put-text2 .ensures .place, c .before .before .before .before .before .before .before .put-decimal .ensures .1, c .before .before .put-text3 .ensures .place))
+
+pub write-missing-spec : {M : Type 1} → statement M
+write-missing-spec =
+    tie.close
+    (tie.spec
+    put-text-requires
+    slice-aggregate-put-text
+    put-text-requires-2
+    put-decimal-requires
+    slice-aggregate-put-text-2
+    put-text-requires-3
+    same-length
+    returns)
