@@ -972,7 +972,7 @@ impl Run {
         }
     }
 
-    /// A table, valid or damaged, through Layout, Check, Ends, Strip, Frame, Mark, Drill, the steps of a sheet that is being made and the rest that take one.
+    /// A table, valid or damaged, through Layout, Check, Ends, Strip, Frame, Drill, the steps of a sheet that is being made, Mark and the rest that take one.
     fn a_table(&mut self, rng: &mut Rng) {
         let widest = rng.once_in(1_000);
         let mut cells = match () {
@@ -1036,14 +1036,14 @@ impl Run {
             let (plan, answers) = near_full(rng);
             self.drill(rng, &plan, &answers);
         }
-        // A mark is a verdict and, of what is kept, a sheet, which of a large plan take the reference long.
-        if rng.once_in(if cells.len() <= 60 { 2 } else { 8 }) {
-            self.marks(rng, &cells, &ours, &foreign, allowance);
-        }
         // A step costs the reference nothing, but the copies of both scratches cost time.
         if rng.once_in(40) {
             self.making(rng, &cells, allowance);
             self.tampered(rng, &cells, allowance);
+        }
+        // A mark is a verdict and, of what is kept, a sheet, which of a large plan take the reference long.
+        if rng.once_in(if cells.len() <= 60 { 2 } else { 8 }) {
+            self.marks(rng, &cells, &ours, &foreign, allowance);
         }
     }
 }
