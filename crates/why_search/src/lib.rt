@@ -1,6 +1,5 @@
 // Why a drawn sheet is as wide as it is: the chain with the fewest links that its cells just keep, from a cell with the least x to one with the greatest right edge.
 pub mod between;
-pub mod layers;
 pub mod search;
 
 use crate::between::rules_of;

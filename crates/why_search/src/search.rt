@@ -1,10 +1,10 @@
 // The loop of the search, and the way back.
-use crate::layers::ending;
-use crate::layers::first_marks;
-use crate::layers::next_marks;
-use crate::layers::source;
 use looking_columns::SIGHTS;
 use plan::limits::MOST_CELLS;
+use why_layers::ending;
+use why_layers::first_marks;
+use why_layers::next_marks;
+use why_layers::source;
 ghost use mathlib.Core.Path.{_≡_};
 ghost use Prim.Native.Nat.{ℕ, _^_, _≤_, _<_};
 ghost use lib.ListN.{getD};

@@ -22,7 +22,7 @@ use Rattle.why_spec.specs.laws.Trail.{back-new}
 use Rattle.why_search.specs.Rules.{rule-between, Inside}
 use Rattle.why_search.specs.Stops.{stop}
 use Rattle.why_ties.specs.Ties.{rule-of}
-use Rattle.why_search.specs.Marks.{seek, leads-on, source, at-end, ending, mark-first, mark-next}
+use Rattle.why_layers.specs.Marks.{seek, leads-on, source, at-end, ending, mark-first, mark-next}
 use Rattle.why_search.specs.laws.Stops.{stop-here, stop-back}
 use Rattle.why_search.specs.Found.{Marks, Open, Stands, Told, Begun}
 use Rattle.why_search.specs.laws.Marks.{seek-cases, first-marks, next-marks, source-is, ending-none, ending-some}

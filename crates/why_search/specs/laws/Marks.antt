@@ -21,7 +21,7 @@ use Rattle.why_spec.specs.laws.Reached.{reached-is, leads-reached, reached-lead
 use Rattle.why_spec.specs.Layers.{New}
 use Rattle.why_spec.specs.laws.Trail.{new-in, older, back-new, fewest-found, fewest-least, final-found}
 use Rattle.why_search.specs.Found.{Marks, Open, Closed}
-use Rattle.why_search.specs.Marks.{seek}
+use Rattle.why_layers.specs.Marks.{seek}
 
 -- ---- seeking
 pub seek-cases : (f : ℕ → Bool) (k d : ℕ) → ((seek f k d < k + d) × T (f (seek f k d)) × ((j : ℕ) → k ≤ j → j < seek f k d → ¬ T (f j)))

@@ -1,4 +1,4 @@
-use Rattle.why_search.proofs.Seeking.{made-none, made-next, made-all}
+use Rattle.why_layers.proofs.Seeking.{made-none, made-next, made-all}
 use Prim.Native.Nat.{_-_, _≤_, _<_}
 use native.Mathlib.Omega.{arith}
 use Rattle.plan.specs.Limits.{most-cells}

@@ -1,7 +1,7 @@
-use Rattle.why_search.proofs.Seeking.{end-no, end-yes}
+use Rattle.why_layers.proofs.Seeking.{end-no, end-yes}
 use borrow.Author.Needs.{needs}
-use Rattle.why_search.proofs.layers.at_end.Statement.{statement}
-use Rattle.why_search.proofs.layers.at_end.Tie as tie
+use Rattle.why_layers.proofs.at_end.Statement.{statement}
+use Rattle.why_layers.proofs.at_end.Tie as tie
 
 mul-if1 : tie.Need-mul-if1
 mul-if1 c = search needs

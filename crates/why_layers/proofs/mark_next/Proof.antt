@@ -1,7 +1,7 @@
-use Rattle.why_search.proofs.Seeking.{next-old, next-new, next-none}
+use Rattle.why_layers.proofs.Seeking.{next-old, next-new, next-none}
 use borrow.Author.Needs.{needs}
-use Rattle.why_search.proofs.layers.mark_next.Statement.{statement}
-use Rattle.why_search.proofs.layers.mark_next.Tie as tie
+use Rattle.why_layers.proofs.mark_next.Statement.{statement}
+use Rattle.why_layers.proofs.mark_next.Tie as tie
 
 mul-old : tie.Need-mul-old
 mul-old c = search needs

@@ -1,7 +1,7 @@
-use Rattle.why_search.proofs.Seeking.{first-yes, first-no}
+use Rattle.why_layers.proofs.Seeking.{first-yes, first-no}
 use borrow.Author.Needs.{needs}
-use Rattle.why_search.proofs.layers.mark_first.Statement.{statement}
-use Rattle.why_search.proofs.layers.mark_first.Tie as tie
+use Rattle.why_layers.proofs.mark_first.Statement.{statement}
+use Rattle.why_layers.proofs.mark_first.Tie as tie
 
 see-requires : tie.Need-see-requires
 see-requires c κs = search needs

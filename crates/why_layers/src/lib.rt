@@ -9,7 +9,7 @@ ghost use Rattle.plan.specs.Limits.{«most-cells»};
 ghost use Rattle.plan.specs.Trees.{Column};
 ghost use Rattle.looking_sights.specs.Sights.{«view-in», Sighted};
 ghost use Rattle.why_ties.specs.Ties.{Ready};
-ghost use Rattle.why_search.specs.Marks.{«leads-on», source, «at-end», ending, «mark-first», «mark-next»};
+ghost use Rattle.why_layers.specs.Marks.{«leads-on», source, «at-end», ending, «mark-first», «mark-next»};
 
 // a has mark m, and a tight link leads from it to b.
 fn leads_on<'a>(

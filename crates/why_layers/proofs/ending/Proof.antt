@@ -1,11 +1,11 @@
-use Rattle.why_search.proofs.Seeking.{Seeking, seeking-starts, seeking-stops, seeking-turns, seeking-ends}
+use Rattle.why_layers.proofs.Seeking.{Seeking, seeking-starts, seeking-stops, seeking-turns, seeking-ends}
 use mathlib.Core.Path.{_∙_, sym}
 use Prim.Native.Nat.{_-_}
 use Rattle.looking_sights.specs.Sights.{view-in}
-use Rattle.why_search.specs.Marks.{at-end, ending}
+use Rattle.why_layers.specs.Marks.{at-end, ending}
 use borrow.Author.Needs.{needs}
-use Rattle.why_search.proofs.layers.ending.Statement.{statement}
-use Rattle.why_search.proofs.layers.ending.Tie as tie
+use Rattle.why_layers.proofs.ending.Statement.{statement}
+use Rattle.why_layers.proofs.ending.Tie as tie
 
 abbrev Inv-loop : tie.InvT-loop
 Inv-loop sights marks n m high e₀ e = Seeking (at-end (view-in sights) marks m high) n e

@@ -1,11 +1,11 @@
-use Rattle.why_search.proofs.Seeking.{Seeking, seeking-starts, seeking-stops, seeking-turns, seeking-ends, ready}
+use Rattle.why_layers.proofs.Seeking.{Seeking, seeking-starts, seeking-stops, seeking-turns, seeking-ends, ready}
 use mathlib.Core.Path.{_∙_, sym}
 use Prim.Native.Nat.{_-_}
 use Rattle.looking_sights.specs.Sights.{view-in}
-use Rattle.why_search.specs.Marks.{leads-on, source}
+use Rattle.why_layers.specs.Marks.{leads-on, source}
 use borrow.Author.Needs.{needs}
-use Rattle.why_search.proofs.layers.source.Statement.{statement}
-use Rattle.why_search.proofs.layers.source.Tie as tie
+use Rattle.why_layers.proofs.source.Statement.{statement}
+use Rattle.why_layers.proofs.source.Tie as tie
 
 abbrev Inv-loop : tie.InvT-loop
 Inv-loop sights marks n m b allowance a₀ a = Seeking (leads-on (view-in sights) allowance marks m b) n a

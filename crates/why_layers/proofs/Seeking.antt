@@ -16,8 +16,7 @@ use Rattle.spans.specs.laws.Columns.{all, all-long, Put, put}
 use Rattle.looking_sights.specs.Sights.{Sights, Sighted}
 use Rattle.looking_sights.specs.declared.View.{View}
 use Rattle.why_ties.specs.Ties.{Ready, rule-of}
-use Rattle.why_search.specs.Rules.{rule-between, Inside}
-use Rattle.why_search.specs.Marks.{seek, leads-on, source, at-end, mark-first, mark-next}
+use Rattle.why_layers.specs.Marks.{seek, leads-on, source, at-end, mark-first, mark-next}
 
 -- ---- a search that has come to a
 pub record Seeking (f : ℕ → Bool) (n a : ℕ) : Type 0 where
@@ -115,11 +114,3 @@ made-next {xs} {c} {f} v h l e = record { long = simp length-set (h .long); each
 
 pub made-all : {xs : List ℕ} {c : ℕ} {f : ℕ → ℕ} (n : ℕ) → Column xs c f → c ≤ n → n ≤ c → Column xs n f
 made-all {c = c} n h l k = let e : c ≡ n = omega arith in rw e at h
-
--- ---- the cells of a chain
-pub inside-few : (s : Sights) (n count : ℕ) (cells : List ℕ) (j : ℕ) → Sighted s n → Inside cells n count → j ≤ count → getD cells j 0 < most-cells
-inside-few s n count cells j h i l = omega (arith, h .few, i .inside j l)
-
-pub between : (s : Sights) (al : ℕ) (cells : List ℕ) (j r : ℕ) (v w : View) → v ≡ s (getD cells j 0) → w ≡ s (getD cells (j + 1) 0) → r ≡ rule-of al (getD cells j 0) (getD cells (j + 1) 0) v w → r ≡ rule-between s al cells j
-unfolding rule-between
-between s al cells j r v w e f q = q ∙ rw (e, f)

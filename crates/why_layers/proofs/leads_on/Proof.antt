@@ -1,7 +1,7 @@
-use Rattle.why_search.proofs.Seeking.{leads-no, leads-yes}
+use Rattle.why_layers.proofs.Seeking.{leads-no, leads-yes}
 use borrow.Author.Needs.{needs}
-use Rattle.why_search.proofs.layers.leads_on.Statement.{statement}
-use Rattle.why_search.proofs.layers.leads_on.Tie as tie
+use Rattle.why_layers.proofs.leads_on.Statement.{statement}
+use Rattle.why_layers.proofs.leads_on.Tie as tie
 
 mul-if1 : tie.Need-mul-if1
 mul-if1 c = search needs
