@@ -1,5 +1,5 @@
 -- A PRINTED REASON, byte for byte. The first line: the word `why`, cells, allowance, width, links. Then a line a link: from, to, `S` and the rule, its distance, and the sum of the distances so far.
--- The last line: the last cell, `W`, its width, and the whole sum, which is the width of the first line (`last-is-first`). So a pencil has one number to compare. Assumes nothing.
+-- The last line: the last cell, `W`, its width, and the whole sum, which is the width of the first line, since the reason certifies it (crate why_spec, `reason-found`). So a pencil has one number to compare. Assumes nothing.
 use mathlib.Core.List.{List, [], _∷_, _++_}
 use Prim.Native.Nat.{ℕ}
 use lib.ListN.{length}
