@@ -54,7 +54,7 @@ told "missing" '2 0 2\n0 0 0\n' 'cell 1 is missing'
 told "an empty text" '' 'cell 0 is missing'
 head -c 65537 /dev/zero | tr '\0' '#' > "$work/long"
 same "a long text" "long more than 65536 bytes" "$(cd "$work" && "$mark" "$OLDPWD/plans/B.plan" long)"
-head -c 65516 /dev/zero | tr '\0' '#' > "$work/most"
+head -c 65517 /dev/zero | tr '\0' '#' > "$work/most"
 printf '\n0 0 0\n1 -4 2\n2 0 2' >> "$work/most"
 same "bytes of the longest text" 65536 "$(($(wc -c < "$work/most") + 0))"
 same "the longest text" "most full 9 4" "$(cd "$work" && "$mark" "$OLDPWD/plans/B.plan" most)"

@@ -1,7 +1,6 @@
 -- WORKED DRAWINGS, each computed: a listing, another origin, lines that are passed over, each fault. Assumes nothing.
 use mathlib.Core.Path.{_≡_, refl}
 use mathlib.Core.List.{[], _∷_}
-use Prim.Native.Nat.{ℕ}
 use lib.IntN.{pos, negsuc}
 use Rattle.whole.specs.Range.{in-range}
 use Rattle.rules.specs.Placement.{placed}

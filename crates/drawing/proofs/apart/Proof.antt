@@ -1,15 +1,10 @@
 use mir.ValLaws.{toZ-ofZ}
 use mir.Syntax.{w32}
-use mathlib.Core.Path.{_≡_, refl, sym, ap, _∙_}
+use mathlib.Core.Path.{_∙_}
 use Rattle.drawing.specs.laws.Drawn.{bias-small, apart-is}
 use native.Mathlib.Omega.{arith}
-use borrow.Author.Needs.{needs}
 use Rattle.drawing.proofs.apart.Statement.{statement}
 use Rattle.drawing.proofs.apart.Tie as tie
-use Rattle.drawing.proofs.apart.Reads as reads
-use Rattle.drawing.proofs.apart.Lts as lts
-use Rattle.whole.proofs.difference.Reads as difference-reads
-use Rattle.whole.proofs.raise_at.Reads as raise-at-reads
 
 -- src/lib.rt:437:16
 raise-at-requires : tie.Need-raise-at-requires

@@ -1,14 +1,12 @@
 use Rattle.drawing.specs.laws.Spans.{begins-short, begins-other, begins-more, begins-all}
 use Rattle.drawing_spec.specs.Said.{begins}
-use lib.ListN.{length, getD, take, drop, set, length-set}
-use Prim.Native.Nat.{ℕ, _+_, _-_, _*_, _≤_, _<_}
-use mathlib.Core.Path.{_≡_, refl, sym, ap, _∙_}
+use lib.ListN.{length, drop}
+use Prim.Native.Nat.{_-_, _≤_}
+use mathlib.Core.Path.{_≡_, refl, sym, _∙_}
 use native.Mathlib.Omega.{arith}
 use borrow.Author.Needs.{needs}
 use Rattle.drawing.proofs.begins.Statement.{statement}
 use Rattle.drawing.proofs.begins.Tie as tie
-use Rattle.drawing.proofs.begins.Reads as reads
-use Rattle.drawing.proofs.begins.Lts as lts
 
 abbrev Inv-loop : tie.InvT-loop
 Inv-loop word text i₀ i = (i ≤ length word) × (begins word text ≡ begins (drop i word) (drop i text))

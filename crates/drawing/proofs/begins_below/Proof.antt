@@ -1,11 +1,9 @@
 use Rattle.drawing_spec.specs.Words.{begins-below}
 use Rattle.drawing.specs.laws.Numbers.{below-empty}
-use mathlib.Core.Path.{_≡_, refl, sym, ap, _∙_}
+use mathlib.Core.Path.{refl}
 use borrow.Author.Needs.{needs}
 use Rattle.drawing.proofs.begins_below.Statement.{statement}
 use Rattle.drawing.proofs.begins_below.Tie as tie
-use Rattle.drawing.proofs.begins_below.Reads as reads
-use Rattle.drawing.proofs.begins_below.Lts as lts
 
 -- src/lib.rt:263:9
 returns : tie.Need-returns

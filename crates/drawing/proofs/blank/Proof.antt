@@ -1,10 +1,7 @@
 use borrow.Author.Tests.{eq-eqb, ne-eqb}
 use Rattle.drawing_spec.specs.Words.{blank}
-use borrow.Author.Needs.{needs}
 use Rattle.drawing.proofs.blank.Statement.{statement}
 use Rattle.drawing.proofs.blank.Tie as tie
-use Rattle.drawing.proofs.blank.Reads as reads
-use Rattle.drawing.proofs.blank.Lts as lts
 
 -- src/lib.rt:98:9
 returns : tie.Need-returns

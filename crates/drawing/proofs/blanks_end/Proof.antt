@@ -1,16 +1,13 @@
 use borrow.Author.Tests.{not-true, not-false}
 use Rattle.drawing.specs.laws.Spans.{until-here, until-later, until-last, solid-yes, solid-no}
 use Rattle.drawing.specs.Steps.{until, solid}
-use lib.ListN.{length, getD, take, drop, set, length-set}
-use Prim.Native.Nat.{ℕ, _+_, _-_, _*_, _≤_, _<_}
-use mathlib.Core.Path.{_≡_, refl, sym, ap, _∙_}
+use lib.ListN.{length, drop}
+use Prim.Native.Nat.{_+_, _-_, _≤_}
+use mathlib.Core.Path.{_≡_, refl, sym, _∙_}
 use native.Mathlib.Omega.{arith}
 use borrow.Author.Needs.{needs}
 use Rattle.drawing.proofs.blanks_end.Statement.{statement}
 use Rattle.drawing.proofs.blanks_end.Tie as tie
-use Rattle.drawing.proofs.blanks_end.Reads as reads
-use Rattle.drawing.proofs.blanks_end.Lts as lts
-use Rattle.drawing.proofs.blank.Reads as blank-reads
 
 abbrev Inv-loop : tie.InvT-loop
 Inv-loop line at i₀ i = (i ≤ length line) × (at + until solid (drop at line) ≡ i + until solid (drop i line))

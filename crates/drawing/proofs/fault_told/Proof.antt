@@ -1,9 +1,6 @@
 use Rattle.drawing.specs.laws.Drawn.{told-1, told-2, told-3, told-4}
-use borrow.Author.Needs.{needs}
 use Rattle.drawing.proofs.fault_told.Statement.{statement}
 use Rattle.drawing.proofs.fault_told.Tie as tie
-use Rattle.drawing.proofs.fault_told.Reads as reads
-use Rattle.drawing.proofs.fault_told.Lts as lts
 
 -- src/lib.rt:457:9
 returns : tie.Need-returns

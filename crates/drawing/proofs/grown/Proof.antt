@@ -1,11 +1,9 @@
 use Rattle.drawing.specs.laws.Numbers.{capped-low, capped-high}
-use mathlib.Core.Path.{_≡_, refl, sym, ap, _∙_}
+use mathlib.Core.Path.{sym}
 use native.Mathlib.Omega.{arith}
 use borrow.Author.Needs.{needs}
 use Rattle.drawing.proofs.grown.Statement.{statement}
 use Rattle.drawing.proofs.grown.Tie as tie
-use Rattle.drawing.proofs.grown.Reads as reads
-use Rattle.drawing.proofs.grown.Lts as lts
 
 -- src/lib.rt:184:16
 mul-next : tie.Need-mul-next

@@ -1,14 +1,9 @@
 use Rattle.drawing.specs.laws.Numbers.{below-some, integer-below, integer-above}
-use mathlib.Core.Path.{_≡_, refl, sym, ap, _∙_}
+use mathlib.Core.Path.{sym, _∙_}
 use native.Mathlib.Omega.{arith}
 use borrow.Author.Needs.{needs}
 use Rattle.drawing.proofs.integer.Statement.{statement}
 use Rattle.drawing.proofs.integer.Tie as tie
-use Rattle.drawing.proofs.integer.Reads as reads
-use Rattle.drawing.proofs.integer.Lts as lts
-use Rattle.drawing.proofs.begins_below.Reads as begins-below-reads
-use Rattle.drawing.proofs.natural.Reads as natural-reads
-use Rattle.drawing.proofs.signed_as.Reads as signed-as-reads
 
 -- src/lib.rt:272:8
 begins-below-requires : tie.Need-begins-below-requires

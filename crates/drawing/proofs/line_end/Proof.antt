@@ -1,14 +1,12 @@
 use Rattle.drawing.specs.laws.Spans.{until-here, until-later, until-last, feed-yes, feed-no}
 use Rattle.drawing.specs.Steps.{until, feed}
-use lib.ListN.{length, getD, take, drop, set, length-set}
-use Prim.Native.Nat.{ℕ, _+_, _-_, _*_, _≤_, _<_}
-use mathlib.Core.Path.{_≡_, refl, sym, ap, _∙_}
+use lib.ListN.{length, drop}
+use Prim.Native.Nat.{_+_, _-_, _≤_}
+use mathlib.Core.Path.{_≡_, refl}
 use native.Mathlib.Omega.{arith}
 use borrow.Author.Needs.{needs}
 use Rattle.drawing.proofs.line_end.Statement.{statement}
 use Rattle.drawing.proofs.line_end.Tie as tie
-use Rattle.drawing.proofs.line_end.Reads as reads
-use Rattle.drawing.proofs.line_end.Lts as lts
 
 abbrev Inv-loop : tie.InvT-loop
 Inv-loop text at i₀ i = (i ≤ length text) × (at + until feed (drop at text) ≡ i + until feed (drop i text))

@@ -1,14 +1,11 @@
 use Rattle.drawing.specs.laws.Drawn.{lowest-start, lowest-here, lowest-later, lowest-end}
 use Rattle.drawing_spec.specs.Said.{lowest}
-use lib.ListN.{length, getD, take, drop, set, length-set}
-use Prim.Native.Nat.{ℕ, _+_, _-_, _*_, _≤_, _<_}
-use mathlib.Core.Path.{_≡_, refl, sym, ap, _∙_}
+use Prim.Native.Nat.{_-_, _≤_}
+use mathlib.Core.Path.{_≡_}
 use native.Mathlib.Omega.{arith}
 use borrow.Author.Needs.{needs}
 use Rattle.drawing.proofs.lowest.Statement.{statement}
 use Rattle.drawing.proofs.lowest.Tie as tie
-use Rattle.drawing.proofs.lowest.Reads as reads
-use Rattle.drawing.proofs.lowest.Lts as lts
 
 abbrev Inv-loop : tie.InvT-loop
 Inv-loop given n c₀ c = (c ≤ n) × (lowest given 0 n ≡ lowest given c (n - c))

@@ -1,14 +1,10 @@
 use Rattle.drawing.specs.laws.Numbers.{natural-empty, Going, going-starts, going-turns, going-low, going-high, going-ends}
-use lib.ListN.{length, getD, take, drop, set, length-set}
-use Prim.Native.Nat.{ℕ, _+_, _-_, _*_, _≤_, _<_}
-use mathlib.Core.Path.{_≡_, refl, sym, ap, _∙_}
+use lib.ListN.{length}
+use Prim.Native.Nat.{_-_}
 use native.Mathlib.Omega.{arith}
 use borrow.Author.Needs.{needs}
 use Rattle.drawing.proofs.natural.Statement.{statement}
 use Rattle.drawing.proofs.natural.Tie as tie
-use Rattle.drawing.proofs.natural.Reads as reads
-use Rattle.drawing.proofs.natural.Lts as lts
-use Rattle.drawing.proofs.grown.Reads as grown-reads
 
 abbrev Inv-loop : tie.InvT-loop
 Inv-loop word a₀ i₀ a i = Going word a i

@@ -2,10 +2,6 @@ use Rattle.drawing.specs.laws.Spans.{next-is}
 use borrow.Author.Needs.{needs}
 use Rattle.drawing.proofs.next_word.Statement.{statement}
 use Rattle.drawing.proofs.next_word.Tie as tie
-use Rattle.drawing.proofs.next_word.Reads as reads
-use Rattle.drawing.proofs.next_word.Lts as lts
-use Rattle.drawing.proofs.blanks_end.Reads as blanks-end-reads
-use Rattle.drawing.proofs.word_end.Reads as word-end-reads
 
 -- src/lib.rt:141:9
 blanks-end-requires : tie.Need-blanks-end-requires

@@ -3,9 +3,6 @@ use borrow.Author.Tests.{not-true, not-false}
 use borrow.Author.Needs.{needs}
 use Rattle.drawing.proofs.passes.Statement.{statement}
 use Rattle.drawing.proofs.passes.Tie as tie
-use Rattle.drawing.proofs.passes.Reads as reads
-use Rattle.drawing.proofs.passes.Lts as lts
-use Rattle.drawing.proofs.begins.Reads as begins-reads
 
 -- src/lib.rt:168:9
 returns : tie.Need-returns

@@ -2,13 +2,10 @@ use mir.ValLaws.{toZ-ofZ}
 use mir.Syntax.{w32}
 use Rattle.drawing.specs.laws.Lines.{steps-passed, steps-unread, steps-beyond, steps-twice, steps-x, steps-y, steps-near}
 use borrow.Author.Tests.{not-true, not-false}
-use mathlib.Core.Path.{_≡_, refl, sym, ap, _∙_}
-use native.Mathlib.Omega.{arith}
+use mathlib.Core.Path.{refl, _∙_}
 use borrow.Author.Needs.{needs}
 use Rattle.drawing.proofs.put_cell.Statement.{statement}
 use Rattle.drawing.proofs.put_cell.Tie as tie
-use Rattle.drawing.proofs.put_cell.Reads as reads
-use Rattle.drawing.proofs.put_cell.Lts as lts
 
 returns : tie.Need-returns
 returns c = steps-passed (c .before .before .before .args .n) (c .before .before .before .args .t) (c .before .before .before .args .given .now) (c .before .before .before .args .places .now) (c .before .before .before .pre .0 .few) (c .before .before .before .pre .1) (c .if1 .taken)

@@ -3,8 +3,6 @@ use native.Mathlib.Omega.{arith}
 use borrow.Author.Needs.{needs}
 use Rattle.drawing.proofs.put_corner.Statement.{statement}
 use Rattle.drawing.proofs.put_corner.Tie as tie
-use Rattle.drawing.proofs.put_corner.Reads as reads
-use Rattle.drawing.proofs.put_corner.Lts as lts
 
 -- src/lib.rt:342:12
 mul-x : tie.Need-mul-x

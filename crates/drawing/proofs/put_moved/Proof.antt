@@ -5,17 +5,13 @@ use Rattle.drawing_spec.specs.Said.{moved}
 use Rattle.positions.specs.laws.Written.{written-none, written-put}
 use Rattle.positions.specs.Written.{written}
 use Rattle.rules.specs.Placement.{placed}
-use lib.ListN.{length, getD, take, drop, set, length-set}
-use Prim.Native.Nat.{ℕ, _+_, _-_, _*_, _≤_, _<_}
-use mathlib.Core.Path.{_≡_, refl, sym, ap, _∙_}
+use lib.ListN.{length, length-set}
+use Prim.Native.Nat.{_-_, _≤_}
+use mathlib.Core.Path.{_≡_, refl, ap, _∙_}
 use native.Mathlib.Omega.{arith}
 use borrow.Author.Needs.{needs}
 use Rattle.drawing.proofs.put_moved.Statement.{statement}
 use Rattle.drawing.proofs.put_moved.Tie as tie
-use Rattle.drawing.proofs.put_moved.Reads as reads
-use Rattle.drawing.proofs.put_moved.Lts as lts
-use Rattle.drawing.proofs.apart.Reads as apart-reads
-use Rattle.drawing.proofs.put_corner.Reads as put-corner-reads
 
 abbrev Inv-loop : tie.InvT-loop
 Inv-loop places n positions₀ c₀ positions c = (c ≤ n) × (length positions ≡ length positions₀) × (positions ≡ written positions₀ (moved (placed places)) c)

@@ -1,11 +1,8 @@
 use Rattle.drawing.specs.laws.Drawn.{drawn-many, drawn-short, drawn-long, drawn-fault, drawn-missing, drawn-placed, zeros-held, zeros-sized}
-use mathlib.Core.Path.{_≡_, refl, sym, ap, _∙_}
 use native.Mathlib.Omega.{arith}
 use borrow.Author.Needs.{needs}
 use Rattle.drawing.proofs.read_drawing.Statement.{statement}
 use Rattle.drawing.proofs.read_drawing.Tie as tie
-use Rattle.drawing.proofs.read_drawing.Reads as reads
-use Rattle.drawing.proofs.read_drawing.Lts as lts
 
 returns : tie.Need-returns
 returns c = drawn-many (c .before .before .args .n) (c .before .before .args .text .now) (c .before .before .args .positions .now) (c .if1 .taken)

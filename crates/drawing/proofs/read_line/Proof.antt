@@ -1,16 +1,8 @@
 use Rattle.drawing.specs.laws.Lines.{line-pass, line-three}
-use mathlib.Core.Path.{_≡_, refl, sym, ap, _∙_}
+use mathlib.Core.Path.{sym, _∙_}
 use borrow.Author.Needs.{needs}
 use Rattle.drawing.proofs.read_line.Statement.{statement}
 use Rattle.drawing.proofs.read_line.Tie as tie
-use Rattle.drawing.proofs.read_line.Reads as reads
-use Rattle.drawing.proofs.read_line.Lts as lts
-use Rattle.drawing.proofs.integer.Reads as integer-reads
-use Rattle.drawing.proofs.natural.Reads as natural-reads
-use Rattle.drawing.proofs.next_word.Reads as next-word-reads
-use Rattle.drawing.proofs.no_cell.Reads as no-cell-reads
-use Rattle.drawing.proofs.passes.Reads as passes-reads
-use Rattle.drawing.proofs.three.Reads as three-reads
 
 -- src/lib.rt:319:9
 next-word-requires : tie.Need-next-word-requires

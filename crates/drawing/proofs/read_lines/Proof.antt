@@ -2,16 +2,12 @@ use Rattle.drawing.specs.Steps.{sketch, rest-said, Ready}
 use Rattle.drawing_spec.specs.Said.{said-lines}
 use Rattle.drawing_spec.specs.Words.{lines}
 use Rattle.drawing.specs.laws.Turns.{starts-ready, turns-ready, reads-all}
-use lib.ListN.{length, take, drop}
-use Prim.Native.Nat.{ℕ, _+_, _-_, _*_, _≤_, _<_}
-use mathlib.Core.Path.{_≡_, refl, sym, ap, _∙_}
+use lib.ListN.{length}
+use Prim.Native.Nat.{_-_}
+use mathlib.Core.Path.{_≡_, refl, _∙_}
 use native.Mathlib.Omega.{arith}
-use borrow.Author.Needs.{needs}
 use Rattle.drawing.proofs.read_lines.Statement.{statement}
 use Rattle.drawing.proofs.read_lines.Tie as tie
-use Rattle.drawing.proofs.read_lines.Reads as reads
-use Rattle.drawing.proofs.read_lines.Lts as lts
-use Rattle.drawing.proofs.turn.Reads as turn-reads
 
 abbrev Inv-loop : tie.InvT-loop
 Inv-loop text n given₀ places₀ s₀ given places s = Ready n text s given places × (rest-said n text s given places ≡ said-lines n 1 (sketch given₀ places₀) (lines text)) × (length given ≡ length given₀) × (length places ≡ length places₀)

@@ -1,12 +1,9 @@
 use Rattle.drawing.specs.laws.Numbers.{signed-none, signed-far, signed-below, signed-above}
 use borrow.Author.Tests.{not-true, not-false}
-use mathlib.Core.Path.{_≡_, refl, sym, ap, _∙_}
-use native.Mathlib.Omega.{arith}
+use mathlib.Core.Path.{refl}
 use borrow.Author.Needs.{needs}
 use Rattle.drawing.proofs.signed_as.Statement.{statement}
 use Rattle.drawing.proofs.signed_as.Tie as tie
-use Rattle.drawing.proofs.signed_as.Reads as reads
-use Rattle.drawing.proofs.signed_as.Lts as lts
 
 returns : tie.Need-returns
 returns c = signed-none (c .before .before .args .m) (c .before .before .args .below) (not-true _ (c .if1 .taken))

@@ -3,9 +3,6 @@ use Rattle.drawing.specs.laws.Lines.{three-cell, three-x, three-y, three
 use borrow.Author.Needs.{needs}
 use Rattle.drawing.proofs.three.Statement.{statement}
 use Rattle.drawing.proofs.three.Tie as tie
-use Rattle.drawing.proofs.three.Reads as reads
-use Rattle.drawing.proofs.three.Lts as lts
-use Rattle.drawing.proofs.no_cell.Reads as no-cell-reads
 
 -- src/lib.rt:297:9
 no-cell-requires : tie.Need-no-cell-requires

@@ -1,14 +1,11 @@
 use Rattle.drawing.specs.laws.Turns.{turned-goes, turned-stops}
 use Rattle.drawing.specs.laws.Lines.{told-near}
-use lib.ListN.{length, take, drop}
-use Prim.Native.Nat.{ℕ, _+_, _-_, _*_, _≤_, _<_}
-use mathlib.Core.Path.{_≡_, refl, sym, ap, _∙_}
-use native.Mathlib.Omega.{arith}
+use lib.ListN.{take, drop}
+use Prim.Native.Nat.{_-_}
+use mathlib.Core.Path.{refl}
 use borrow.Author.Needs.{needs}
 use Rattle.drawing.proofs.turn.Statement.{statement}
 use Rattle.drawing.proofs.turn.Tie as tie
-use Rattle.drawing.proofs.turn.Reads as reads
-use Rattle.drawing.proofs.turn.Lts as lts
 
 line-end-requires : tie.Need-line-end-requires
 line-end-requires c κs = search needs

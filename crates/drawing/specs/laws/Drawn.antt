@@ -1,22 +1,19 @@
 -- The lowest cell that is missing, the corners moved, and the whole answer. Assumes nothing.
 use mathlib.Core.Path.{_≡_, refl, sym, ap, _∙_}
-use mathlib.Core.List.{List, [], _∷_, _++_}
-use mathlib.Core.Bool.{Bool, true, false, _&&_, cond}
+use mathlib.Core.List.{List}
 use Prim.Native.Nat.{ℕ, zero, suc, _+_, _-_, _*_, _≤_, _<_}
 use native.Mathlib.Omega.{arith}
-use lib.Dec.{eqb, leb, ltb}
 use lib.IntN.{ℤ, pos, _-ℤ_}
-use lib.ListN.{length, getD, drop, replicate, getD-replicate, length-replicate}
+use lib.ListN.{length, getD, replicate, length-replicate}
 use borrow.Author.Tests.{eq-eqb, ne-eqb, lt-ltb, le-ltb, le-leb, lt-leb}
 use Rattle.whole.specs.Range.{InRange}
 use Rattle.whole.specs.Bias.{bias}
 use Rattle.whole.specs.laws.Whole.{whole, diff}
 use Rattle.plan.specs.Limits.{most-cells, farthest}
-use Rattle.rules.specs.Placement.{Placement, placed}
+use Rattle.rules.specs.Placement.{placed}
 use Rattle.positions.specs.Written.{corners, written}
 use Rattle.listing.specs.Printed.{Bytes}
-use Rattle.drawing_spec.specs.Words.{lines}
-use Rattle.drawing_spec.specs.Said.{Said, placed-at, wrong, Sketch, empty-sheet, lowest, moved, complete, said-lines, said}
+use Rattle.drawing_spec.specs.Said.{placed-at, wrong, empty-sheet, lowest, moved, complete, said}
 use Rattle.drawing_spec.specs.declared.Fault.{Fault}
 use Rattle.drawing_spec.specs.declared.Fault.the-variants.{NoNumber, NoCell, Twice, Far, Missing, Long}
 use Rattle.drawing.specs.Drawn.{most-text, drawn-of, positions-after, Draws}

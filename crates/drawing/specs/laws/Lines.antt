@@ -1,23 +1,23 @@
 -- A line as the code reads it, and what it does to the sketch. Assumes nothing.
 use mathlib.Core.Path.{_≡_, refl, sym, ap, _∙_}
-use mathlib.Core.List.{List, [], _∷_}
-use mathlib.Core.Bool.{Bool, true, false, _&&_, _||_, cond}
+use mathlib.Core.List.{List}
+use mathlib.Core.Bool.{Bool, true, false, _&&_}
 use mathlib.Core.Option.{Option, none, some}
-use Prim.Native.Nat.{ℕ, zero, suc, _+_, _-_, _*_, _≤_, _<_}
+use Prim.Native.Nat.{ℕ, _+_, _-_, _*_, _≤_, _<_}
 use native.Mathlib.Omega.{arith}
 use native.Mathlib.Decide.{ℕ-discrete, decLt}
-use lib.Dec.{eqb, ltb}
+use lib.Dec.{eqb}
 use lib.IntN.{ℤ, pos, _-ℤ_}
-use lib.ListN.{length, getD, take, drop, set, length-set}
+use lib.ListN.{length, getD, take, drop, set}
 use lib.Seq.{getD-set-same, getD-set-other, set-out}
 use borrow.Author.Tests.{eq-eqb, ne-eqb, lt-ltb, le-ltb}
 use Rattle.whole.specs.Range.{in-range, InRange}
 use Rattle.plan.specs.Limits.{most-cells, farthest}
 use Rattle.listing.specs.Printed.{Bytes, sheet-word}
 use Rattle.drawing_spec.specs.Words.{words, first, others, natural, integer}
-use Rattle.drawing_spec.specs.Said.{hash, Line, passed, unread, gives, Said, wrong, begins, passes, numbered, by-words, line-said, Step, goes, stops, with-cell, step}
+use Rattle.drawing_spec.specs.Said.{hash, Line, passed, unread, gives, wrong, begins, passes, numbered, by-words, line-said, goes, stops, with-cell, step}
 use Rattle.drawing_spec.specs.declared.Fault.the-variants.{NoNumber, NoCell, Twice, Far}
-use Rattle.drawing.specs.Steps.{beyond, capped, number-told, near-up, integer-told, line-told, Next, Held, Sized, sketch, fault-said, stepped, Steps}
+use Rattle.drawing.specs.Steps.{capped, number-told, near-up, integer-told, line-told, Next, Held, sketch, fault-said, stepped, Steps}
 use Rattle.drawing.specs.laws.Numbers.{capped-low, capped-high, up-low, down-near, down-up}
 use Rattle.drawing.specs.declared.Span.{Span}
 use Rattle.drawing.specs.declared.Number.{Number}

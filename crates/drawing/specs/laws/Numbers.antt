@@ -1,22 +1,22 @@
 -- Numbers as the code reads them: one past the bound stands for any that is greater. Assumes nothing.
 use mathlib.Core.Path.{_≡_, refl, sym, ap, _∙_}
-use mathlib.Core.List.{List, [], _∷_}
+use mathlib.Core.List.{[], _∷_}
 use mathlib.Core.Bool.{Bool, true, false, cond}
 use mathlib.Core.Option.{Option, none, some}
-use Prim.Native.Nat.{ℕ, zero, suc, _+_, _-_, _*_, _≤_, _<_}
+use Prim.Native.Nat.{ℕ, _+_, _-_, _*_, _≤_, _<_}
 use native.Mathlib.Omega.{arith}
 use native.Mathlib.Decide.{decLt}
-use lib.IntN.{ℤ, pos, negℤ, _-ℤ_}
+use lib.IntN.{ℤ, pos, _-ℤ_}
 use lib.ListN.{length, getD, take, drop, length-drop}
 use lib.Seq.{take-all}
-use borrow.Author.Tests.{eq-eqb, ne-eqb, le-leb, lt-leb, eqb-true}
+use borrow.Author.Tests.{le-leb, lt-leb}
 use Rattle.whole.specs.Range.{in-range, InRange}
 use Rattle.whole.specs.Bias.{bias}
 use Rattle.whole.specs.laws.Range.{says-within}
 use Rattle.whole.specs.laws.Says.{is-true, is-false, holds}
 use Rattle.whole.specs.laws.Whole.{whole, diff}
 use Rattle.plan.specs.Limits.{farthest}
-use Rattle.listing.specs.Printed.{Bytes, minus-sign}
+use Rattle.listing.specs.Printed.{Bytes}
 use Rattle.drawing_spec.specs.Words.{is-digit, natural-from, natural, with-sign, begins-below, integer}
 use Rattle.drawing_spec.specs.laws.Words.{digit-yes, from-digit, natural-some}
 use Rattle.drawing.specs.Steps.{beyond, capped, number-told, near-up, integer-told}

@@ -1,18 +1,15 @@
 -- Line after line. Assumes nothing.
 use mathlib.Core.Path.{_≡_, refl, sym, ap, _∙_}
 use mathlib.Core.List.{List, [], _∷_}
-use mathlib.Core.Bool.{Bool, true, false, cond}
-use Prim.Native.Nat.{ℕ, zero, suc, _+_, _-_, _*_, _≤_, _<_}
+use Prim.Native.Nat.{ℕ, suc, _+_, _-_, _≤_, _<_}
 use native.Mathlib.Omega.{arith}
 use native.Mathlib.Numerals.{add-one}
-use lib.Dec.{eqb}
 use lib.IntN.{ℤ}
 use lib.ListN.{length, take, drop}
 use borrow.Author.Tests.{eq-eqb, ne-eqb}
-use Rattle.plan.specs.Limits.{most-cells}
 use Rattle.listing.specs.Printed.{Bytes}
 use Rattle.drawing_spec.specs.Words.{lines}
-use Rattle.drawing_spec.specs.Said.{Said, wrong, Sketch, Step, goes, stops, line-said, step, complete, said-lines}
+use Rattle.drawing_spec.specs.Said.{Said, wrong, Sketch, goes, stops, line-said, step, complete, said-lines}
 use Rattle.drawing.specs.Drawn.{most-text}
 use Rattle.drawing.specs.Steps.{until, feed, line-told, Held, Sized, sketch, fault-said, stepped, Steps, rest-said, Ready, Turned, read-said, Reads}
 use Rattle.drawing.specs.laws.Spans.{lines-from, lines-none}

@@ -1,21 +1,20 @@
 -- No label of a plan that Read takes has a line feed. Assumes nothing.
-use mathlib.Core.Path.{_≡_, refl, sym, ap, _∙_}
-use mathlib.Core.List.{List, [], _∷_}
+use mathlib.Core.Path.{_≡_, refl, sym}
+use mathlib.Core.List.{[], _∷_}
 use mathlib.Core.Bool.{Bool, true, false, cond}
 use Prim.Native.Nat.{ℕ, zero, suc, _+_, _-_, _≤_, _<_}
 use native.Mathlib.Omega.{arith}
 use lib.Dec.{T, leb, leb→le}
-use lib.ListN.{length, take, drop}
+use lib.ListN.{take, drop}
 use lib.Seq.{take-nil, drop-nil}
 use Rattle.plan.specs.Limits.{between, first-letter, last-letter, most-label}
-use Rattle.plan.specs.Questions.{every, asked}
-use Rattle.plan.specs.Steps.{cell-refusal}
+use Rattle.plan.specs.Questions.{every}
 use Rattle.plan.specs.laws.Questions.{both-none, asked-yes, each-none}
 use Rattle.plan.specs.laws.Steps.{and-right}
 use Rattle.planfile_spec.specs.Format.{trailer-of, entry}
-use Rattle.planfile_spec.specs.FileSteps.{inside, record-refusal, entry-refusal, formed-refusal, header-refusal, body-refusal, file-refusal}
+use Rattle.planfile_spec.specs.FileSteps.{record-refusal, entry-refusal, formed-refusal, header-refusal, body-refusal, file-refusal}
 use Rattle.planfile_spec.specs.laws.ReadThen.{file-label, part-of-record}
-use Rattle.listing.specs.Printed.{Bytes, line-feed}
+use Rattle.listing.specs.Printed.{Bytes}
 use Rattle.printing.specs.Printing.{label-bytes}
 use Rattle.drawing_spec.specs.laws.Words.{Each, NoFeed}
 

@@ -1,36 +1,33 @@
 -- The lines of a listing, one after another. Assumes nothing.
-use mathlib.Core.Path.{_≡_, refl, sym, ap, _∙_}
+use mathlib.Core.Path.{_≡_, refl, ap, _∙_}
 use mathlib.Core.List.{List, [], _∷_, _++_, map}
-use mathlib.Core.Bool.{Bool, true, false, _&&_, cond}
-use mathlib.Core.Option.{some}
-use Prim.Native.Nat.{ℕ, zero, suc, _+_, _-_, _*_, _≤_, _<_}
+use mathlib.Core.Bool.{true, false, _&&_}
+use Prim.Native.Nat.{ℕ, zero, suc, _+_, _*_, _≤_, _<_}
 use native.Mathlib.Omega.{arith}
-use native.Mathlib.Decide.{ℕ-discrete}
-use lib.Dec.{eqb, ltb}
+use lib.Dec.{ltb}
 use lib.IntN.{ℤ, pos, _-ℤ_}
 use lib.ListN.{length, getD, set, replicate, length-replicate}
-use borrow.Author.Tests.{eq-eqb, ne-eqb, lt-ltb, le-ltb}
-use Rattle.whole.specs.Range.{in-range, InRange}
+use borrow.Author.Tests.{ne-eqb, lt-ltb, le-ltb}
+use Rattle.whole.specs.Range.{in-range}
 use Rattle.whole.specs.laws.Range.{says-within}
 use Rattle.whole.specs.laws.Says.{is-true}
 use Rattle.whole.specs.laws.Whole.{whole, diff}
 use Rattle.plan.specs.Limits.{most-cells, farthest}
 use Rattle.plan.specs.Lists.{from}
-use Rattle.plan.specs.Plan.{Table, Is, W, D}
+use Rattle.plan.specs.Plan.{Is, W, D}
 use Rattle.plan.specs.laws.Columns.{table-length}
 use Rattle.plan.specs.Fit.{Fit}
-use Rattle.rules.specs.Placement.{Placement, placed, Agree}
-use Rattle.contours.specs.Sheet.{sheet}
+use Rattle.rules.specs.Placement.{Placement, placed}
 use Rattle.contours.specs.laws.Sheet.{sheet-s1}
 use Rattle.least.specs.laws.Columns.{sheet-inside}
 use Rattle.positions.specs.Written.{corners, written}
 use Rattle.positions.specs.laws.Written.{written-none, written-put, written-agree}
 use Rattle.planfile_spec.specs.declared.Reading.{Reading}
-use Rattle.listing.specs.Printed.{Bytes, space, sheet-word, digit, decimal, signed, line, sheet-line, label-field, cell-line, lines-joined}
+use Rattle.listing.specs.Printed.{Bytes, sheet-word, decimal, signed, sheet-line, label-field, cell-line, lines-joined}
 use Rattle.printing.specs.Printing.{label-bytes, read-table, ours, first-line, cell-of, text-of, cells-text, Taken}
 use Rattle.printing.specs.laws.Taken.{passes, count-is, taken-few, fit, text-plan}
-use Rattle.drawing_spec.specs.Words.{lines, words, first, others, natural, integer}
-use Rattle.drawing_spec.specs.Said.{hash, Line, passed, gives, Said, placed-at, begins, numbered, by-words, line-said, Sketch, empty-sheet, with-cell, Step, goes, step, lowest, moved, complete, said-lines, said}
+use Rattle.drawing_spec.specs.Words.{lines, words, first, others}
+use Rattle.drawing_spec.specs.Said.{hash, passed, gives, placed-at, begins, numbered, by-words, line-said, Sketch, empty-sheet, with-cell, goes, step, lowest, moved, complete, said-lines, said}
 use Rattle.drawing_spec.specs.Said as said-as
 use Rattle.drawing_spec.specs.laws.Words.{Each, each-decimal, each-signed, some-digit, some-sign, NoFeed, NoFeeds, inner, lines-line, Solid, solid, words-word, natural-decimal, integer-signed}
 use Rattle.drawing_listing.specs.laws.Labels.{label-no-feed}

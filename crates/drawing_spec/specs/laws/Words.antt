@@ -7,8 +7,8 @@ use Prim.Native.Nat.{ℕ, zero, suc, _+_, _-_, _*_, _/_, _%_, _≤_, _<_}
 use native.Mathlib.Omega.{arith}
 use native.Mathlib.Decide.{decLt}
 use lib.IntN.{ℤ, pos, negsuc, _-ℤ_}
-use lib.ListN.{length, getD, length-append}
-use borrow.Author.Tests.{eq-eqb, ne-eqb, le-leb}
+use lib.ListN.{length, length-append}
+use borrow.Author.Tests.{ne-eqb, le-leb}
 use Rattle.whole.specs.laws.Whole.{whole, diff}
 use Rattle.listing.specs.Printed.{Bytes, space, line-feed, minus-sign, digit, decimal, signed, line}
 use Rattle.listing.specs.laws.Printed.{decimal-one, decimal-more}

@@ -3,12 +3,9 @@ use Rattle.plan.specs.Columns.{table-of}
 use Rattle.plan.specs.Limits.{scratch-size}
 use lib.ListN.{length-replicate}
 use Prim.Native.Nat.{ℕ}
-use native.Mathlib.Omega.{arith}
 use borrow.Author.Needs.{needs}
 use Rattle.mark_drawing.proofs.mark_drawing.Statement.{statement}
 use Rattle.mark_drawing.proofs.mark_drawing.Tie as tie
-use Rattle.mark_drawing.proofs.mark_drawing.Reads as reads
-use Rattle.mark_drawing.proofs.mark_drawing.Lts as lts
 
 slice-aggregate-read-drawing : tie.Need-slice-aggregate-read-drawing
 slice-aggregate-read-drawing c = search needs

@@ -1,17 +1,15 @@
 -- The listing of a plan, read back and marked. Assumes nothing.
-use mathlib.Core.Path.{_≡_, refl, sym, ap, _∙_}
+use mathlib.Core.Path.{_≡_, refl, ap, _∙_}
 use mathlib.Core.List.{List, _++_}
-use mathlib.Core.Bool.{true}
 use Prim.Native.Nat.{ℕ, _*_, _≤_}
 use native.Mathlib.Omega.{arith}
-use lib.Dec.{leb}
 use lib.IntN.{ℤ, pos}
 use lib.ListN.{length, drop, replicate, length-replicate}
 use borrow.Author.Tests.{le-leb}
 use Rattle.whole.specs.Whole.{plus}
 use Rattle.plan.specs.Limits.{most-cells, scratch-size}
 use Rattle.plan.specs.laws.Columns.{table-length}
-use Rattle.plan.specs.Questions.{layout, mark, none, refusal, layout-given, mark-given}
+use Rattle.plan.specs.Questions.{mark, refusal, mark-given}
 use Rattle.rules.specs.Placement.{width, rows}
 use Rattle.positions.specs.Written.{corners, written}
 use Rattle.layout.specs.Laid.{laid-of, positions-after, scratch-after, Lays}
@@ -21,7 +19,6 @@ use Rattle.planfile_spec.specs.declared.Reading.{Reading}
 use Rattle.listing.specs.Printed.{Bytes}
 use Rattle.printing.specs.Printing.{read-table, ours, text-of, Taken}
 use Rattle.printing.specs.laws.Taken.{taken-few, taken-layout}
-use Rattle.drawing_spec.specs.Said.{placed-at, said}
 use Rattle.drawing_listing.specs.Listed.{listing-read}
 use Rattle.drawing.specs.Drawn.{most-text}
 use Rattle.mark_spec.specs.Marked.{marked-of, mark-scratch-after, Marks}

@@ -1,12 +1,12 @@
 -- The outcome, from what the reader and Mark answer. Assumes nothing.
 use mathlib.Core.Path.{_≡_, refl, sym, ap, _∙_}
 use mathlib.Core.Bool.{Bool, true, false, _&&_, cond}
-use mathlib.Core.List.{List, _++_}
-use Prim.Native.Nat.{ℕ, _*_, _≤_}
+use mathlib.Core.List.{List}
+use Prim.Native.Nat.{ℕ, _*_}
 use native.Mathlib.Omega.{arith}
 use lib.Dec.{leb}
 use lib.IntN.{ℤ, pos}
-use lib.ListN.{length, drop, replicate, length-replicate}
+use lib.ListN.{length, length-replicate}
 use borrow.Author.Tests.{le-leb, leb-true}
 use Rattle.plan.specs.Limits.{most-cells, scratch-size}
 use Rattle.plan.specs.Plan.{Table}

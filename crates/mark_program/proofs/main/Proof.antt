@@ -4,17 +4,6 @@ use native.Mathlib.Omega.{arith}
 use borrow.Author.Needs.{needs}
 use Rattle.mark_program.proofs.main.Statement.{statement}
 use Rattle.mark_program.proofs.main.Tie as tie
-use Rattle.mark_program.proofs.main.Reads as reads
-use Rattle.mark_program.proofs.main.Lts as lts
-use Rattle.io.proofs.buffer.Reads as buffer-reads
-use Rattle.io.proofs.write_all.Reads as write-all-reads
-use Rattle.mark_program.proofs.get.Reads as get-reads
-use Rattle.mark_program.proofs.sit.Reads as sit-reads
-use Rattle.mark_program.proofs.tell_refused.Reads as tell-refused-reads
-use Rattle.os.proofs.arg.Reads as arg-reads
-use Rattle.os.proofs.arg_count.Reads as arg-count-reads
-use Rattle.os.proofs.fail.Reads as fail-reads
-use Rattle.planfile.proofs.read.Reads as read-reads
 
 -- src/main.rt:144:9
 arg-count-requires : tie.Need-arg-count-requires

@@ -4,8 +4,6 @@ use native.Mathlib.Omega.{arith}
 use borrow.Author.Needs.{needs}
 use Rattle.mark_program.proofs.marked.Statement.{statement}
 use Rattle.mark_program.proofs.marked.Tie as tie
-use Rattle.mark_program.proofs.marked.Reads as reads
-use Rattle.mark_program.proofs.marked.Lts as lts
 
 buffer-requires : tie.Need-buffer-requires
 buffer-requires c κs = search needs

@@ -4,8 +4,6 @@ use native.Mathlib.Omega.{arith}
 use borrow.Author.Needs.{needs}
 use Rattle.mark_program.proofs.tell.Statement.{statement}
 use Rattle.mark_program.proofs.tell.Tie as tie
-use Rattle.mark_program.proofs.tell.Reads as reads
-use Rattle.mark_program.proofs.tell.Lts as lts
 
 mark-drawing-requires : tie.Need-mark-drawing-requires
 mark-drawing-requires c κs = search needs

@@ -4,8 +4,6 @@ use native.Mathlib.Omega.{arith}
 use borrow.Author.Needs.{needs}
 use Rattle.mark_program.proofs.tell_counts.Statement.{statement}
 use Rattle.mark_program.proofs.tell_counts.Tie as tie
-use Rattle.mark_program.proofs.tell_counts.Reads as reads
-use Rattle.mark_program.proofs.tell_counts.Lts as lts
 
 slice-aggregate-write-counts : tie.Need-slice-aggregate-write-counts
 slice-aggregate-write-counts c = search needs

@@ -4,8 +4,6 @@ use native.Mathlib.Omega.{arith}
 use borrow.Author.Needs.{needs}
 use Rattle.mark_program.proofs.tell_refused.Statement.{statement}
 use Rattle.mark_program.proofs.tell_refused.Tie as tie
-use Rattle.mark_program.proofs.tell_refused.Reads as reads
-use Rattle.mark_program.proofs.tell_refused.Lts as lts
 
 slice-aggregate-write-named : tie.Need-slice-aggregate-write-named
 slice-aggregate-write-named c = search needs

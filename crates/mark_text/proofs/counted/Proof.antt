@@ -1,10 +1,7 @@
 use Rattle.mark_text.specs.Text.{counted}
-use native.Mathlib.Omega.{arith}
 use borrow.Author.Needs.{needs}
 use Rattle.mark_text.proofs.counted.Statement.{statement}
 use Rattle.mark_text.proofs.counted.Tie as tie
-use Rattle.mark_text.proofs.counted.Reads as reads
-use Rattle.mark_text.proofs.counted.Lts as lts
 
 outcome-kind-requires : tie.Need-outcome-kind-requires
 outcome-kind-requires c κs = search needs

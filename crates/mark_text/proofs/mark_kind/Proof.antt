@@ -1,10 +1,7 @@
 use Rattle.mark_text.specs.Text.{mark-kind}
-use native.Mathlib.Omega.{arith}
 use borrow.Author.Needs.{needs}
 use Rattle.mark_text.proofs.mark_kind.Statement.{statement}
 use Rattle.mark_text.proofs.mark_kind.Tie as tie
-use Rattle.mark_text.proofs.mark_kind.Reads as reads
-use Rattle.mark_text.proofs.mark_kind.Lts as lts
 
 enum-told : tie.Need-enum-told
 enum-told c = search needs

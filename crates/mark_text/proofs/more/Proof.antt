@@ -1,11 +1,8 @@
 use Rattle.mark_text.specs.Text.{more}
 use borrow.Author.Tests.{lt-ltb, le-ltb}
-use native.Mathlib.Omega.{arith}
 use borrow.Author.Needs.{needs}
 use Rattle.mark_text.proofs.more.Statement.{statement}
 use Rattle.mark_text.proofs.more.Tie as tie
-use Rattle.mark_text.proofs.more.Reads as reads
-use Rattle.mark_text.proofs.more.Lts as lts
 
 add-result : tie.Need-add-result
 add-result c = search needs

@@ -1,11 +1,8 @@
 use Rattle.mark_text.specs.Text.{more-if}
 use borrow.Author.Tests.{eq-eqb, ne-eqb}
-use native.Mathlib.Omega.{arith}
 use borrow.Author.Needs.{needs}
 use Rattle.mark_text.proofs.more_if.Statement.{statement}
 use Rattle.mark_text.proofs.more_if.Tie as tie
-use Rattle.mark_text.proofs.more_if.Reads as reads
-use Rattle.mark_text.proofs.more_if.Lts as lts
 
 more-requires : tie.Need-more-requires
 more-requires c κs = search needs

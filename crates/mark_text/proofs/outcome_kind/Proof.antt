@@ -1,10 +1,7 @@
 use Rattle.mark_text.specs.Text.{outcome-kind}
-use native.Mathlib.Omega.{arith}
 use borrow.Author.Needs.{needs}
 use Rattle.mark_text.proofs.outcome_kind.Statement.{statement}
 use Rattle.mark_text.proofs.outcome_kind.Tie as tie
-use Rattle.mark_text.proofs.outcome_kind.Reads as reads
-use Rattle.mark_text.proofs.outcome_kind.Lts as lts
 
 enum-known-outcome : tie.Need-enum-known-outcome
 enum-known-outcome c = search needs

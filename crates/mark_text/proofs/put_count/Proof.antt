@@ -3,8 +3,6 @@ use native.Mathlib.Omega.{arith}
 use borrow.Author.Needs.{needs}
 use Rattle.mark_text.proofs.put_count.Statement.{statement}
 use Rattle.mark_text.proofs.put_count.Tie as tie
-use Rattle.mark_text.proofs.put_count.Reads as reads
-use Rattle.mark_text.proofs.put_count.Lts as lts
 
 put-text-requires : tie.Need-put-text-requires
 put-text-requires c κs = search needs

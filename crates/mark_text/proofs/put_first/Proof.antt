@@ -3,8 +3,6 @@ use native.Mathlib.Omega.{arith}
 use borrow.Author.Needs.{needs}
 use Rattle.mark_text.proofs.put_first.Statement.{statement}
 use Rattle.mark_text.proofs.put_first.Tie as tie
-use Rattle.mark_text.proofs.put_first.Reads as reads
-use Rattle.mark_text.proofs.put_first.Lts as lts
 
 slice-aggregate-put-count : tie.Need-slice-aggregate-put-count
 slice-aggregate-put-count c = search needs

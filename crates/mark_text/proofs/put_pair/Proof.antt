@@ -3,8 +3,6 @@ use native.Mathlib.Omega.{arith}
 use borrow.Author.Needs.{needs}
 use Rattle.mark_text.proofs.put_pair.Statement.{statement}
 use Rattle.mark_text.proofs.put_pair.Tie as tie
-use Rattle.mark_text.proofs.put_pair.Reads as reads
-use Rattle.mark_text.proofs.put_pair.Lts as lts
 
 put-decimal-requires : tie.Need-put-decimal-requires
 put-decimal-requires c κs = search needs

@@ -3,8 +3,6 @@ use native.Mathlib.Omega.{arith}
 use borrow.Author.Needs.{needs}
 use Rattle.mark_text.proofs.put_triple.Statement.{statement}
 use Rattle.mark_text.proofs.put_triple.Tie as tie
-use Rattle.mark_text.proofs.put_triple.Reads as reads
-use Rattle.mark_text.proofs.put_triple.Lts as lts
 
 put-pair-requires : tie.Need-put-pair-requires
 put-pair-requires c κs = search needs

@@ -3,8 +3,6 @@ use native.Mathlib.Omega.{arith}
 use borrow.Author.Needs.{needs}
 use Rattle.mark_text.proofs.write_counts.Statement.{statement}
 use Rattle.mark_text.proofs.write_counts.Tie as tie
-use Rattle.mark_text.proofs.write_counts.Reads as reads
-use Rattle.mark_text.proofs.write_counts.Lts as lts
 
 put-first-requires : tie.Need-put-first-requires
 put-first-requires c κs = search needs

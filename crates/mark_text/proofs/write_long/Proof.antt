@@ -3,8 +3,6 @@ use native.Mathlib.Omega.{arith}
 use borrow.Author.Needs.{needs}
 use Rattle.mark_text.proofs.write_long.Statement.{statement}
 use Rattle.mark_text.proofs.write_long.Tie as tie
-use Rattle.mark_text.proofs.write_long.Reads as reads
-use Rattle.mark_text.proofs.write_long.Lts as lts
 
 put-text-requires : tie.Need-put-text-requires
 put-text-requires c κs = search needs

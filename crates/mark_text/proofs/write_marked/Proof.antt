@@ -3,8 +3,6 @@ use native.Mathlib.Omega.{arith}
 use borrow.Author.Needs.{needs}
 use Rattle.mark_text.proofs.write_marked.Statement.{statement}
 use Rattle.mark_text.proofs.write_marked.Tie as tie
-use Rattle.mark_text.proofs.write_marked.Reads as reads
-use Rattle.mark_text.proofs.write_marked.Lts as lts
 
 enum-known-mark : tie.Need-enum-known-mark
 enum-known-mark c = search needs

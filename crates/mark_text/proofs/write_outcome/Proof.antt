@@ -1,10 +1,7 @@
 use Rattle.mark_text.specs.laws.Text.{mark-put, unread-put}
-use native.Mathlib.Omega.{arith}
 use borrow.Author.Needs.{needs}
 use Rattle.mark_text.proofs.write_outcome.Statement.{statement}
 use Rattle.mark_text.proofs.write_outcome.Tie as tie
-use Rattle.mark_text.proofs.write_outcome.Reads as reads
-use Rattle.mark_text.proofs.write_outcome.Lts as lts
 
 enum-known-outcome : tie.Need-enum-known-outcome
 enum-known-outcome c = search needs

@@ -3,8 +3,6 @@ use native.Mathlib.Omega.{arith}
 use borrow.Author.Needs.{needs}
 use Rattle.mark_text.proofs.write_twice.Statement.{statement}
 use Rattle.mark_text.proofs.write_twice.Tie as tie
-use Rattle.mark_text.proofs.write_twice.Reads as reads
-use Rattle.mark_text.proofs.write_twice.Lts as lts
 
 slice-aggregate-write-fault : tie.Need-slice-aggregate-write-fault
 slice-aggregate-write-fault c = search needs

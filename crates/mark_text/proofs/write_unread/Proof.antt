@@ -3,8 +3,6 @@ use native.Mathlib.Omega.{arith}
 use borrow.Author.Needs.{needs}
 use Rattle.mark_text.proofs.write_unread.Statement.{statement}
 use Rattle.mark_text.proofs.write_unread.Tie as tie
-use Rattle.mark_text.proofs.write_unread.Reads as reads
-use Rattle.mark_text.proofs.write_unread.Lts as lts
 
 enum-known-fault : tie.Need-enum-known-fault
 enum-known-fault c = search needs

@@ -3,8 +3,6 @@ use native.Mathlib.Omega.{arith}
 use borrow.Author.Needs.{needs}
 use Rattle.mark_text.proofs.write_wide.Statement.{statement}
 use Rattle.mark_text.proofs.write_wide.Tie as tie
-use Rattle.mark_text.proofs.write_wide.Reads as reads
-use Rattle.mark_text.proofs.write_wide.Lts as lts
 
 put-text-requires : tie.Need-put-text-requires
 put-text-requires c κs = search needs

@@ -1,7 +1,7 @@
 -- Lines put together: for the code. Assumes nothing.
 use mathlib.Core.Path.{_≡_}
 use mathlib.Core.List.{List, [], _∷_, _++_}
-use Prim.Native.Nat.{ℕ, _≤_}
+use Prim.Native.Nat.{ℕ}
 use Rattle.listing.specs.Printed.{Bytes, space, line-feed, decimal}
 use Rattle.listing.specs.Put.{Put}
 use Rattle.listing.specs.laws.Put.{then}
