@@ -8,6 +8,7 @@ use mark_text::write_outcome;
 use plan::Columns;
 use plan::limits::MOST_CELLS;
 use plan::limits::MOST_FILE;
+use planfile_spec::Reading;
 use progress::tell_progress;
 use summary::write_named;
 ghost use Prim.Native.Nat.{_≤_};
@@ -156,7 +157,7 @@ fn main() {
         return;
     }
     let size = got.size;
-    let plan = planfile::read(&file[..size], MOST_CELLS);
+    let plan: Reading = planfile::read(&file[..size], MOST_CELLS);
     let refusal = plan.refusal;
     let columns = plan.columns;
     let mut written = true;
