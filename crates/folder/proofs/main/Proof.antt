@@ -4,10 +4,10 @@ use Rattle.folder.proofs.main.Statement.{statement}
 use Rattle.folder.proofs.main.Tie as tie
 
 abbrev Inv-loop : tie.InvT-loop
-Inv-loop count sum₀ i₀ t6 sum i = 1 ≤ i
+Inv-loop count sum₀ i₀ t6 t7 sum i = 1 ≤ i
 
 abbrev μ-loop : tie.MeasureT-loop
-μ-loop count sum₀ i₀ t6 sum i = count - i
+μ-loop count sum₀ i₀ t6 t7 sum i = count - i
 
 arg-count-requires : tie.Need-arg-count-requires Inv-loop μ-loop
 arg-count-requires c κs = search needs
@@ -20,6 +20,9 @@ loop-holds c = search needs
 
 added-requires : tie.Need-added-requires Inv-loop μ-loop
 added-requires c κs = search needs
+
+slice-aggregate-tell-progress : tie.Need-slice-aggregate-tell-progress Inv-loop μ-loop
+slice-aggregate-tell-progress c = search needs
 
 sub-tell-progress : tie.Need-sub-tell-progress Inv-loop μ-loop
 sub-tell-progress c = search needs
@@ -64,6 +67,7 @@ main-spec =
     nothing-requires
     loop-holds
     added-requires
+    slice-aggregate-tell-progress
     sub-tell-progress
     tell-progress-requires
     add-i
