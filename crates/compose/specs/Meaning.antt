@@ -8,7 +8,7 @@ use Rattle.plan.specs.declared.Lettered.{Lettered}
 use Rattle.records.specs.Apart.{records-in}
 use Rattle.content.specs.Content.{Item, item-of}
 use Rattle.outline_spec.specs.Understood.{Cells, faulty, items, First, no-first, allowed, Understood, fault, plan}
-use Rattle.compose_fields.specs.Steps.{fault-of}
+use Rattle.outline_spec.specs.Faults.{fault-of}
 use Rattle.compose.specs.declared.First.{First as First′}
 use Rattle.compose.specs.declared.State.{State}
 use Rattle.compose.specs.declared.Understanding.{Understanding}

@@ -9,9 +9,8 @@ use Rattle.plan.specs.Limits.{most-cells}
 use Rattle.plan.specs.declared.Lettered.{Lettered}
 use Rattle.records.specs.Apart.{records-in}
 use Rattle.content.specs.Clean.{labels, entries}
-use Rattle.outline_spec.specs.Faults.{most-fault}
+use Rattle.outline_spec.specs.Faults.{most-fault, fault-of}
 use Rattle.outline_spec.specs.Understood.{Cells, faulty, cells, lines, understood}
-use Rattle.compose_fields.specs.Steps.{fault-of}
 use Rattle.compose.specs.Prefixed.{prefixed}
 use Rattle.compose.specs.Meaning.{count, items-in, so-far, cells-in, meaning}
 use Rattle.compose.specs.declared.State.{State}

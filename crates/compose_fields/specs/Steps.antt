@@ -3,12 +3,12 @@ use mathlib.Core.Path.{_≡_}
 use mathlib.Core.List.{List, [], _∷_}
 use mathlib.Core.Bool.{Bool, true, false, _&&_, cond}
 use mathlib.Core.Option.{Option, none, some}
-use Prim.Native.Nat.{ℕ, zero, suc, _+_, _-_, _*_, _≤_}
+use Prim.Native.Nat.{ℕ, _+_, _-_, _*_, _≤_}
 use lib.Dec.{eqb}
 use lib.ListN.{length, take, drop}
 use Rattle.listing.specs.Printed.{Bytes}
-use Rattle.outline_spec.specs.Faults.{most-fault}
-use Rattle.outline_spec.specs.Understood.{Fault, empty-text, strange-byte, long-line, many-cells, no-allowance, odd-blanks, unknown-word, unknown-field, large-number, open-label, misplaced, Number, absent, large, read, Indented, odd, level, Line, wrong, parted, optional, labelled, named, fields-read, kinds}
+use Rattle.outline_spec.specs.Faults.{most-fault, fault-of}
+use Rattle.outline_spec.specs.Understood.{unknown-word, Number, absent, large, read, Indented, odd, level, Line, wrong, parted, optional, labelled, named, fields-read, kinds}
 use Rattle.compose_fields.specs.declared.Digits.{Digits}
 use Rattle.compose_fields.specs.declared.Digits.the-variants as digits
 use Rattle.compose_fields.specs.declared.Blanks.{Blanks}
@@ -49,21 +49,6 @@ starts line (blanks.Level l) = 2 * l ≤ length line
 pub record Levels (line : Bytes) (x : Indented) (r : Blanks) : Type 0 where
   pub says : level-in line r ≡ x
   pub started : starts line r
-
--- a fault by its number
-unfoldable pub fault-of : ℕ → Fault
-fault-of zero = empty-text
-fault-of (suc zero) = empty-text
-fault-of (suc (suc zero)) = strange-byte
-fault-of (suc (suc (suc zero))) = long-line
-fault-of (suc (suc (suc (suc zero)))) = many-cells
-fault-of (suc (suc (suc (suc (suc zero))))) = no-allowance
-fault-of (suc (suc (suc (suc (suc (suc zero)))))) = odd-blanks
-fault-of (suc (suc (suc (suc (suc (suc (suc zero))))))) = unknown-word
-fault-of (suc (suc (suc (suc (suc (suc (suc (suc zero)))))))) = unknown-field
-fault-of (suc (suc (suc (suc (suc (suc (suc (suc (suc zero))))))))) = large-number
-fault-of (suc (suc (suc (suc (suc (suc (suc (suc (suc (suc zero)))))))))) = open-label
-fault-of (suc (suc (suc (suc (suc (suc (suc (suc (suc (suc (suc k))))))))))) = misplaced
 
 -- a word and its number as the code has them
 unfoldable pub given-of : Optional → Option ℕ

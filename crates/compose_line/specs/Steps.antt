@@ -6,7 +6,7 @@ use Prim.Native.Nat.{ℕ, _-_, _≤_}
 use lib.Dec.{eqb}
 use lib.ListN.{length, take, drop}
 use Rattle.listing.specs.Printed.{Bytes}
-use Rattle.outline_spec.specs.Faults.{most-fault}
+use Rattle.outline_spec.specs.Faults.{most-fault, fault-of}
 use Rattle.outline_spec.specs.Understood.{level, Line, wrong, cell}
 use Rattle.compose_line.specs.declared.Told.{Told}
 use Rattle.plan.specs.Questions.{lower}

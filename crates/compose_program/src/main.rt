@@ -1,6 +1,8 @@
-// Writes the plan file of the outline on standard input to standard output, with one write. A refusal, or the line that is not understood and the number of what is wrong with it, goes to standard error.
-use plan::limits::MOST_FILE;
+// Writes the plan file of the outline on standard input to standard output, with one write. A refusal, or the line that is not understood and what to do about it, goes to standard error.
+// The longest outline has 257 lines of 256 bytes; one byte more is read, so that a longer text is faulty.
 use compose::Composed;
+use compose_fault::put_fault;
+use plan::limits::MOST_FILE;
 
 fn main() {
     let mut text = [0u8; 65793];
@@ -9,8 +11,8 @@ fn main() {
     let answer = compose::compose(&text[..n], &mut out);
     match answer {
         Composed::Written(length) => {
-            if length <= MOST_FILE {
-                io::write_all(1, &out[..length]);
+            if !io::write_all(1, &out[..length]) {
+                io::write_all(2, b"compose_program: the plan could not be written whole\n");
             }
         }
         Composed::Refused(number, cell) => {
@@ -20,13 +22,9 @@ fn main() {
             io::write_all(2, &bytes[..length]);
         }
         Composed::Wrong(at, fault) => {
-            let mut told = [0u8; 64];
-            let a = decimals::put_text(b"line ", &mut told, 0);
-            let b = decimals::put_decimal(at as u64, &mut told, a);
-            let c = decimals::put_text(b" fault ", &mut told, b);
-            let d = decimals::put_decimal(fault as u64, &mut told, c);
-            let e = decimals::put_byte(10, &mut told, d);
-            io::write_all(2, &told[..e]);
+            let mut told = [0u8; 192];
+            let length = put_fault(at, fault, &mut told);
+            io::write_all(2, &told[..length]);
         }
     }
 }

@@ -9,7 +9,7 @@ fn main() {
     match answer {
         Outlined::Written(length) => {
             if !io::write_all(1, &out[..length]) {
-                io::write_all(2, b"outline: the outline could not be written whole\n");
+                io::write_all(2, b"outline_program: the outline could not be written whole\n");
             }
         }
         Outlined::Refused(number, cell) => {

@@ -1,6 +1,6 @@
 -- WHAT IS SAID OF A FAULT: its number, and the line that is printed, with what to do. Assumes nothing.
 use mathlib.Core.List.{[], _∷_, _++_}
-use Prim.Native.Nat.{ℕ}
+use Prim.Native.Nat.{ℕ, zero, suc}
 use Rattle.listing.specs.Printed.{Bytes, line-feed, decimal}
 use Rattle.outline_spec.specs.Text.{text}
 use Rattle.outline_spec.specs.Understood.{Fault, empty-text, strange-byte, long-line, many-cells, no-allowance, odd-blanks, unknown-word, unknown-field, large-number, open-label, misplaced}
@@ -21,6 +21,21 @@ fault-number misplaced = 11
 
 abbrev pub most-fault : ℕ
 most-fault = 11
+
+-- and the fault of a number
+unfoldable pub fault-of : ℕ → Fault
+fault-of zero = empty-text
+fault-of (suc zero) = empty-text
+fault-of (suc (suc zero)) = strange-byte
+fault-of (suc (suc (suc zero))) = long-line
+fault-of (suc (suc (suc (suc zero)))) = many-cells
+fault-of (suc (suc (suc (suc (suc zero))))) = no-allowance
+fault-of (suc (suc (suc (suc (suc (suc zero)))))) = odd-blanks
+fault-of (suc (suc (suc (suc (suc (suc (suc zero))))))) = unknown-word
+fault-of (suc (suc (suc (suc (suc (suc (suc (suc zero)))))))) = unknown-field
+fault-of (suc (suc (suc (suc (suc (suc (suc (suc (suc zero))))))))) = large-number
+fault-of (suc (suc (suc (suc (suc (suc (suc (suc (suc (suc zero)))))))))) = open-label
+fault-of (suc (suc (suc (suc (suc (suc (suc (suc (suc (suc (suc k))))))))))) = misplaced
 
 -- what to do
 unfoldable pub advice : Fault → Bytes

@@ -14,11 +14,13 @@ use Rattle.content.specs.Content.{Content, content, file-content}
 use Rattle.content.specs.Clean.{clean, copy-refusal}
 use Rattle.content.specs.laws.Promised.{copy-passed}
 use Rattle.outline_spec.specs.Outline.{outline}
-use Rattle.outline_spec.specs.Understood.{most-byte, plan, understood}
+use Rattle.outline_spec.specs.Understood.{Fault, most-byte, plan, understood}
+use Rattle.outline_spec.specs.Faults.{fault-number, fault-of}
 use Rattle.outline_spec.specs.Refused.{content-refusal}
 use Rattle.outline_spec.specs.laws.Accepted.{file-back, table-back}
 use Rattle.outline_spec.specs.laws.Told.{understood-again, one-content}
 use Rattle.outline_spec.specs.laws.Refused.{said-other, refused-read}
+use Rattle.outline_spec.specs.laws.Faults.{fault-back}
 
 -- every plan file that Read accepts has an outline that says its content, cell by cell: parents, kinds, widths, depths, ranks, label texts, and the allowance
 pub read-outlined : (f : List ℕ) (table : ℕ) → ((i : ℕ) → getD f i 0 ≤ most-byte) → refusal read (file-given f (to-fill table ∷ []) nothing) .number ≡ 0
@@ -51,3 +53,7 @@ said-refused t c output e = said-other t c output e
 -- and what refuses it is Read's refusal of the file that would be made, of the size of a file: 4, where there is no cell, and 9, where labels are too long for a file, are Copy's own
 pub refused-as-read : (c : Content) → least-file ≤ length (clean c) → length (clean c) ≤ most-file → content-refusal c most-file ≡ refusal read (file-given (clean c) (to-fill most-cells ∷ []) nothing)
 refused-as-read c low high = refused-read c low high
+
+-- a fault is told by its number
+pub fault-told : (f : Fault) → fault-of (fault-number f) ≡ f
+fault-told f = fault-back f

@@ -4,3 +4,4 @@ pub mod Short
 pub mod Accepted
 pub mod Told
 pub mod Refused
+pub mod Faults

@@ -1,4 +1,4 @@
-use Rattle.compose.specs.Told.{failed}
+use Rattle.compose.specs.State.{failed}
 use mathlib.Core.Path.{refl}
 use borrow.Author.Needs.{needs}
 use Rattle.compose.proofs.failing.Statement.{statement}

@@ -60,16 +60,16 @@ array-write-seen c = search needs
 noted-requires : tie.Need-noted-requires
 noted-requires c κs = (c .before .before .before .before .before .before .before .before .before .before .before .before .before .before .if1 .left, c .before .before .before .before .before .before .before .before .before .read-line .ensures .upward, c .before .before .before .before .before .before .before .before .before .read-line .ensures .brief, omega (arith, c .before .before .before .before .before .before .before .before .before .before .before .before .before .before .before .before .before .pre .0 .brief, c .before .before .before .before .before .before .before .before .before .before .before .before .before .before .if1 .left))
 
-add-t17 : tie.Need-add-t17
-add-t17 c = omega (arith, c .before .before .before .before .before .before .before .before .before .before .before .before .before .before .line-end .ensures .1, c .before .before .before .before .before .before .before .before .before .before .before .before .before .before .before .before .before .before .pre .3)
+past-line-requires : tie.Need-past-line-requires
+past-line-requires c κs = search needs
 
 same-length : tie.Need-same-length
 same-length c = search needs
 
 returns-3 : tie.Need-returns-3
-returns-3 c = let g : Long ((c .before .before .before .before .before .before .before .before .before .before .before .before .before .before .before .before .before .before .args .s) .table) = c .before .before .before .before .before .before .before .before .before .before .before .before .before .before .before .before .before .before .pre .0 .long in
-    let v : length ((c .before .before .before .before .before .before .before .before .before .before .before .before .before .before .before .before .before .before .args .s) .levels) ≡ 256 = c .before .before .before .before .before .before .before .before .before .before .before .before .before .before .before .before .before .before .pre .0 .seen in
-    turn-more (c .before .before .before .before .before .before .before .before .before .before .before .before .before .before .before .before .before .before .args .text .now) (c .before .before .before .before .before .before .before .before .before .before .before .before .before .before .before .before .before .before .args .letters .now) (c .before .before .before .before .before .before .before .before .before .before .before .before .before .before .before .before .before .before .args .s) (c .before .before .before .before .before .before .before .before .before .before .before .before .before .before .before .before .before .before .pre .0) (c .before .before .before .before .before .before .before .before .before .before .before .before .before .before .before .before .before .before .pre .1) (c .before .before .before .before .before .before .before .before .before .before .before .before .before .before .before .if1 .left) (c .before .before .before .before .before .before .before .before .before .before .read-line .result) (take (c .before .before .before .before .before .before .before .before .before .before .before .before .before .before .line-end .result - (c .before .before .before .before .before .before .before .before .before .before .before .before .before .before .before .before .before .before .args .s) .at) (drop ((c .before .before .before .before .before .before .before .before .before .before .before .before .before .before .before .before .before .before .args .s) .at) (c .before .before .before .before .before .before .before .before .before .before .before .before .before .before .before .before .before .before .args .text .now))) (let q : c .before .before .before .before .before .before .before .before .before .before .before .before .before .before .line-end .result - (c .before .before .before .before .before .before .before .before .before .before .before .before .before .before .before .before .before .before .args .s) .at ≡ line-long (drop ((c .before .before .before .before .before .before .before .before .before .before .before .before .before .before .before .before .before .before .args .s) .at) (c .before .before .before .before .before .before .before .before .before .before .before .before .before .before .before .before .before .before .args .text .now)) = omega (arith, c .before .before .before .before .before .before .before .before .before .before .before .before .before .before .line-end .ensures .0) in ap (λ n. take n (drop ((c .before .before .before .before .before .before .before .before .before .before .before .before .before .before .before .before .before .before .args .s) .at) (c .before .before .before .before .before .before .before .before .before .before .before .before .before .before .before .before .before .before .args .text .now))) q) (c .before .before .before .before .before .before .before .before .before .before .read-line .ensures) (c .before .before .before .before .before .before .before .before .if2 .left) g v (c .before .before .before .before .before .before .before .before .before .before .before .before .before .before .before .before .before .before .pre .2) _ _ (c .before .before .before .before .before .keep-label .ensures) (c .before .before .before .before .before .before .before .before .before .before .before .before .before .before .line-end .result) (c .before .before .before .before .before .before .before .before .before .before .before .before .before .before .line-end .ensures .0) _ (rw (c .noted .ensures) refl)
+returns-3 c = let g : Long ((c .before .before .before .before .before .before .before .before .before .before .before .before .before .before .before .before .before .before .before .args .s) .table) = c .before .before .before .before .before .before .before .before .before .before .before .before .before .before .before .before .before .before .before .pre .0 .long in
+    let v : length ((c .before .before .before .before .before .before .before .before .before .before .before .before .before .before .before .before .before .before .before .args .s) .levels) ≡ 256 = c .before .before .before .before .before .before .before .before .before .before .before .before .before .before .before .before .before .before .before .pre .0 .seen in
+    turn-more (c .before .before .before .before .before .before .before .before .before .before .before .before .before .before .before .before .before .before .before .args .text .now) (c .before .before .before .before .before .before .before .before .before .before .before .before .before .before .before .before .before .before .before .args .letters .now) (c .before .before .before .before .before .before .before .before .before .before .before .before .before .before .before .before .before .before .before .args .s) (c .before .before .before .before .before .before .before .before .before .before .before .before .before .before .before .before .before .before .before .pre .0) (c .before .before .before .before .before .before .before .before .before .before .before .before .before .before .before .before .before .before .before .pre .1) (c .before .before .before .before .before .before .before .before .before .before .before .before .before .before .before .before .if1 .left) (c .before .before .before .before .before .before .before .before .before .before .before .read-line .result) (take (c .before .before .before .before .before .before .before .before .before .before .before .before .before .before .before .line-end .result - (c .before .before .before .before .before .before .before .before .before .before .before .before .before .before .before .before .before .before .before .args .s) .at) (drop ((c .before .before .before .before .before .before .before .before .before .before .before .before .before .before .before .before .before .before .before .args .s) .at) (c .before .before .before .before .before .before .before .before .before .before .before .before .before .before .before .before .before .before .before .args .text .now))) (let q : c .before .before .before .before .before .before .before .before .before .before .before .before .before .before .before .line-end .result - (c .before .before .before .before .before .before .before .before .before .before .before .before .before .before .before .before .before .before .before .args .s) .at ≡ line-long (drop ((c .before .before .before .before .before .before .before .before .before .before .before .before .before .before .before .before .before .before .before .args .s) .at) (c .before .before .before .before .before .before .before .before .before .before .before .before .before .before .before .before .before .before .before .args .text .now)) = omega (arith, c .before .before .before .before .before .before .before .before .before .before .before .before .before .before .before .line-end .ensures .0) in ap (λ n. take n (drop ((c .before .before .before .before .before .before .before .before .before .before .before .before .before .before .before .before .before .before .before .args .s) .at) (c .before .before .before .before .before .before .before .before .before .before .before .before .before .before .before .before .before .before .before .args .text .now))) q) (c .before .before .before .before .before .before .before .before .before .before .before .read-line .ensures) (c .before .before .before .before .before .before .before .before .before .if2 .left) g v (c .before .before .before .before .before .before .before .before .before .before .before .before .before .before .before .before .before .before .before .pre .2) _ _ (c .before .before .before .before .before .before .keep-label .ensures) (c .before .before .before .before .before .before .before .before .before .before .before .before .before .before .before .line-end .result) (c .before .before .before .before .before .before .before .before .before .before .before .before .before .before .before .line-end .ensures .0) _ (rw (c .before .noted .ensures, c .past-line .ensures) refl)
 
 pub turn-spec : {M : Type 1} → statement M
 turn-spec =
@@ -92,6 +92,6 @@ turn-spec =
     cast-seen
     array-write-seen
     noted-requires
-    add-t17
+    past-line-requires
     same-length
     returns-3)

@@ -1,4 +1,3 @@
-use Rattle.compose.specs.Told.{failed}
 use lib.Seq.{length-take-le}
 use mathlib.Core.Path.{sym}
 use native.Mathlib.Omega.{arith}
@@ -11,8 +10,7 @@ failing-requires : tie.Need-failing-requires
 failing-requires c κs = search needs
 
 returns : tie.Need-returns
-unfolding failed
-returns c = (text-empty (c .before .before .before .before .args .text .now) _ _ (c .before .if1 .taken) (c .failing .ensures), rw (c .failing .ensures) (omega arith))
+returns c = text-empty (c .before .before .before .before .args .text .now) _ _ (c .before .if1 .taken) (c .failing .ensures)
 
 line-end-requires : tie.Need-line-end-requires
 line-end-requires c κs = search needs
@@ -27,11 +25,10 @@ failing-requires-2 : tie.Need-failing-requires-2
 failing-requires-2 c κs = search needs
 
 returns-2 : tie.Need-returns-2
-unfolding failed
-returns-2 c = (text-first (c .before .before .before .before .before .before .before .before .before .args .text .now) (c .before .before .before .before .before .line-end .result) (omega arith) (c .before .before .before .before .before .line-end .ensures .0) _ _ (c .before .before .before .first-line .ensures) (c .before .if2 .taken) _ (c .failing2 .ensures), rw (c .failing2 .ensures) (omega arith))
+returns-2 c = text-first (c .before .before .before .before .before .before .before .before .before .args .text .now) (c .before .before .before .before .before .line-end .result) (omega arith) (c .before .before .before .before .before .line-end .ensures .0) _ _ (c .before .before .before .first-line .ensures .0) (c .before .if2 .taken) (c .before .before .before .first-line .ensures .1) _ (c .failing2 .ensures)
 
-add-read-cells : tie.Need-add-read-cells
-add-read-cells c = search needs
+past-line-requires : tie.Need-past-line-requires
+past-line-requires c κs = search needs
 
 read-cells-requires : tie.Need-read-cells-requires
 read-cells-requires c κs = search needs
@@ -43,7 +40,7 @@ same-length : tie.Need-same-length
 same-length c = search needs
 
 returns-3 : tie.Need-returns-3
-returns-3 c = (text-rest (c .before .before .before .before .before .before .before .before .before .before .before .before .before .before .args .text .now) (c .before .before .before .before .before .before .before .before .before .before .line-end .result) (omega arith) (c .before .before .before .before .before .before .before .before .before .before .line-end .ensures .0) _ _ (c .before .before .before .before .before .before .before .before .first-line .ensures) (c .before .before .before .before .before .before .if2 .left) _ (c .before .before .before .before .read-cells .ensures), c .before .before .before .before .read-cells .ensures .room)
+returns-3 c = text-rest (c .before .before .before .before .before .before .before .before .before .before .before .before .before .before .before .args .text .now) (c .before .before .before .before .before .before .before .before .before .before .before .line-end .result) (omega arith) (c .before .before .before .before .before .before .before .before .before .before .before .line-end .ensures .0) _ _ (c .before .before .before .before .before .before .before .before .before .first-line .ensures .0) (c .before .before .before .before .before .before .before .if2 .left) _ (rw (c .before .before .before .before .before .before .past-line .ensures) at (c .before .before .before .before .read-cells .ensures))
 
 pub understand-spec : {M : Type 1} → statement M
 understand-spec =
@@ -56,7 +53,7 @@ understand-spec =
     first-line-requires
     failing-requires-2
     returns-2
-    add-read-cells
+    past-line-requires
     read-cells-requires
     add-line
     same-length

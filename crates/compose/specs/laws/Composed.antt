@@ -2,7 +2,7 @@
 use mathlib.Core.Path.{_≡_, refl, sym, ap, _∙_}
 use mathlib.Core.List.{List, _++_}
 use mathlib.Core.Bool.{Bool, true, false, cond}
-use Prim.Native.Nat.{ℕ, zero, suc, _≤_, _<_}
+use Prim.Native.Nat.{ℕ, _≤_, _<_}
 use native.Mathlib.Omega.{arith}
 use native.Mathlib.Decide.{ℕ-discrete}
 use lib.Dec.{eqb}
@@ -18,33 +18,16 @@ use Rattle.copying.specs.Copied.{copied-of, output-after, Copies}
 use Rattle.copying.specs.Copied as copying
 use Rattle.copying.specs.declared.Copied.{Copied}
 use Rattle.copying.specs.declared.Copied.the-variants as copied
-use Rattle.outline_spec.specs.Faults.{fault-number, most-fault}
+use Rattle.outline_spec.specs.Faults.{fault-of}
 use Rattle.outline_spec.specs.Refused.{content-refusal}
+use Rattle.outline_spec.specs.laws.Faults.{number-back}
 use Rattle.outline_spec.specs.Understood.{Understood, fault, plan, understood}
-use Rattle.compose_fields.specs.Steps.{fault-of}
 use Rattle.compose.specs.Meaning.{items-in, meaning}
 use Rattle.compose.specs.State.{Understands}
 use Rattle.compose.specs.Composed.{composed-by, composed-of, file-by, composed-after, size, Composes}
 use Rattle.compose.specs.declared.Understanding.{Understanding}
 use Rattle.compose.specs.declared.Composed.{Composed}
 use Rattle.compose.specs.declared.Composed.the-variants.{Written, Refused, Wrong}
-
--- the code's numbers are those of the faults
-number-back : (k : ℕ) → ¬ (k ≡ 0) → k ≤ most-fault → fault-number (fault-of k) ≡ k
-unfolding fault-number fault-of
-number-back zero n h = absurd (n refl)
-number-back (suc zero) n h = refl
-number-back (suc (suc zero)) n h = refl
-number-back (suc (suc (suc zero))) n h = refl
-number-back (suc (suc (suc (suc zero)))) n h = refl
-number-back (suc (suc (suc (suc (suc zero))))) n h = refl
-number-back (suc (suc (suc (suc (suc (suc zero)))))) n h = refl
-number-back (suc (suc (suc (suc (suc (suc (suc zero))))))) n h = refl
-number-back (suc (suc (suc (suc (suc (suc (suc (suc zero)))))))) n h = refl
-number-back (suc (suc (suc (suc (suc (suc (suc (suc (suc zero))))))))) n h = refl
-number-back (suc (suc (suc (suc (suc (suc (suc (suc (suc (suc zero)))))))))) n h = refl
-number-back (suc (suc (suc (suc (suc (suc (suc (suc (suc (suc (suc zero))))))))))) n h = refl
-number-back (suc (suc (suc (suc (suc (suc (suc (suc (suc (suc (suc (suc k)))))))))))) n h = absurd (omega arith)
 
 -- Copy's answer
 as-composed : Copied → Composed

@@ -11,7 +11,7 @@ use Rattle.plan.specs.Lists.{from}
 use Rattle.records.specs.Apart.{records-in}
 use Rattle.content.specs.Clean.{labels, entries}
 use Rattle.outline_spec.specs.Understood.{faulty, items, cells, lines}
-use Rattle.compose_fields.specs.Steps.{fault-of}
+use Rattle.outline_spec.specs.Faults.{fault-of}
 use Rattle.compose.specs.Prefixed.{prefixed}
 use Rattle.compose.specs.Meaning.{count, items-in, so-far, cells-in}
 use Rattle.compose.specs.State.{start-at, rest-of, Well, Tight, Reads}

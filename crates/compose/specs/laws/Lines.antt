@@ -45,11 +45,11 @@ lines-cons b (d ∷ t) = go (eqb b 10) (line-long (d ∷ t)) (lines-cons d t)
     go false m e = ap (begun b) e
 
 -- ---- the place after a line
-past-feed : (n e : ℕ) → e < n → past-line n e ≡ e + 1
+pub past-feed : (n e : ℕ) → e < n → past-line n e ≡ e + 1
 unfolding past-line
 past-feed n e h = rw (lt-ltb e n h) refl
 
-past-last : (n e : ℕ) → n ≤ e → past-line n e ≡ n
+pub past-last : (n e : ℕ) → n ≤ e → past-line n e ≡ n
 unfolding past-line
 past-last n e h = rw (le-ltb e n h) refl
 

@@ -20,9 +20,8 @@ use Rattle.content.specs.Content.{Item, item-of}
 use Rattle.content.specs.Clean.{labels, record-of, entries}
 use Rattle.copying.specs.laws.Cleaned.{rows-same}
 use Rattle.copying.specs.laws.Written.{map-last, labels-append, entries-last}
-use Rattle.outline_spec.specs.Faults.{most-fault}
+use Rattle.outline_spec.specs.Faults.{most-fault, fault-of}
 use Rattle.outline_spec.specs.Understood.{cell, wrong, faulty, line, lines, with-cell, cells}
-use Rattle.compose_fields.specs.Steps.{fault-of}
 use Rattle.compose_line.specs.Steps.{item-in, told-in, Tells}
 use Rattle.compose.specs.Steps.{line-long, past-line, record-from, note}
 use Rattle.compose.specs.Prefixed.{prefixed}

@@ -13,9 +13,9 @@ use Rattle.plan.specs.Limits.{between, first-letter, last-letter, most-allowanc
 use Rattle.plan.specs.Questions.{every}
 use Rattle.listing.specs.Printed.{Bytes}
 use Rattle.outline_spec.specs.Outline.{allowance-word}
-use Rattle.outline_spec.specs.Faults.{most-fault}
+use Rattle.outline_spec.specs.Faults.{most-fault, fault-of}
 use Rattle.outline_spec.specs.Understood.{strange-byte, long-line, no-allowance, large-number, read, First, no-first, allowed, faulty, items, cells, lines, after, number, clear, all-read, first, Understood, fault, plan, with-allowance, by-lines, understood}
-use Rattle.compose_fields.specs.Steps.{begins, number-in, ends, Numbers, fault-of}
+use Rattle.compose_fields.specs.Steps.{begins, number-in, ends, Numbers}
 use Rattle.compose.specs.Steps.{line-long, past-line}
 use Rattle.compose.specs.Meaning.{count, so-far, cells-in, first-in, meaning}
 use Rattle.compose.specs.State.{Reads, failed, Understands}

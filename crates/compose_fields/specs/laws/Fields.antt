@@ -12,7 +12,8 @@ use borrow.Author.Tests.{eq-eqb, ne-eqb}
 use Rattle.listing.specs.Printed.{Bytes}
 use Rattle.outline_spec.specs.Outline.{word, label-word, quote}
 use Rattle.outline_spec.specs.Understood.{unknown-word, unknown-field, open-label, Line, wrong, after, number, closed, parted, or-usual, numbered, optional, labelled, named, fields-read}
-use Rattle.compose_fields.specs.Steps.{begins, number-in, ends, Numbers, fault-of, given-of, went, Options, text-in, label-in, Labels, word-at, name-in, Names}
+use Rattle.outline_spec.specs.Faults.{fault-of}
+use Rattle.compose_fields.specs.Steps.{begins, number-in, ends, Numbers, given-of, went, Options, text-in, label-in, Labels, word-at, name-in, Names}
 use Rattle.compose_fields.specs.laws.Parts.{after-begins, from-place, past-end}
 use Rattle.compose_fields.specs.declared.Digits.{Digits}
 use Rattle.compose_fields.specs.declared.Digits.the-variants as digits

@@ -12,9 +12,9 @@ use borrow.Author.Tests.{eq-eqb, ne-eqb, eqb-true, ltb-true}
 use Rattle.plan.specs.Questions.{lower}
 use Rattle.listing.specs.Printed.{Bytes}
 use Rattle.outline_spec.specs.Outline.{width-word, depth-word, rank-word, under-word, nearest, level-under, border, natural}
-use Rattle.outline_spec.specs.Faults.{most-fault}
+use Rattle.outline_spec.specs.Faults.{most-fault, fault-of}
 use Rattle.outline_spec.specs.Understood.{misplaced, Line, wrong, cell, or-usual, optional, labelled, placed, told, fields-read, most-pair, most-byte}
-use Rattle.compose_fields.specs.Steps.{fault-of, given-of, went, Options, text-in, label-in, Labels}
+use Rattle.compose_fields.specs.Steps.{given-of, went, Options, text-in, label-in, Labels}
 use Rattle.compose_line.specs.Steps.{no-told, told-at, item-in, told-in, Tells}
 use Rattle.compose_fields.specs.declared.Optional.{Optional}
 use Rattle.compose_fields.specs.declared.Part.{Part}

@@ -11,7 +11,8 @@ use Rattle.plan.specs.Limits.{between, first-letter, last-letter}
 use Rattle.plan.specs.Questions.{every}
 use Rattle.listing.specs.Printed.{Bytes}
 use Rattle.outline_spec.specs.Understood.{strange-byte, long-line, odd-blanks, Indented, odd, level, Line, wrong, indented, clear, named, kinds, fields-read, line}
-use Rattle.compose_fields.specs.Steps.{fault-of, level-in, Levels, name-in, Names}
+use Rattle.outline_spec.specs.Faults.{fault-of}
+use Rattle.compose_fields.specs.Steps.{level-in, Levels, name-in, Names}
 use Rattle.compose_line.specs.Steps.{no-told, Tells}
 use Rattle.compose_line.specs.laws.Cells.{tells-wrong}
 use Rattle.compose_fields.specs.declared.Blanks.{Blanks}
