@@ -55,6 +55,23 @@ run 0 "$work/wanted" "" clean plans/pond.plan
 run 0 docs/pond.svg "" plot plans/pond.plan
 target/bin/plot 2.5 15 0.5 < plans/B.plan > "$work/wanted"
 run 0 "$work/wanted" "" plot plans/B.plan 2.5 15 0.5
+# paper: B is 9 wide and 4 high, so 16 is the greatest pitch; the pond is wider than it is high; the widest sheet fits neither paper
+target/bin/plot 16 < plans/B.plan > "$work/wanted"
+for paper in A3 A4; do run 0 "$work/wanted" "" plot plans/B.plan $paper; done
+read -r _ _ _ width rows < plans/pond.txt
+fits=$((277000 / width))
+target/bin/plot "$((fits / 1000)).$(printf '%03d' $((fits % 1000)))" < plans/pond.plan > "$work/wanted"
+run 0 "$work/wanted" "" plot plans/pond.plan A4
+fits=$((400000 / width))
+target/bin/plot "$((fits / 1000)).$(printf '%03d' $((fits % 1000)))" < plans/pond.plan > "$work/wanted"
+run 0 "$work/wanted" "" plot plans/pond.plan A3
+run 2 "$work/empty" "kuzpalen: plans/widest.plan: does not fit A4 paper with a pitch of 0.25 or more" plot plans/widest.plan A4
+run 2 "$work/empty" "kuzpalen: plot: on A4 paper the margins are 10" plot plans/B.plan A4 20
+run 1 "$work/empty" "kuzpalen: $work/short.plan: refused 2 0" plot "$work/short.plan" A4
+cp plans/B.plan "$work/in"
+target/bin/plot 16 < plans/B.plan > "$work/wanted"
+run 0 "$work/wanted" "" plot - A4
+cp "$work/empty" "$work/in"
 target/bin/strip < plans/pond.plan > "$work/wanted"
 run 0 "$work/wanted" "" strip plans/pond.plan
 tests/turns.py plans/pond.plan > "$work/wanted"
@@ -108,6 +125,10 @@ same "what mend leaves of a file where the plan is refused" before "$(cat "$work
 for command in clean plot strip; do run 1 "$work/empty" "kuzpalen: $work/short.plan: refused 2 0" $command "$work/short.plan"; done
 
 # ---- trouble: one line that names the file and the reason, and nothing printed
+tests/on_terminal.py "$work/out" ./kuzpalen sheet $(for i in {1..100}; do echo plans/A.plan; done) > "$work/err"
+same "how far sheet is, on a terminal" "kuzpalen: 100 of 100 plans" "$(cat "$work/err")"
+tests/on_terminal.py "$work/out" ./kuzpalen folder $(for i in {1..100}; do echo plans/A.plan; done) > "$work/err"
+same "how far folder is, on a terminal" "folder: 100 of 100 files" "$(cat "$work/err")"
 for command in sheet clean plot strip turns folder drill; do
     run 2 "$work/empty" "kuzpalen: $work/none.plan: there is no such file" $command "$work/none.plan"
     run 2 "$work/empty" "kuzpalen: $work: is a folder" $command "$work"
@@ -117,6 +138,18 @@ for command in sheet clean plot strip turns folder drill; do
     same "lines on standard error of $command, standard input closed" 1 "$(wc -l < "$work/err")"
     ./kuzpalen $command plans/A.plan - < "$work" > "$work/out" 2> "$work/err"
     same "status of $command, an input that fails" 2 $?
+done
+for command in sheet clean plot strip turns; do
+    tests/cut_input.py plans/printed.plan ./kuzpalen $command - > "$work/out" 2> "$work/err"
+    same "status of $command, an input that fails behind a plan" 2 $?
+    same_files "output of $command, an input that fails behind a plan" "$work/empty" "$work/out"
+    same "what is said of $command, an input that fails behind a plan" "kuzpalen: standard input: the plan cannot be read" "$(cat "$work/err")"
+done
+for command in "drill plans/pond.plan" "folder -" "drill - $work/empty"; do
+    tests/cut_input.py plans/printed.plan ./kuzpalen $command > "$work/out" 2> "$work/err"
+    same "status of $command, an input that fails behind a plan" 2 $?
+    same_files "output of $command, an input that fails behind a plan" "$work/empty" "$work/out"
+    same "lines on standard error of $command, an input that fails behind a plan" 1 "$(wc -l < "$work/err")"
 done
 for command in clean strip turns; do run 2 "$work/empty" "kuzpalen: $command takes PLAN" $command plans/A.plan plans/B.plan; done
 for command in clean strip turns; do run 2 "$work/empty" "kuzpalen: $command takes PLAN" $command; done
@@ -164,7 +197,7 @@ same "what a signal leaves behind" "" "$(ls "$work/temporary")"
 # ---- help: every command with an example, each of which runs
 ./kuzpalen help > "$work/out"
 same "status of help" 0 $?
-for command in sheet clean mend plot strip drill folder turns; do
+for command in sheet frame clean mend join plot strip drill folder turns; do
     same "help names $command" 1 "$(grep -c "^kuzpalen $command " "$work/out")"
     ./kuzpalen help $command > "$work/one"
     same "lines of help $command" 3 "$(wc -l < "$work/one")"

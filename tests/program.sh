@@ -135,6 +135,26 @@ for plan in plans/full.plan plans/A.plan "$work/short.plan"; do
     one_line "$plan to a pipe that is closed"
 done
 
+# ---- an input that cannot be read is trouble, never a refusal, and never taken for a shorter one: a folder, a closed one, one that fails behind a whole plan
+for program in sheet clean plot strip turns; do
+    target/bin/$program < "$work" > "$work/out" 2> "$work/err"
+    same "standard error of $program, a folder" "$program: the plan cannot be read" "$(cat "$work/err")"
+    same_files "output of $program, a folder" "$work/empty" "$work/out"
+    target/bin/$program <&- > "$work/out" 2> "$work/err"
+    same "standard error of $program, a closed input" "$program: the plan cannot be read" "$(cat "$work/err")"
+    same_files "output of $program, a closed input" "$work/empty" "$work/out"
+    tests/cut_input.py plans/printed.plan target/bin/$program > "$work/out" 2> "$work/err"
+    same "standard error of $program, an input that fails" "$program: the plan cannot be read" "$(cat "$work/err")"
+    same_files "output of $program, an input that fails" "$work/empty" "$work/out"
+done
+printf '\0\1\1' > "$work/answers"
+tests/cut_input.py "$work/answers" "$drill" plans/pond.plan > "$work/out" 2> "$work/err"
+same "standard error of drill, answers that fail" "drill: the answers cannot be read" "$(cat "$work/err")"
+same_files "output of drill, answers that fail" "$work/empty" "$work/out"
+"$drill" plans/pond.plan <&- > "$work/out" 2> "$work/err"
+same "standard error of drill, closed answers" "drill: the answers cannot be read" "$(cat "$work/err")"
+same_files "output of drill, closed answers" "$work/empty" "$work/out"
+
 # ---- one write for the whole listing
 if strace -o "$work/trace" true 2> "$work/err"; then
     for plan in plans/full.plan plans/A.plan "$work/short.plan"; do
@@ -191,13 +211,13 @@ for case in "short 2 0" "long 2 0" "kind 7 0" "child 7 1"; do
     set -- $case
     same "the drawing of the plan $1" "refused $2 $3" "$("$plot" < "$work/$1.plan")"
 done
-for page in 0.249 16.001 0 "4 100.001" "4 0 100.001"; do
+for page in 0.249 16.001 0 "4 100.001" "4 0 100.001" 12345678901234567 100000000.125 "4 4294967296" "4 0 18446744073709551616"; do
     same "the drawing on the page $page" "refused 17 0" "$("$plot" $page < plans/A.plan)"
 done
-for page in 0.25 16 16.000 "4 100" "4 0 100.000" .5 4.; do
+for page in 0.25 16 16.000 "4 100" "4 0 100.000" .5 4. 0000000000000000000004.5; do
     same "the drawing on the page $page" "<svg" "$("$plot" $page < plans/A.plan | head -c 4)"
 done
-for page in x -1 . "4 ." "4 0 ." 1.2.3 0.2500 1e1 "" 12345678901234567 "4 a" "4 0 b" "4 0 0 0"; do
+for page in x -1 . "4 ." "4 0 ." 1.2.3 0.2500 1e1 "" 12345678901234567x "4 a" "4 0 b" "4 0 0 0"; do
     if [ -n "$page" ]; then "$plot" $page < plans/A.plan > "$work/out" 2> "$work/err"; else "$plot" "" < plans/A.plan > "$work/out" 2> "$work/err"; fi
     same_files "output of plot with the arguments '$page'" "$work/empty" "$work/out"
     same "lines on standard error of plot with the arguments '$page'" 1 "$(wc -l < "$work/err")"
@@ -353,9 +373,11 @@ reported "$work/none" "$work/long.plan"
 # 1,024 plans, and one more
 many=$(for i in {1..1024}; do echo plans/B.plan; done)
 summed $(for i in {1..1024}; do echo plans/B.txt; done) > "$work/season"
-"$folder" $many > "$work/out" 2> "$work/err"
-same_files "the report of 1,024 files" "$work/season" "$work/out"
-same "lines on standard error for 1,024 files" 10 "$(wc -l < "$work/err")"
+reported "$work/season" $many
+# how far it is, only where that is a terminal
+tests/on_terminal.py "$work/out" "$folder" $many > "$work/err"
+same_files "the report of 1,024 files, beside a terminal" "$work/season" "$work/out"
+same "lines on a terminal for 1,024 files" 10 "$(wc -l < "$work/err")"
 same "the last of them" "folder: 1000 of 1024 files" "$(tail -n 1 "$work/err")"
 "$folder" $many plans/A.plan "$work/short.plan" > "$work/out" 2> "$work/err"
 same "what is printed of 1,025 plans" "$work/short.plan refused 2 0

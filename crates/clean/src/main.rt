@@ -2,11 +2,9 @@
 use copying::Copied;
 use plan::limits::MOST_FILE;
 
-fn main() {
-    let mut file = [0u8; 16385];
-    let n = io::read_full(0, &mut file);
+fn write_copy(file: &[u8]) {
     let mut out = [0u8; MOST_FILE];
-    let answer = copying::clean(&file[..n], &mut out);
+    let answer = copying::clean(file, &mut out);
     match answer {
         Copied::Written(length) => {
             if !io::write_all(1, &out[..length]) {
@@ -20,4 +18,15 @@ fn main() {
             io::write_all(2, &bytes[..length]);
         }
     }
+}
+
+fn main() {
+    let mut file = [0u8; MOST_FILE + 1];
+    let input = input::read_whole(0, &mut file);
+    if input::failed(input) {
+        io::write_all(2, b"clean: the plan cannot be read\n");
+        return;
+    }
+    let n = input.length;
+    write_copy(&file[..n]);
 }

@@ -4,11 +4,9 @@ use compose::Composed;
 use compose_fault::put_fault;
 use plan::limits::MOST_FILE;
 
-fn main() {
-    let mut text = [0u8; 65793];
-    let n = io::read_full(0, &mut text);
+fn write_plan(text: &[u8]) {
     let mut out = [0u8; MOST_FILE];
-    let answer = compose::compose(&text[..n], &mut out);
+    let answer = compose::compose(text, &mut out);
     match answer {
         Composed::Written(length) => {
             if !io::write_all(1, &out[..length]) {
@@ -27,4 +25,15 @@ fn main() {
             io::write_all(2, &told[..length]);
         }
     }
+}
+
+fn main() {
+    let mut text = [0u8; 65793];
+    let input = input::read_whole(0, &mut text);
+    if input::failed(input) {
+        io::write_all(2, b"compose_program: the text cannot be read\n");
+        return;
+    }
+    let n = input.length;
+    write_plan(&text[..n]);
 }

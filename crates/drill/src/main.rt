@@ -3,6 +3,8 @@
 use libc::STDERR_FILENO;
 use libc::STDIN_FILENO;
 use libc::STDOUT_FILENO;
+use plan::limits::MOST_ANSWERS;
+use plan::limits::MOST_FILE;
 use transcript::TRANSCRIPT_SIZE;
 use transcript::write_transcript;
 
@@ -39,31 +41,34 @@ fn print_drill(file: &[u8], answers: &[u8]) {
     }
 }
 
-// Reads the answers, and stops where that fails: to have none is something else.
-fn answer_plan(file: &[u8]) {
-    let mut answers = [0u8; 4097];
-    let n = io::read_full(STDIN_FILENO, &mut answers);
-    if n == 0 && os::errno() != 0 {
-        trouble(b"drill: the answers cannot be read\n");
-        return;
-    }
-    print_drill(file, &answers[..n]);
-}
-
 // Reads the plan, and stops where that fails: a folder can be opened, and not read.
-fn drill_plan(fd: i32) {
-    let mut file = [0u8; 16385];
-    let n = io::read_full(fd, &mut file);
-    if n == 0 && os::errno() != 0 {
+fn drill_plan(fd: i32, answers: &[u8]) {
+    let mut file = [0u8; MOST_FILE + 1];
+    let input = input::read_whole(fd, &mut file);
+    if input::failed(input) {
         trouble(b"drill: the plan's file cannot be read\n");
         return;
     }
-    answer_plan(&file[..n]);
+    let n = input.length;
+    print_drill(&file[..n], answers);
 }
 
-fn main() {
+fn drill_with(answers: &[u8]) {
     let fd = open_plan();
     if 0 <= fd {
-        drill_plan(fd);
+        drill_plan(fd, answers);
     }
+}
+
+// The answers are read before the plan is opened: were standard input closed, the plan would take its number. A list that was cut by
+// an error is not drilled.
+fn main() {
+    let mut answers = [0u8; MOST_ANSWERS + 1];
+    let input = input::read_whole(STDIN_FILENO, &mut answers);
+    if input::failed(input) {
+        trouble(b"drill: the answers cannot be read\n");
+        return;
+    }
+    let n = input.length;
+    drill_with(&answers[..n]);
 }

@@ -1,16 +1,14 @@
 // folder FILE..: the report of the plans in these files together, `word number` a line, on standard output; before it a line for each file that is refused, its name and `refused N C`.
-// More than 1,024 plans: `refused 4 0` in the report's place. A file that cannot be read is told on standard error, and then there is no report, since it would not be that of the folder.
+// One byte more than a plan file may have is read, so that a longer one is refused. More than 1,024 plans: `refused 4 0` in the report's place. A file that cannot be read is told on standard error, and then there is no report, since it would not be that of the folder.
 use decimals::put_refused;
 use plan::limits::MOST_CELLS;
+use plan::limits::MOST_FILE;
 use plan::limits::SCRATCH_SIZE;
 use season::Reported;
 use summary::write_named;
 use summary::write_report;
 ghost use Prim.Native.Nat.{_≤_};
 ghost use lib.ListN.{length};
-
-// One byte more than a plan file may have is read, so that a longer one is refused.
-const FILE_SIZE: usize = 16385;
 
 // Bytes of a line's or a report's buffer: a path of 4,096 and a refusal; a report has at most 240.
 const TEXT_SIZE: usize = 4352;
@@ -48,27 +46,23 @@ fn reported(file: &[u8]) -> Reported {
     draft.answer
 }
 
-// What a file ends with can be read, where it is a file at all, and not a directory.
-fn is_file(fd: i32) -> bool {
-    let mut more = [0u8; 1];
-    libc::read(fd, &mut more) >= 0
-}
-
+// A file that cannot be read is none: nothing is answered for it.
 fn answered(path: &[u8]) -> Opened {
     let fd = os::open_read(path);
     if fd < 0 {
         return unread(path);
     }
-    let mut file = [0u8; FILE_SIZE];
-    let n = io::read_full(fd, &mut file);
-    let read = is_file(fd);
-    if !read {
+    let mut file = [0u8; MOST_FILE + 1];
+    let input = input::read_whole(fd, &mut file);
+    if input::failed(input) {
+        let nothing = unread(path);
         libc::close(fd);
-        return unread(path);
+        return nothing;
     }
     libc::close(fd);
+    let n = input.length;
     let answer = reported(&file[..n]);
-    Opened { read, answer }
+    Opened { read: true, answer }
 }
 
 // The line of a refused file.
@@ -90,9 +84,12 @@ fn tell(path: &[u8], answer: Reported) -> bool
     }
 }
 
-// How far the work has come, where there are many files.
+// How far the work has come, where there are many files and somebody looks.
 fn tell_progress(done: usize, all: usize) {
     if done % MANY != 0 {
+        return;
+    }
+    if libc::isatty(2) == 0 {
         return;
     }
     io::write_all(2, b"folder: ");

@@ -1,15 +1,17 @@
 // Writes the outline of the plan file on standard input to standard output, with one write; a refusal to standard error. One byte more than a plan file may have is read, so that a longer one is refused.
 use outline::Outlined;
+use plan::limits::MOST_FILE;
 
-fn main() {
-    let mut file = [0u8; 16385];
-    let n = io::read_full(0, &mut file);
+fn write_outline(file: &[u8]) {
     let mut out = [0u8; 66560];
-    let answer = outline::outline(&file[..n], &mut out);
+    let answer = outline::outline(file, &mut out);
     match answer {
         Outlined::Written(length) => {
             if !io::write_all(1, &out[..length]) {
-                io::write_all(2, b"outline_program: the outline could not be written whole\n");
+                io::write_all(
+                    2,
+                    b"outline_program: the outline could not be written whole\n",
+                );
             }
         }
         Outlined::Refused(number, cell) => {
@@ -19,4 +21,15 @@ fn main() {
             io::write_all(2, &bytes[..length]);
         }
     }
+}
+
+fn main() {
+    let mut file = [0u8; MOST_FILE + 1];
+    let input = input::read_whole(0, &mut file);
+    if input::failed(input) {
+        io::write_all(2, b"outline_program: the plan cannot be read\n");
+        return;
+    }
+    let n = input.length;
+    write_outline(&file[..n]);
 }

@@ -6,6 +6,7 @@ use listing::bitmap_line;
 use listing::refused_line;
 use plan::Columns;
 use plan::limits::MOST_CELLS;
+use plan::limits::MOST_FILE;
 use plan::limits::SCRATCH_SIZE;
 use planfile_spec::Reading;
 ghost use mathlib.Core.Path.{_≡_};
@@ -74,8 +75,13 @@ fn print_plan(file: &[u8]) -> bool {
 }
 
 fn main() {
-    let mut file = [0u8; 16385];
-    let n = io::read_full(0, &mut file);
+    let mut file = [0u8; MOST_FILE + 1];
+    let input = input::read_whole(0, &mut file);
+    if input::failed(input) {
+        io::write_all(2, b"strip: the plan cannot be read\n");
+        return;
+    }
+    let n = input.length;
     if !print_plan(&file[..n]) {
         io::write_all(2, b"strip: the bitmap could not be written whole\n");
     }

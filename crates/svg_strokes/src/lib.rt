@@ -55,7 +55,7 @@ pub fn put_head(wide: f64, high: f64, out: &mut [u8], at: usize) -> usize
     let e = put_text(b"mm\" viewBox=\"0 0 ", out, d);
     let f = put_point(wide, high, out, e);
     put_text(
-        b"\">\n<g fill=\"none\" stroke=\"black\" stroke-width=\"0.35\" stroke-linejoin=\"round\">\n",
+        b"\">\n<rect width=\"100%\" height=\"100%\" fill=\"white\"/>\n<g fill=\"none\" stroke=\"black\" stroke-width=\"0.35\" stroke-linejoin=\"round\">\n",
         out,
         f,
     )

@@ -10,6 +10,7 @@ use links::links_of;
 use marks::MARKS;
 use plan::Columns;
 use plan::limits::MOST_CELLS;
+use plan::limits::MOST_FILE;
 use plan::limits::SCRATCH_SIZE;
 use planfile_spec::Reading;
 use walk::begin;
@@ -25,7 +26,7 @@ ghost use Rattle.walk.specs.Walked.{Walking};
 // Positions of a whole table, two numbers a cell.
 const POSITIONS: usize = 2 * MOST_CELLS;
 
-// The walk of crate walk, with a line before each turn; whether the last line was written: to a full or a closed output it is not.
+// The walk of crate walk, with a line before each turn; whether all lines were written.
 fn watch<'a>(
     links: &[u16],
     widths: &'a [u16],
@@ -38,9 +39,11 @@ fn watch<'a>(
     requires { ⌜ Walking (chart (now links) (now widths) (now depths) (now tops) allowance) (now rows) (now marks) ⌝ }
 {
     let mut at = begin(links);
+    let mut written = true;
     while 0 < at.open_cells.count {
         let chain = at.open_cells;
-        print_turn(chain, at.next);
+        let told = print_turn(chain, at.next);
+        written = written & told;
         at = turn(
             links,
             widths,
@@ -53,7 +56,8 @@ fn watch<'a>(
             marks,
         );
     }
-    word(b"none open\n")
+    let ended = word(b"none open\n");
+    written & ended
 }
 
 // The walk over a scratch and marks of zeros.
@@ -112,8 +116,13 @@ fn show_file(file: &[u8]) -> bool {
 
 // One byte more than a plan file may have is read, so that a longer one is refused.
 fn main() {
-    let mut file = [0u8; 16385];
-    let n = io::read_full(0, &mut file);
+    let mut file = [0u8; MOST_FILE + 1];
+    let input = input::read_whole(0, &mut file);
+    if input::failed(input) {
+        write_all(2, b"turns: the plan cannot be read\n");
+        return;
+    }
+    let n = input.length;
     if !show_file(&file[..n]) {
         write_all(2, b"turns: the turns could not be written whole\n");
     }

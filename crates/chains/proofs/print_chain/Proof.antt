@@ -4,25 +4,22 @@ use Rattle.chains.proofs.print_chain.Statement.{statement}
 use Rattle.chains.proofs.print_chain.Tie as tie
 
 abbrev Inv-loop : tie.InvT-loop
-Inv-loop chain cells i₀ i = i ≤ 32
+Inv-loop chain cells written₀ i₀ written i = i ≤ 32
 
 abbrev μ-loop : tie.MeasureT-loop
-μ-loop chain cells i₀ i = 32 - i
+μ-loop chain cells written₀ i₀ written i = 32 - i
 
 loop-holds : tie.Need-loop-holds Inv-loop μ-loop
 loop-holds c = search needs
 
-mul-number : tie.Need-mul-number Inv-loop μ-loop
-mul-number c = search needs
+mul-print-open : tie.Need-mul-print-open Inv-loop μ-loop
+mul-print-open c = search needs
 
-array-read-number : tie.Need-array-read-number Inv-loop μ-loop
-array-read-number c = search needs
+array-read-print-open : tie.Need-array-read-print-open Inv-loop μ-loop
+array-read-print-open c = search needs
 
-cast-number : tie.Need-cast-number Inv-loop μ-loop
-cast-number c = search needs
-
-number-requires : tie.Need-number-requires Inv-loop μ-loop
-number-requires c κs = search needs
+print-open-requires : tie.Need-print-open-requires Inv-loop μ-loop
+print-open-requires c κs = search needs
 
 add-i : tie.Need-add-i Inv-loop μ-loop
 add-i c = search needs
@@ -43,10 +40,9 @@ print-chain-spec =
     Inv-loop
     μ-loop
     loop-holds
-    mul-number
-    array-read-number
-    cast-number
-    number-requires
+    mul-print-open
+    array-read-print-open
+    print-open-requires
     add-i
     loop-less
     loop-again

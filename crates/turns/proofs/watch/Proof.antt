@@ -16,10 +16,10 @@ use Rattle.turns.proofs.watch.Statement.{statement}
 use Rattle.turns.proofs.watch.Tie as tie
 
 abbrev Inv-loop : tie.InvT-loop
-Inv-loop links widths depths tops allowance rows₀ marks₀ at₀ t10 rows marks at = Keeps (chart links widths depths tops allowance) rows₀ (state-of (at .open_cells .cells) (at .open_cells .count) (at .next) rows marks) × Visiting (chart links widths depths tops allowance) (memory-of rows₀ marks₀) (at .open_cells .cells) (at .open_cells .count) (at .next) rows marks × (length rows ≡ length rows₀) × (length marks ≡ length marks₀)
+Inv-loop links widths depths tops allowance rows₀ marks₀ at₀ written₀ t13 rows marks at written = Keeps (chart links widths depths tops allowance) rows₀ (state-of (at .open_cells .cells) (at .open_cells .count) (at .next) rows marks) × Visiting (chart links widths depths tops allowance) (memory-of rows₀ marks₀) (at .open_cells .cells) (at .open_cells .count) (at .next) rows marks × (length rows ≡ length rows₀) × (length marks ≡ length marks₀)
 
 abbrev μ-loop : tie.MeasureT-loop
-μ-loop links widths depths tops allowance rows₀ marks₀ at₀ t10 rows marks at = turns (chart links widths depths tops allowance) most-turns (state-of (at .open_cells .cells) (at .open_cells .count) (at .next) rows marks)
+μ-loop links widths depths tops allowance rows₀ marks₀ at₀ written₀ t13 rows marks at written = turns (chart links widths depths tops allowance) most-turns (state-of (at .open_cells .cells) (at .open_cells .count) (at .next) rows marks)
 
 -- the walk at the head of a turn, that a cell is open there, and the cells that the turn opens
 abbrev board : tie.Start Inv-loop μ-loop → Chart

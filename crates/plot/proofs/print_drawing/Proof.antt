@@ -2,23 +2,11 @@ use mathlib.Core.Path.{sym}
 use native.Mathlib.Omega.{arith}
 use lib.Seq.{length-take-le}
 use borrow.Author.Needs.{needs}
-use Rattle.plot.proofs.draw.Statement.{statement}
-use Rattle.plot.proofs.draw.Tie as tie
-
-slice-aggregate-read-full : tie.Need-slice-aggregate-read-full
-slice-aggregate-read-full c = search needs
-
-read-full-requires : tie.Need-read-full-requires
-read-full-requires c κs = search needs
-
-array-share-prefix-file : tie.Need-array-share-prefix-file
-array-share-prefix-file c = search needs
+use Rattle.plot.proofs.print_drawing.Statement.{statement}
+use Rattle.plot.proofs.print_drawing.Tie as tie
 
 slice-aggregate-write-drawing : tie.Need-slice-aggregate-write-drawing
 slice-aggregate-write-drawing c = search needs
-
-slice-aggregate-write-drawing-2 : tie.Need-slice-aggregate-write-drawing-2
-slice-aggregate-write-drawing-2 c = search needs
 
 write-drawing-requires : tie.Need-write-drawing-requires
 write-drawing-requires c κs = search needs
@@ -32,11 +20,11 @@ slice-aggregate-write-all c = sym (length-take-le _ _ (omega (arith, c .before .
 write-all-requires : tie.Need-write-all-requires
 write-all-requires c κs = search needs
 
-slice-aggregate-write-all-2 : tie.Need-slice-aggregate-write-all-2
-slice-aggregate-write-all-2 c = search needs
+slice-aggregate-trouble : tie.Need-slice-aggregate-trouble
+slice-aggregate-trouble c = search needs
 
-write-all-requires-2 : tie.Need-write-all-requires-2
-write-all-requires-2 c κs = search needs
+trouble-requires : tie.Need-trouble-requires
+trouble-requires c κs = search needs
 
 returns : tie.Need-returns
 returns c = search needs
@@ -44,20 +32,16 @@ returns c = search needs
 returns-2 : tie.Need-returns-2
 returns-2 c = search needs
 
-pub draw-spec : {M : Type 1} → statement M
-draw-spec =
+pub print-drawing-spec : {M : Type 1} → statement M
+print-drawing-spec =
     tie.close
     (tie.spec
-    slice-aggregate-read-full
-    read-full-requires
-    array-share-prefix-file
     slice-aggregate-write-drawing
-    slice-aggregate-write-drawing-2
     write-drawing-requires
     array-share-prefix-out
     slice-aggregate-write-all
     write-all-requires
-    slice-aggregate-write-all-2
-    write-all-requires-2
+    slice-aggregate-trouble
+    trouble-requires
     returns
     returns-2)
