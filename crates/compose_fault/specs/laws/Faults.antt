@@ -1,9 +1,9 @@
 -- What is printed of a fault, by the number that the code has of it. Assumes nothing.
-use mathlib.Core.Path.{_≡_, refl, ap, _∙_}
-use mathlib.Core.List.{List, [], _∷_, _++_}
+use mathlib.Core.Path.{_≡_, refl}
+use mathlib.Core.List.{List, [], _∷_}
 use Prim.Native.Nat.{ℕ, zero, suc, _≤_}
 use native.Mathlib.Omega.{arith}
-use Rattle.listing.specs.Printed.{Bytes, line-feed, decimal}
+use Rattle.listing.specs.Printed.{line-feed, decimal}
 use Rattle.listing.specs.Put.{Put}
 use Rattle.listing.specs.laws.Put.{then}
 use Rattle.outline_spec.specs.Text.{text}
