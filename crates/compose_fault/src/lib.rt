@@ -15,10 +15,22 @@ fn put_early(fault: u8, out: &mut [u8], at: usize) -> usize
     ensures { λ r. ⌜ Put (now (out .entry)) at (advice (fault-of fault)) (now (out .exit)) r × (r ≤ at + 136) ⌝ }
 {
     match fault {
-        2 => put_text(b"a tab or another byte that is not printable: use blanks, and letters, digits and signs of ASCII", out, at),
+        2 => put_text(
+            b"a tab or another byte that is not printable: use blanks, and letters, digits and signs of ASCII",
+            out,
+            at,
+        ),
         3 => put_text(b"more than 255 bytes: shorten the line", out, at),
-        4 => put_text(b"more than 256 cells: leave out this line and those below it", out, at),
-        _ => put_text(b"the text is empty: begin with a line such as allowance 0", out, at),
+        4 => put_text(
+            b"more than 256 cells: leave out this line and those below it",
+            out,
+            at,
+        ),
+        _ => put_text(
+            b"the text is empty: begin with a line such as allowance 0",
+            out,
+            at,
+        ),
     }
 }
 
@@ -28,9 +40,21 @@ fn put_middle(fault: u8, out: &mut [u8], at: usize) -> usize
     ensures { λ r. ⌜ Put (now (out .entry)) at (advice (fault-of fault)) (now (out .exit)) r × (r ≤ at + 136) ⌝ }
 {
     match fault {
-        5 => put_text(b"the first line is not the allowance: write the word allowance, a blank and a number", out, at),
-        6 => put_text(b"an odd number of blanks before the word: use two for each level", out, at),
-        _ => put_text(b"the line does not begin with step, run, repeat, choice or wait: use one of them, and leave no line empty", out, at),
+        5 => put_text(
+            b"the first line is not the allowance: write the word allowance, a blank and a number",
+            out,
+            at,
+        ),
+        6 => put_text(
+            b"an odd number of blanks before the word: use two for each level",
+            out,
+            at,
+        ),
+        _ => put_text(
+            b"the line does not begin with step, run, repeat, choice or wait: use one of them, and leave no line empty",
+            out,
+            at,
+        ),
     }
 }
 
@@ -40,10 +64,26 @@ fn put_late(fault: u8, out: &mut [u8], at: usize) -> usize
     ensures { λ r. ⌜ Put (now (out .entry)) at (advice (fault-of fault)) (now (out .exit)) r × (r ≤ at + 136) ⌝ }
 {
     match fault {
-        8 => put_text(b"what follows the word is not understood: write width, depth, rank, under, a number each, in this order, then the label in quotes", out, at),
-        9 => put_text(b"a number is too large: allowance and width go up to 65535, depth, rank and under up to 255", out, at),
-        10 => put_text(b"the label has no quote at its end: end the line with one", out, at),
-        _ => put_text(b"the line stands in no cell's place: put it two blanks right of the cell it is under, and only the first at the margin", out, at),
+        8 => put_text(
+            b"what follows the word is not understood: write width, depth, rank, under, a number each, in this order, then the label in quotes",
+            out,
+            at,
+        ),
+        9 => put_text(
+            b"a number is too large: allowance and width go up to 65535, depth, rank and under up to 255",
+            out,
+            at,
+        ),
+        10 => put_text(
+            b"the label has no quote at its end: end the line with one",
+            out,
+            at,
+        ),
+        _ => put_text(
+            b"the line stands in no cell's place: put it two blanks right of the cell it is under, and only the first at the margin",
+            out,
+            at,
+        ),
     }
 }
 
