@@ -7,6 +7,8 @@ use Rattle.plan.specs.Limits.{most-cells, most-label}
 use Rattle.listing.specs.Printed.{Bytes, line-feed}
 use Rattle.content.specs.Content.{Item}
 use Rattle.outline_spec.specs.Outline.{level-under, cell-line}
+use Rattle.outline.specs.Outlined.{outline-size, outlined-by, outlined-after, size}
+use Rattle.outline.specs.declared.Outlined.{Outlined}
 
 -- cell c, from columns and label bytes
 abbrev pub item-from : (ps ks ws ds qs ls ss letters : List ℕ) → ℕ → Item
@@ -25,15 +27,6 @@ unfoldable pub lines-of : (ℕ → Item) → ℕ → Bytes
 lines-of e zero = []
 lines-of e (suc c) = lines-of e c ++ (cell-line (levels-of e c) (e c) ++ (line-feed ∷ []))
 
--- what the line of a cell asks
-pub record Room (levels : List ℕ) (c level parent letters start size out at : ℕ) : Type 0 where
-  pub seen : c ≤ length levels
-  pub level-is : level ≡ level-under (take c levels) parent
-  pub low : level ≤ 127
-  pub short : size ≤ most-label
-  pub within : start + size ≤ letters
-  pub room : at + 512 ≤ out
-
 -- what the loop asks of n cells
 pub record Ready (e : ℕ → Item) (ls ss : List ℕ) (n letters : ℕ) : Type 0 where
   pub few : n ≤ most-cells
@@ -41,3 +34,9 @@ pub record Ready (e : ℕ → Item) (ls ss : List ℕ) (n letters : ℕ) : Type 
   pub brief : (c : ℕ) → c < n → length (cell-line (levels-of e c) (e c)) ≤ 255
   pub short : (c : ℕ) → c < n → getD ls c 0 ≤ most-label
   pub within : (c : ℕ) → c < n → getD ss c 0 + getD ls c 0 ≤ letters
+
+-- the answer and the output, into an output that is long enough
+pub record Outlining (f out out′ : List ℕ) (d : Outlined) : Type 0 where
+  pub answers : d ≡ outlined-by f
+  pub output : out′ ≡ outlined-after d f out
+  pub suffices : size d ≤ outline-size

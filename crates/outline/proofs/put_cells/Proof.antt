@@ -2,7 +2,7 @@ use Prim.Native.Nat.{_-_, _≤_}
 use mathlib.Core.Path.{_≡_, refl, _∙_}
 use native.Mathlib.Omega.{arith}
 use Rattle.outline.specs.Steps.{item-from}
-use Rattle.outline.specs.laws.Written.{put-length}
+use Rattle.outline_line.specs.laws.Written.{put-length}
 use Rattle.outline.specs.laws.Cells.{Wrote, wrote-none, wrote-more, wrote-room}
 use borrow.Author.Needs.{needs}
 use Rattle.outline.proofs.put_cells.Statement.{statement}

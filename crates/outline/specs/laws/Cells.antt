@@ -12,8 +12,9 @@ use Rattle.listing.specs.Put.{Put}
 use Rattle.listing.specs.laws.Put.{then, put-none}
 use Rattle.content.specs.Content.{Item}
 use Rattle.outline_spec.specs.Outline.{allowance-word, level-under, cell-line, first-line}
-use Rattle.outline.specs.Steps.{levels-of, lines-of, Room, Ready}
-use Rattle.outline.specs.laws.Written.{put-length}
+use Rattle.outline_line.specs.Steps.{Room}
+use Rattle.outline_line.specs.laws.Written.{put-length}
+use Rattle.outline.specs.Steps.{levels-of, lines-of, Ready}
 
 pub record Wrote (e : ℕ → Item) (before after : List ℕ) (begin at : ℕ) (levels : List ℕ) (c : ℕ) : Type 0 where
   pub long : length levels ≡ most-cells

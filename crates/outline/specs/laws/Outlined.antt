@@ -4,7 +4,7 @@ use mathlib.Core.List.{List, [], _∷_, _++_, map, append-assoc}
 use Prim.Native.Nat.{ℕ, zero, suc, _+_, _*_, _≤_, _<_}
 use native.Mathlib.Omega.{arith}
 use native.Mathlib.Decide.{ℕ-discrete}
-use borrow.Author.Tests.{eq-eqb, ne-eqb}
+use borrow.Author.Tests.{eq-eqb, ne-eqb, le-leb, lt-leb}
 use lib.ListN.{length, getD, take, drop, length-append}
 use lib.Seq.{sets-eq}
 use Rattle.plan.specs.Limits.{most-cells, most-file, trailer-size}
@@ -29,8 +29,9 @@ use Rattle.outline_spec.specs.Understood.{most-byte}
 use Rattle.outline_spec.specs.laws.Back.{Writable, AllWritable}
 use Rattle.outline_spec.specs.laws.Accepted.{table-writable, file-ranks}
 use Rattle.outline.specs.declared.Outlined.the-variants.{Written, Refused}
-use Rattle.outline.specs.Outlined.{outline-size, outlined-of, outlined-after, size, Outlines}
-use Rattle.outline.specs.Steps.{item-from, levels-of, lines-of, Ready}
+use Rattle.outline.specs.declared.Outlined.{Outlined}
+use Rattle.outline.specs.Outlined.{outline-size, outlined-by, outlined-of, outlined-after, size, Outlines}
+use Rattle.outline.specs.Steps.{item-from, levels-of, lines-of, Ready, Outlining}
 use Rattle.outline.specs.laws.Cells.{lines-short}
 
 -- ---- lists that grow at the end
@@ -101,14 +102,14 @@ put-front a s b k p l =
 
 -- ---- a file that Read refuses
 module _ (f : List ℕ) (p : Reading) (e : p ≡ reading-of f most-cells) where
-  refused-is : (r : Refusal) → r ≡ why f → ¬ (why f .number ≡ 0) → (out : List ℕ) → Outlines f out out (Refused (r .number) (r .cell))
-  unfolding outlined-of outlined-after size
+  refused-is : (r : Refusal) → r ≡ why f → ¬ (why f .number ≡ 0) → (out : List ℕ) → Outlining f out out (Refused (r .number) (r .cell))
+  unfolding outlined-by outlined-after size
   refused-is r q z out = record { answers = rw (q, ne-eqb (why f .number) 0 z) refl; output = refl; suffices = omega arith }
 
-  pub outline-refused : ¬ (p .refusal .number ≡ 0) → (out : List ℕ) → Outlines f out out (Refused (p .refusal .number) (p .refusal .cell))
+  pub outline-refused : ¬ (p .refusal .number ≡ 0) → (out : List ℕ) → Outlining f out out (Refused (p .refusal .number) (p .refusal .cell))
   outline-refused z out = go (ℕ-discrete (why f .number) 0)
     where
-      go : Dec (why f .number ≡ 0) → Outlines f out out (Refused (p .refusal .number) (p .refusal .cell))
+      go : Dec (why f .number ≡ 0) → Outlining f out out (Refused (p .refusal .number) (p .refusal .cell))
       go (yes y) = absurd (z (ap (λ (x : Reading). x .refusal .number) (e ∙ passed-reading f y) ∙ none-refused f))
       go (no y) = refused-is (p .refusal) (ap (λ (x : Reading). x .refusal) e ∙ refused-reading f y) y out
 
@@ -157,8 +158,8 @@ module _ (f : List ℕ) (p : Reading) (e : p ≡ reading-of f most-cells) where
     allowance-is : p .allowance ≡ al
     allowance-is = ap (λ (x : Reading). x .allowance) (e ∙ passed-reading f (passes f p e z)) ∙ plan-allowance f
 
-    written-is : (out out′ : List ℕ) (k : ℕ) → Put out 0 (outline (file-content f)) out′ k → length (outline (file-content f)) ≤ outline-size → outline-size ≤ length out → Outlines f out out′ (Written k)
-    unfolding outlined-of outlined-after size
+    written-is : (out out′ : List ℕ) (k : ℕ) → Put out 0 (outline (file-content f)) out′ k → length (outline (file-content f)) ≤ outline-size → outline-size ≤ length out → Outlining f out out′ (Written k)
+    unfolding outlined-by outlined-after size
     written-is out out′ k q m h =
         let (a, b) = put-front out (outline (file-content f)) out′ k q (omega arith) in
         record { answers = rw (eq-eqb (why f .number) 0 (passes f p e z), a) refl; output = rw (a, b) refl; suffices = omega (arith, a) }
@@ -171,7 +172,7 @@ module _ (f : List ℕ) (p : Reading) (e : p ≡ reading-of f most-cells) where
 
     pub outline-written : (letters′ out mid out′ : List ℕ) (a i k : ℕ) → letters′ ≡ take (trailer-of f .begin) f → a ≡ p .allowance → outline-size ≤ length out → Put out 0 (first-line a ++ (line-feed ∷ [])) mid i → i ≤ 31
         → Put mid i (lines-of (item-from (p .columns .parent) (p .columns .kind) (p .columns .width) (p .columns .depth) (p .columns .rank) (p .«label_length») (p .«label_start») letters′) (p .columns .count)) out′ k
-        → Outlines f out out′ (Written k)
+        → Outlining f out out′ (Written k)
     unfolding letters-of item-of text-of bare
     outline-written letters′ out mid out′ a i k q r h one low two =
         let first : Put out 0 (first-line al ++ (line-feed ∷ [])) mid i = rw (r ∙ allowance-is) at one in
@@ -188,3 +189,12 @@ module _ (f : List ℕ) (p : Reading) (e : p ≡ reading-of f most-cells) where
 
     pub outline-begin : trailer-of f .begin ≤ length f
     outline-begin = omega (arith, headed f (passes f p e z) .full .exact)
+
+-- ---- question 1
+pub outline-short : (f out : List ℕ) → length out < outline-size → Outlines f out out (Refused 1 0)
+unfolding outlined-of outlined-after size
+outline-short f out h = record { answers = rw (lt-leb outline-size (length out) h) refl; output = refl; suffices = omega arith }
+
+pub outline-roomy : (f out out′ : List ℕ) (d : Outlined) → outline-size ≤ length out → Outlining f out out′ d → Outlines f out out′ d
+unfolding outlined-of
+outline-roomy f out out′ d h r = record { answers = r .answers ∙ rw (le-leb outline-size (length out) h) refl; output = r .output; suffices = r .suffices }

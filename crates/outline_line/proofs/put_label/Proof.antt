@@ -3,10 +3,10 @@ use lib.ListN.{length, take, drop, length-drop}
 use lib.Seq.{length-take-le}
 use mathlib.Core.Path.{_≡_}
 use native.Mathlib.Omega.{arith}
-use Rattle.outline.specs.laws.Written.{label-none, label-put}
+use Rattle.outline_line.specs.laws.Written.{label-none, label-put}
 use borrow.Author.Needs.{needs}
-use Rattle.outline.proofs.put_label.Statement.{statement}
-use Rattle.outline.proofs.put_label.Tie as tie
+use Rattle.outline_line.proofs.put_label.Statement.{statement}
+use Rattle.outline_line.proofs.put_label.Tie as tie
 
 returns : tie.Need-returns
 returns c = (label-none _ _ _ _ (c .if1 .taken), omega arith)

@@ -1,8 +1,8 @@
 use native.Mathlib.Omega.{arith}
-use Rattle.outline.specs.laws.Written.{field-none, field-put}
+use Rattle.outline_line.specs.laws.Written.{field-none, field-put}
 use borrow.Author.Needs.{needs}
-use Rattle.outline.proofs.put_field.Statement.{statement}
-use Rattle.outline.proofs.put_field.Tie as tie
+use Rattle.outline_line.proofs.put_field.Statement.{statement}
+use Rattle.outline_line.proofs.put_field.Tie as tie
 
 returns : tie.Need-returns
 returns c = (field-none _ _ _ _ _ (c .if1 .taken), omega arith)

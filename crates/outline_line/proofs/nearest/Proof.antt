@@ -3,10 +3,10 @@ use native.Mathlib.Omega.{arith}
 use lib.ListN.{take, drop}
 use mathlib.Core.Path.{_≡_, refl, sym, _∙_}
 use Rattle.outline_spec.specs.Outline.{nearest, last-less}
-use Rattle.outline.specs.laws.Written.{less-start, less-more, less-end}
+use Rattle.outline_line.specs.laws.Written.{less-start, less-more, less-end}
 use borrow.Author.Needs.{needs}
-use Rattle.outline.proofs.nearest.Statement.{statement}
-use Rattle.outline.proofs.nearest.Tie as tie
+use Rattle.outline_line.proofs.nearest.Statement.{statement}
+use Rattle.outline_line.proofs.nearest.Tie as tie
 
 abbrev Inv-loop : tie.InvT-loop
 Inv-loop levels c level best₀ i₀ best i = (i ≤ c) × (nearest level (take c levels) ≡ last-less level i best (drop i (take c levels)))

@@ -4,10 +4,10 @@ use lib.Seq.{length-take-le}
 use lib.ListN.{length, take, drop, length-drop}
 use mathlib.Core.Path.{_≡_, refl, _∙_}
 use native.Mathlib.Omega.{arith}
-use Rattle.outline.specs.laws.Written.{put-length, line-put}
+use Rattle.outline_line.specs.laws.Written.{put-length, line-put}
 use borrow.Author.Needs.{needs}
-use Rattle.outline.proofs.put_cell.Statement.{statement}
-use Rattle.outline.proofs.put_cell.Tie as tie
+use Rattle.outline_line.proofs.put_cell.Statement.{statement}
+use Rattle.outline_line.proofs.put_cell.Tie as tie
 
 put-indent-requires : tie.Need-put-indent-requires
 put-indent-requires c κs = search needs

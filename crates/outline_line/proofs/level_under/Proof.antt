@@ -1,10 +1,10 @@
 use native.Mathlib.Numerals.{add-one}
 use mathlib.Core.Path.{sym, _∙_}
 use native.Mathlib.Omega.{arith}
-use Rattle.outline.specs.laws.Written.{under-lower, under-none}
+use Rattle.outline_line.specs.laws.Written.{under-lower, under-none}
 use borrow.Author.Needs.{needs}
-use Rattle.outline.proofs.level_under.Statement.{statement}
-use Rattle.outline.proofs.level_under.Tie as tie
+use Rattle.outline_line.proofs.level_under.Statement.{statement}
+use Rattle.outline_line.proofs.level_under.Tie as tie
 
 shared-slice-read-wide : tie.Need-shared-slice-read-wide
 shared-slice-read-wide c = search needs

@@ -1,8 +1,8 @@
 use native.Mathlib.Omega.{arith}
-use Rattle.outline.specs.laws.Written.{border-known, border-unknown}
+use Rattle.outline_line.specs.laws.Written.{border-known, border-unknown}
 use borrow.Author.Needs.{needs}
-use Rattle.outline.proofs.natural.Statement.{statement}
-use Rattle.outline.proofs.natural.Tie as tie
+use Rattle.outline_line.proofs.natural.Statement.{statement}
+use Rattle.outline_line.proofs.natural.Tie as tie
 
 about-requires : tie.Need-about-requires
 about-requires c κs = search needs

@@ -1,8 +1,8 @@
 use native.Mathlib.Omega.{arith}
-use Rattle.outline.specs.laws.Written.{word-none, word-put, word-empty, word-1, word-2, word-3, word-4, word-5}
+use Rattle.outline_line.specs.laws.Written.{word-none, word-put, word-empty, word-1, word-2, word-3, word-4, word-5}
 use borrow.Author.Needs.{needs}
-use Rattle.outline.proofs.put_word.Statement.{statement}
-use Rattle.outline.proofs.put_word.Tie as tie
+use Rattle.outline_line.proofs.put_word.Statement.{statement}
+use Rattle.outline_line.proofs.put_word.Tie as tie
 
 slice-aggregate-put-text : tie.Need-slice-aggregate-put-text
 slice-aggregate-put-text c = search needs

@@ -1,7 +1,7 @@
 use mathlib.Core.Path.{refl}
 use borrow.Author.Tests.{lt-ltb, le-ltb}
-use Rattle.outline.proofs.later.Statement.{statement}
-use Rattle.outline.proofs.later.Tie as tie
+use Rattle.outline_line.proofs.later.Statement.{statement}
+use Rattle.outline_line.proofs.later.Tie as tie
 
 returns : tie.Need-returns
 returns c = rw (lt-ltb _ _ (c .if1 .taken)) refl

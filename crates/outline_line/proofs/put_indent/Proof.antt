@@ -1,13 +1,13 @@
-use Rattle.outline.specs.laws.Written.{put-length}
+use Rattle.outline_line.specs.laws.Written.{put-length}
 use mathlib.Core.Path.{_≡_}
 use Prim.Native.Nat.{_-_, _≤_}
 use native.Mathlib.Omega.{arith}
 use Rattle.listing.specs.Put.{Put}
 use Rattle.outline_spec.specs.Outline.{indent}
-use Rattle.outline.specs.laws.Written.{indent-none, indent-put, indent-place}
+use Rattle.outline_line.specs.laws.Written.{indent-none, indent-put, indent-place}
 use borrow.Author.Needs.{needs}
-use Rattle.outline.proofs.put_indent.Statement.{statement}
-use Rattle.outline.proofs.put_indent.Tie as tie
+use Rattle.outline_line.proofs.put_indent.Statement.{statement}
+use Rattle.outline_line.proofs.put_indent.Tie as tie
 
 abbrev Inv-loop : tie.InvT-loop
 Inv-loop level out₀ at next₀ i₀ out next i = (i ≤ level) × Put out₀ at (indent i) out next
