@@ -22,7 +22,7 @@ extern "C" {
 #endif
 
 #define KUZPALEN_CELLS 256u           /* the most cells of a plan; the records that Read's, Join's and Report's tables need */
-#define KUZPALEN_SCRATCH 16384u       /* the numbers that the scratch of Layout, Frame, Start, Step, Reach and Report needs */
+#define KUZPALEN_SCRATCH 16384u       /* the numbers that the scratch of Layout, Frame, Mark, Start, Step, Reach and Report needs */
 #define KUZPALEN_SECOND 1024u         /* the numbers that the second scratch of Start, Step and Reach needs */
 #define KUZPALEN_LISTING_SIZE 17408u  /* the bytes that List's output needs, whatever the file */
 #define KUZPALEN_COPY_SIZE 16384u     /* the bytes that Copy's output needs, whatever the plan */
@@ -103,6 +103,22 @@ typedef struct {
     uint8_t outcome;       /* KUZPALEN_FRAME_ALLOWANCE or KUZPALEN_FRAME_NONE */
     uint32_t allowance;    /* 0 to 65535 with the first, else 0 */
 } kuzpalen_frame_answer;
+
+#define KUZPALEN_MARK_FULL 1u    /* Mark's outcome: it keeps the rules, and no placement that does is narrower; */
+#define KUZPALEN_MARK_WIDE 2u    /* it keeps the rules, and a narrower one was possible; */
+#define KUZPALEN_MARK_BROKEN 3u  /* a rule is broken. 0 with a refusal */
+
+typedef struct {
+    uint8_t number;
+    uint16_t cell;
+    uint8_t outcome;       /* one of the three above */
+    uint8_t rule;          /* with KUZPALEN_MARK_BROKEN rule and cells, as Check has them, else 0 */
+    uint16_t a;
+    uint16_t b;
+    uint32_t width;        /* of a drawing that keeps the rules, else 0 */
+    uint32_t least;        /* with KUZPALEN_MARK_WIDE the least width of all that keep them, else 0 */
+    uint32_t rows;         /* of a drawing that keeps the rules, else 0 */
+} kuzpalen_mark_answer;
 
 typedef struct {
     uint8_t number;
@@ -261,6 +277,17 @@ kuzpalen_list_answer kuzpalen_list(const uint8_t *file, size_t file_len,
  * costs at most 17 Layouts. */
 kuzpalen_frame_answer kuzpalen_frame(const kuzpalen_record *table, size_t table_len, uint32_t squares,
                                      uint32_t *scratch, size_t scratch_len);
+
+/* Mark: the mark of a drawing. It is full exactly where the positions keep S1 to S5 and no placement that
+ * keeps them, whole numbers of any size, is narrower; wide exactly where they keep them and the least width
+ * of all that do, `least`, is less than theirs; broken as Check has it. Positions and allowance as for Check,
+ * by the same questions; the positions are only read. `scratch_len` is at least KUZPALEN_SCRATCH, or
+ * question 1 refuses, before all others; the scratch is left as Layout leaves it, with each of the three.
+ * What Layout writes gets full marks at the same allowance. It costs a Check, and where that keeps the
+ * drawing a Layout. */
+kuzpalen_mark_answer kuzpalen_mark(const kuzpalen_record *table, size_t table_len,
+                                   const int32_t *positions, size_t positions_len, uint32_t allowance,
+                                   uint32_t *scratch, size_t scratch_len);
 
 /* Copy: the clean copy of a plan, from a table, label bytes and an allowance: the file with the labels in the
  * order of the cells, back to back, none shared and no byte unused; an empty label's start is where a next

@@ -158,6 +158,27 @@ static int steps_good(const kuzpalen_record *table, uint32_t *scratch) {
         && kuzpalen_reach(table, 3, 0, scratch, KUZPALEN_SCRATCH, second, KUZPALEN_SECOND, 3).number == 16;
 }
 
+/* Sheet B, the drawing G that is wide by 1, and H that is broken, marked. */
+static int marks_good(const kuzpalen_record *table, uint32_t *scratch) {
+    int32_t p[6] = {0, 0, -4, 2, 0, 2};
+    scratch[0] = 7;
+    kuzpalen_mark_answer full = kuzpalen_mark(table, 3, p, 6, 0, scratch, KUZPALEN_SCRATCH);
+    int good = full.number == 0 && full.cell == 0 && full.outcome == KUZPALEN_MARK_FULL && full.rule == 0 && full.width == 9
+        && full.least == 0 && full.rows == 4 && scratch[0] == 0;
+    p[2] = -5;
+    kuzpalen_mark_answer wide = kuzpalen_mark(table, 3, p, 6, 0, scratch, KUZPALEN_SCRATCH);
+    good = good && wide.number == 0 && wide.outcome == KUZPALEN_MARK_WIDE && wide.width == 10 && wide.least == 9 && wide.rows == 4;
+    p[2] = -3;
+    scratch[0] = 7;
+    kuzpalen_mark_answer broken = kuzpalen_mark(table, 3, p, 6, 0, scratch, KUZPALEN_SCRATCH);
+    good = good && broken.number == 0 && broken.outcome == KUZPALEN_MARK_BROKEN && broken.rule == 3 && broken.a == 1 && broken.b == 2
+        && broken.width == 0 && broken.least == 0 && broken.rows == 0 && scratch[0] == 0;
+    scratch[0] = 7;
+    return good && kuzpalen_mark(table, 3, p, 6, 0, scratch, KUZPALEN_SCRATCH - 1).number == 1
+        && kuzpalen_mark(table, 3, p, 5, 0, scratch, KUZPALEN_SCRATCH).number == 1
+        && kuzpalen_mark(table, 3, p, 6, 65536, scratch, KUZPALEN_SCRATCH).number == 14 && scratch[0] == 7;
+}
+
 /* The printed example's report, and pools. */
 static int folder_good(void) {
     static uint32_t numbers[KUZPALEN_SCRATCH];
@@ -208,7 +229,7 @@ int main(void) {
     good = good && join.number == 11 && join.cell == 2 && join.count == 0
         && kuzpalen_join(table, 3, table, 3, 3, joined, KUZPALEN_CELLS).number == 16
         && kuzpalen_join(table, 3, table, 3, 0, joined, KUZPALEN_CELLS - 1).number == 1;
-    good = good && steps_good(table, scratch);
+    good = good && steps_good(table, scratch) && marks_good(table, scratch);
     table[1].rank = 1; /* cell 2 comes before cell 1, which the run hangs from */
     laid = kuzpalen_layout(table, 3, 0, scratch, KUZPALEN_SCRATCH, p, 6);
     good = good && laid.number == 0 && laid.width == 10 && p[2] == 0 && p[4] == -6;

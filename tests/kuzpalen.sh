@@ -92,6 +92,34 @@ target/bin/mend "$work/wanted.plan" < "$work/cramped.plan" > "$work/wanted"
 run 0 "$work/wanted" "" mend "$work/cramped.plan" "$work/mended.plan"
 same_files "what mend writes" "$work/wanted.plan" "$work/mended.plan"
 
+# the reason of a width, and the frame that a sheet fits
+printf 'why 13 3 25 4\n2 3 S3 3 3\n3 4 S3 10 13\n4 11 S4 1 14\n11 12 S3 9 23\n12 W 2 25\n' > "$work/wanted"
+run 0 "$work/wanted" "" why plans/F-3.plan
+echo "allowance 3 width 25 rows 10" > "$work/wanted"
+run 0 "$work/wanted" "" frame plans/F-3.plan 25
+target/bin/frame_program 1 < plans/F-3.plan > "$work/wanted"
+same "a frame that nothing fits" none "$(cut -d ' ' -f 1 "$work/wanted")"
+run 0 "$work/wanted" "" frame plans/F-3.plan 1
+echo "refused 19 0" > "$work/wanted"
+run 1 "$work/wanted" "" frame plans/F-3.plan 0
+# two plans joined
+target/bin/join_program plans/printed.plan 0 plans/B.plan "$work/wanted.plan"
+run 0 "$work/empty" "" join plans/printed.plan 0 plans/B.plan "$work/joined.plan"
+same_files "what join writes" "$work/wanted.plan" "$work/joined.plan"
+same "the joined plan's first line" "sheet 6 0" "$(./kuzpalen sheet "$work/joined.plan" | head -n 1 | cut -d ' ' -f 1-3)"
+echo before > "$work/kept"
+for case in "first|$work/short.plan 0 plans/B.plan|2 0" "second|plans/B.plan 0 $work/short.plan|2 0" "|plans/printed.plan 7 plans/B.plan|16 0" "|plans/printed.plan 1 plans/B.plan|11 1"; do
+    IFS='|' read -r which arguments refusal <<< "$case"
+    echo "${which:+$which }refused $refusal" > "$work/wanted"
+    run 1 "$work/wanted" "" join $arguments "$work/kept"
+    same "what join leaves of a file where a plan is refused" before "$(cat "$work/kept")"
+done
+run 2 "$work/empty" "kuzpalen: plans/printed.plan: the cell is a number" join plans/printed.plan x plans/B.plan "$work/kept"
+run 2 "$work/empty" "kuzpalen: $work/none.plan: there is no such file" join "$work/none.plan" 0 plans/B.plan "$work/kept"
+run 2 "$work/empty" "kuzpalen: $work: is a folder" join plans/B.plan 0 "$work" "$work/kept"
+run 2 "$work/empty" "kuzpalen: join: the two plans cannot both be standard input" join - 0 - "$work/kept"
+run 2 "$work/empty" "kuzpalen: plans/F-3.plan: the frame is a number of squares" frame plans/F-3.plan x
+
 # ---- a plan on standard input
 cp plans/B.plan "$work/in"
 run 0 plans/B.txt "" sheet -
@@ -129,7 +157,7 @@ tests/on_terminal.py "$work/out" ./kuzpalen sheet $(for i in {1..100}; do echo p
 same "how far sheet is, on a terminal" "kuzpalen: 100 of 100 plans" "$(cat "$work/err")"
 tests/on_terminal.py "$work/out" ./kuzpalen folder $(for i in {1..100}; do echo plans/A.plan; done) > "$work/err"
 same "how far folder is, on a terminal" "folder: 100 of 100 files" "$(cat "$work/err")"
-for command in sheet clean plot strip turns folder drill; do
+for command in sheet why clean plot strip turns folder drill; do
     run 2 "$work/empty" "kuzpalen: $work/none.plan: there is no such file" $command "$work/none.plan"
     run 2 "$work/empty" "kuzpalen: $work: is a folder" $command "$work"
     ./kuzpalen $command - <&- > "$work/out" 2> "$work/err"
@@ -139,21 +167,25 @@ for command in sheet clean plot strip turns folder drill; do
     ./kuzpalen $command plans/A.plan - < "$work" > "$work/out" 2> "$work/err"
     same "status of $command, an input that fails" 2 $?
 done
-for command in sheet clean plot strip turns; do
+for command in sheet why clean plot strip turns; do
     tests/cut_input.py plans/printed.plan ./kuzpalen $command - > "$work/out" 2> "$work/err"
     same "status of $command, an input that fails behind a plan" 2 $?
     same_files "output of $command, an input that fails behind a plan" "$work/empty" "$work/out"
     same "what is said of $command, an input that fails behind a plan" "kuzpalen: standard input: the plan cannot be read" "$(cat "$work/err")"
 done
-for command in "drill plans/pond.plan" "folder -" "drill - $work/empty"; do
+for command in "drill plans/pond.plan" "folder -" "drill - $work/empty" "frame - 9" "mend - $work/new.plan" "join - 0 plans/A.plan $work/new.plan" "mark - plans/A.txt" "mark plans/A.plan -"; do
     tests/cut_input.py plans/printed.plan ./kuzpalen $command > "$work/out" 2> "$work/err"
     same "status of $command, an input that fails behind a plan" 2 $?
     same_files "output of $command, an input that fails behind a plan" "$work/empty" "$work/out"
     same "lines on standard error of $command, an input that fails behind a plan" 1 "$(wc -l < "$work/err")"
 done
-for command in clean strip turns; do run 2 "$work/empty" "kuzpalen: $command takes PLAN" $command plans/A.plan plans/B.plan; done
-for command in clean strip turns; do run 2 "$work/empty" "kuzpalen: $command takes PLAN" $command; done
+for command in clean strip turns why; do run 2 "$work/empty" "kuzpalen: $command takes PLAN" $command plans/A.plan plans/B.plan; done
+for command in clean strip turns why; do run 2 "$work/empty" "kuzpalen: $command takes PLAN" $command; done
 run 2 "$work/empty" "kuzpalen: mend takes PLAN OUT" mend plans/A.plan
+run 2 "$work/empty" "kuzpalen: frame takes PLAN SQUARES" frame plans/A.plan
+run 2 "$work/empty" "kuzpalen: frame takes PLAN SQUARES" frame plans/A.plan 1 2
+run 2 "$work/empty" "kuzpalen: join takes FIRST CELL SECOND OUT" join plans/A.plan 0 plans/B.plan
+run 2 "$work/empty" "kuzpalen: mark takes PLAN DRAWING..." mark plans/A.plan
 run 2 "$work/empty" "kuzpalen: drill takes PLAN [ANSWERS]" drill plans/A.plan "$work/empty" "$work/empty"
 run 2 "$work/empty" "kuzpalen: plot takes PLAN [PITCH [MARGIN-X [MARGIN-Y]]]" plot plans/A.plan 1 2 3 4
 run 2 "$work/empty" "kuzpalen: sheet takes PLAN..." sheet
@@ -163,12 +195,25 @@ run 2 "$work/empty" "kuzpalen: drill: the plan and the answers cannot both be st
 run 2 "$work/empty" "kuzpalen: there is no command draw; ./kuzpalen help lists them" draw plans/A.plan
 # the second file of mend: a folder, a device, a link, a folder that is not there
 ln -s "$work/kept" "$work/link"
-for out in "$work" /dev/null "$work/link"; do run 2 "$work/empty" "kuzpalen: $out: is no regular file, and is not replaced" mend plans/A.plan "$out"; done
+for out in "$work" /dev/null "$work/link"; do
+    run 2 "$work/empty" "kuzpalen: $out: is no regular file, and is not replaced" mend plans/A.plan "$out"
+    run 2 "$work/empty" "kuzpalen: $out: is no regular file, and is not replaced" join plans/printed.plan 0 plans/B.plan "$out"
+done
 same "the file behind a link" before "$(cat "$work/kept")"
+# what a run that was cut off left is removed, and told; what a run that goes on has is left alone
+gone="$(sh -c 'echo $$')"
+printf 'half' > "$work/mended.plan.unfinished-$gone"
+printf 'half' > "$work/mended.plan.unfinished-$$"
+printf 'other' > "$work/mended.plan.unfinished-notes"
+run 0 "$work/empty" "kuzpalen: $work/mended.plan.unfinished-$gone: left by a run that was cut off, removed" mend plans/A.plan "$work/mended.plan"
+same "what is left beside the mended plan" "mended.plan mended.plan.unfinished-$$ mended.plan.unfinished-notes" "$(cd "$work" && echo mended.plan*)"
+rm "$work/mended.plan.unfinished-$$" "$work/mended.plan.unfinished-notes"
 run 2 "$work/empty" "kuzpalen: plans/A.plan: the file could not be written" mend plans/A.plan "$work/none/out.plan"
+run 2 "$work/empty" "kuzpalen: plans/printed.plan: the file could not be written" join plans/printed.plan 0 plans/B.plan "$work/none/out.plan"
+run 2 "$work/empty" "kuzpalen: plans/printed.plan: the file could not be written" join plans/printed.plan 0 plans/B.plan /proc/out.plan
 run 2 "$work/empty" "kuzpalen: plans/A.plan: the file could not be written" mend plans/A.plan /proc/out.plan     # a folder where nothing can be written
 # an output that cannot be written: a full device, a closed one, a pipe that nobody reads
-for command in sheet clean plot strip turns folder; do
+for command in sheet why clean plot strip turns folder; do
     ./kuzpalen $command plans/full.plan > /dev/full 2> "$work/err"
     same "status of $command to a full device" 2 $?
     same "lines on standard error of $command to a full device" 1 "$(wc -l < "$work/err")"
@@ -197,7 +242,7 @@ same "what a signal leaves behind" "" "$(ls "$work/temporary")"
 # ---- help: every command with an example, each of which runs
 ./kuzpalen help > "$work/out"
 same "status of help" 0 $?
-for command in sheet frame clean mend join plot strip drill folder turns; do
+for command in sheet why mark frame clean mend join plot strip drill folder turns; do
     same "help names $command" 1 "$(grep -c "^kuzpalen $command " "$work/out")"
     ./kuzpalen help $command > "$work/one"
     same "lines of help $command" 3 "$(wc -l < "$work/one")"

@@ -1,5 +1,6 @@
 #!/usr/bin/env python3
-"""Kills the program `mend` at random moments, some hundred times, with and without a second file there before: afterwards that file is absent, as it was, or whole.
+"""Kills the program `mend` at random moments, some hundred times, with and without a second file there before: afterwards that file is absent, as it was, or whole,
+and beside it there is nothing, or one file that says by its name what it is, second.unfinished-PID, with the first bytes of the mended one.
 
     tests/mend_killed.py PROGRAM PLAN MENDED
 """
@@ -19,6 +20,7 @@ def main():
     whole = open(mended, 'rb').read()
     chance = random.Random(20261116)
     seen = {'absent': 0, 'as it was': 0, 'whole': 0}
+    leftovers = 0
     with tempfile.TemporaryDirectory() as folder:
         second = os.path.join(folder, 'second')
         # within this many seconds a run is killed: longer where runs were killed before their end, shorter where they got there
@@ -36,6 +38,12 @@ def main():
                 pass
             child.kill()
             child.wait()
+            leftover = f'second.unfinished-{child.pid}'
+            beside = [name for name in os.listdir(folder) if name != 'second']
+            if beside and (beside != [leftover] or not whole.startswith(open(os.path.join(folder, leftover), 'rb').read())):
+                print(f'tests/mend_killed.py: killed in run {number}, it left {beside}')
+                return 1
+            leftovers += len(beside)
             found = open(second, 'rb').read() if os.path.exists(second) else None
             if found == whole:
                 seen['whole'] += 1
@@ -46,7 +54,7 @@ def main():
             else:
                 print(f'tests/mend_killed.py: killed in run {number}, the second file is {found!r}')
                 return 1
-    print(f'mend, killed {TIMES} times:', ', '.join(f'{n} {what}' for what, n in seen.items()))
+    print(f'mend, killed {TIMES} times:', ', '.join(f'{n} {what}' for what, n in seen.items()) + f'; {leftovers} left over')
     if not seen['whole'] or not seen['absent'] or not seen['as it was']:
         print('tests/mend_killed.py: one of the three was never seen')
         return 1

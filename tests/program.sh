@@ -147,6 +147,10 @@ for program in sheet clean plot strip turns; do
     same "standard error of $program, an input that fails" "$program: the plan cannot be read" "$(cat "$work/err")"
     same_files "output of $program, an input that fails" "$work/empty" "$work/out"
 done
+tests/cut_input.py plans/printed.plan target/bin/mend "$work/mended" > "$work/out" 2> "$work/err"
+same "standard error of mend, an input that fails" "mend: the plan cannot be read" "$(cat "$work/err")"
+same_files "output of mend, an input that fails" "$work/empty" "$work/out"
+same "what mend writes of an input that fails" "absent" "$([ -e "$work/mended" ] && echo there || echo absent)"
 printf '\0\1\1' > "$work/answers"
 tests/cut_input.py "$work/answers" "$drill" plans/pond.plan > "$work/out" 2> "$work/err"
 same "standard error of drill, answers that fail" "drill: the answers cannot be read" "$(cat "$work/err")"
@@ -175,6 +179,7 @@ same_files "the drawing of plans/pond.plan" docs/pond.svg "$work/out"
 same_files "standard error of plot" "$work/empty" "$work/err"
 "$plot" 2 10 0.5 < plans/B.plan > "$work/out"
 same "the drawing of sheet B" '<svg xmlns="http://www.w3.org/2000/svg" width="38.000mm" height="9.000mm" viewBox="0 0 38.000 9.000">
+<rect width="100%" height="100%" fill="white"/>
 <g fill="none" stroke="black" stroke-width="0.35" stroke-linejoin="round">
 <path d="M18.000 0.500L26.000 0.500L26.000 2.500L18.000 2.500L18.000 0.500"/>
 <path d="M10.000 4.500L16.000 4.500L16.000 6.500L10.000 6.500L10.000 4.500"/>
@@ -189,8 +194,9 @@ same "the drawing of sheet B" '<svg xmlns="http://www.w3.org/2000/svg" width="38
 drawn() {
     set -- "$1" "$2" $3
     same "the drawing of sheet A, $1" "<svg xmlns=\"http://www.w3.org/2000/svg\" width=\"$5mm\" height=\"$8mm\" viewBox=\"0 0 $5 $8\">
+<rect width=\"100%\" height=\"100%\" fill=\"white\"/>
 <g fill=\"none\" stroke=\"black\" stroke-width=\"0.35\" stroke-linejoin=\"round\">
-<path d=\"M$3 $6L$4 $6L$4 $7L$3 $7L$3 $6\"/>" "$("$plot" $2 < plans/A.plan | head -n 3)"
+<path d=\"M$3 $6L$4 $6L$4 $7L$3 $7L$3 $6\"/>" "$("$plot" $2 < plans/A.plan | head -n 4)"
 }
 drawn "without arguments" "" "10.000 30.000 40.000 10.000 14.000 28.000"
 drawn "one digit after the point" "1.5" "10.000 17.500 27.500 10.000 11.500 23.000"

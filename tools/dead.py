@@ -15,7 +15,7 @@ from antt import Graph, antt_files, rt_files, Module
 ROOT = os.path.dirname(os.path.dirname(os.path.abspath(__file__)))
 # laws that hold a definition fast in its own crate: a must-fail edit is refused by them
 KEEP = {'separation-least', 'appointed-half', 'appointed-choice', 'appointed-within', 'rows-plan', 'value-decimal', 'only-stretch', 'one-no', 'read-then-label', 'read-then-layout',
-        'child-before', 'child-tie', 'children-level', 'children-only', 'limits', 'no-nan', 'edges', 'left-least', 'left-reached', 'rows'}
+        'child-before', 'child-tie', 'children-level', 'children-only', 'limits', 'no-nan', 'edges', 'left-least', 'left-reached', 'rows', 'unfinished-spelled', 'modes-told'}
 
 
 def main():

@@ -20,6 +20,9 @@ use Rattle.printing.specs.declared.Listed.the-variants.{Text, Refused as Unlist
 use Rattle.fitting.specs.Fitted.{Frames}
 use Rattle.fitting.specs.declared.Fitted.{Fitted}
 use Rattle.fitting.specs.declared.Fitted.the-variants.{Allowance, None, Refused as Unfitted}
+use Rattle.mark_spec.specs.Marked.{Marks}
+use Rattle.mark_spec.specs.declared.Marked.{Marked}
+use Rattle.mark_spec.specs.declared.Marked.the-variants.{Full as FullMarks, Wide, Broken as BrokenMark, Refused as Unmarked}
 use Rattle.copying.specs.Copied.{Copies}
 use Rattle.copying.specs.declared.Copied.{Copied}
 use Rattle.copying.specs.declared.Copied.the-variants.{Written, Refused as Uncopied}
@@ -52,6 +55,7 @@ use Rattle.answers.specs.declared.CheckAnswer.{CheckAnswer}
 use Rattle.answers.specs.declared.EndsAnswer.{EndsAnswer}
 use Rattle.answers.specs.declared.ListAnswer.{ListAnswer}
 use Rattle.answers.specs.declared.FrameAnswer.{FrameAnswer}
+use Rattle.answers.specs.declared.MarkAnswer.{MarkAnswer}
 use Rattle.answers.specs.declared.MendAnswer.{MendAnswer}
 use Rattle.answers.specs.declared.CopyAnswer.{CopyAnswer}
 use Rattle.answers.specs.declared.StrokeAnswer.{StrokeAnswer}
@@ -96,6 +100,13 @@ unfoldable pub frame-answer : Fitted → FrameAnswer
 frame-answer (Allowance a) = record { number = 0; cell = 0; outcome = 1; allowance = a }
 frame-answer None = record { number = 0; cell = 0; outcome = 2; allowance = 0 }
 frame-answer (Unfitted k c) = record { number = k; cell = c; outcome = 0; allowance = 0 }
+
+-- outcome 1 for full marks, 2 for "wide", 3 for "broken"
+unfoldable pub mark-answer : Marked → MarkAnswer
+mark-answer (FullMarks w h) = record { number = 0; cell = 0; outcome = 1; rule = 0; a = 0; b = 0; width = w; least = 0; rows = h }
+mark-answer (Wide w l h) = record { number = 0; cell = 0; outcome = 2; rule = 0; a = 0; b = 0; width = w; least = l; rows = h }
+mark-answer (BrokenMark r a b) = record { number = 0; cell = 0; outcome = 3; rule = r; a = a; b = b; width = 0; least = 0; rows = 0 }
+mark-answer (Unmarked k c) = record { number = k; cell = c; outcome = 0; rule = 0; a = 0; b = 0; width = 0; least = 0; rows = 0 }
 
 unfoldable pub copy-answer : Copied → CopyAnswer
 copy-answer (Written n) = record { number = 0; cell = 0; length = n }
@@ -150,6 +161,12 @@ pub record Framing (t : Table) (squares : ℕ) (s s′ : List ℕ) (r : FrameAns
   pub fitted : Fitted
   pub frames : Frames t squares s s′ fitted
   pub answers : r ≡ frame-answer fitted
+
+-- a call of Mark, as `Marks` has it, with the struct for its answer
+pub record Marking (t : Table) (ps : List ℤ) (al : ℕ) (s s′ : List ℕ) (r : MarkAnswer) : Type 0 where
+  pub marked : Marked
+  pub marks : Marks t ps al s s′ marked
+  pub answers : r ≡ mark-answer marked
 
 -- a call of Copy, as `Copies` has it, with the struct for its answer
 pub record CopyFilling (rs : List Record) (letters : List ℕ) (al : ℕ) (out out′ : List ℕ) (r : CopyAnswer) : Type 0 where

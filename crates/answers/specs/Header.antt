@@ -16,6 +16,8 @@ use Rattle.printing.specs.declared.Listed.{Listed}
 use Rattle.printing.specs.declared.Listed.the-variants.{Text, Refused as Unlisted}
 use Rattle.fitting.specs.declared.Fitted.{Fitted}
 use Rattle.fitting.specs.declared.Fitted.the-variants.{Allowance, None, Refused as Unfitted}
+use Rattle.mark_spec.specs.declared.Marked.{Marked}
+use Rattle.mark_spec.specs.declared.Marked.the-variants.{Full as FullMarks, Wide, Broken as BrokenMark, Refused as Unmarked}
 use Rattle.copying.specs.declared.Copied.{Copied}
 use Rattle.copying.specs.declared.Copied.the-variants.{Written, Refused as Uncopied}
 use Rattle.mending.specs.declared.Mended.{Mended}
@@ -45,6 +47,7 @@ use Rattle.answers.specs.declared.CheckAnswer.{CheckAnswer}
 use Rattle.answers.specs.declared.EndsAnswer.{EndsAnswer}
 use Rattle.answers.specs.declared.ListAnswer.{ListAnswer}
 use Rattle.answers.specs.declared.FrameAnswer.{FrameAnswer}
+use Rattle.answers.specs.declared.MarkAnswer.{MarkAnswer}
 use Rattle.answers.specs.declared.CopyAnswer.{CopyAnswer}
 use Rattle.answers.specs.declared.MendAnswer.{MendAnswer}
 use Rattle.answers.specs.declared.StrokeAnswer.{StrokeAnswer}
@@ -55,7 +58,7 @@ use Rattle.answers.specs.declared.StartAnswer.{StartAnswer}
 use Rattle.answers.specs.declared.StepAnswer.{StepAnswer}
 use Rattle.answers.specs.declared.ReachAnswer.{ReachAnswer}
 use Rattle.answers.specs.declared.ReportAnswer.{ReportAnswer}
-use Rattle.answers.specs.Answers.{read-answer, laid-answer, check-answer, ends-answer, list-answer, frame-answer, copy-answer, mend-answer, pen-answer, stroke-answer, strip-answer, join-answer, drill-answer, start-answer, step-answer, reach-answer, report-answer}
+use Rattle.answers.specs.Answers.{read-answer, laid-answer, check-answer, ends-answer, list-answer, frame-answer, mark-answer, copy-answer, mend-answer, pen-answer, stroke-answer, strip-answer, join-answer, drill-answer, start-answer, step-answer, reach-answer, report-answer}
 
 -- ---- the rows
 
@@ -77,6 +80,9 @@ listing r = (r .number, r .cell, r .length)
 
 abbrev pub frame : FrameAnswer → ℕ × ℕ × ℕ × ℕ
 frame r = (r .number, r .cell, r .outcome, r .allowance)
+
+abbrev pub mark : MarkAnswer → ℕ × ℕ × ℕ × ℕ × ℕ × ℕ × ℕ × ℕ × ℕ
+mark r = (r .number, r .cell, r .outcome, r .rule, r .a, r .b, r .width, r .least, r .rows)
 
 abbrev pub copy : CopyAnswer → ℕ × ℕ × ℕ
 copy r = (r .number, r .cell, r .length)
@@ -115,7 +121,7 @@ report r = (r .number, r .cell, folder (r .report))
 abbrev pub double : ℕ → Float
 double = ofBits binary64
 
--- an answer, then the struct. 8 3 is a refusal by question 8 at cell 3; the codes are the header's KUZPALEN_FRAME_, STROKE_, DRILL_ and STEP_ constants
+-- an answer, then the struct. 8 3 is a refusal by question 8 at cell 3; the codes are the header's KUZPALEN_FRAME_, MARK_, STROKE_, DRILL_ and STEP_ constants
 pub rows :
     (read (read-answer (Plan 9 4)) ≡ (0, 0, 4, 9))
     × (read (read-answer (Unread 8 3)) ≡ (8, 3, 0, 0))
@@ -131,6 +137,10 @@ pub rows :
     × (frame (frame-answer (Allowance 9)) ≡ (0, 0, 1, 9))
     × (frame (frame-answer None) ≡ (0, 0, 2, 0))
     × (frame (frame-answer (Unfitted 8 3)) ≡ (8, 3, 0, 0))
+    × (mark (mark-answer (FullMarks 9 4)) ≡ (0, 0, 1, 0, 0, 0, 9, 0, 4))
+    × (mark (mark-answer (Wide 9 7 4)) ≡ (0, 0, 2, 0, 0, 0, 9, 7, 4))
+    × (mark (mark-answer (BrokenMark 5 6 7)) ≡ (0, 0, 3, 5, 6, 7, 0, 0, 0))
+    × (mark (mark-answer (Unmarked 8 3)) ≡ (8, 3, 0, 0, 0, 0, 0, 0, 0))
     × (copy (copy-answer (Written 9)) ≡ (0, 0, 9))
     × (copy (copy-answer (Uncopied 8 3)) ≡ (8, 3, 0))
     × (mend (mend-answer (Mending 9 4)) ≡ (0, 0, 9, 4))
@@ -157,8 +167,8 @@ pub rows :
     × (reach (reach-answer (Unreached 8 3)) ≡ (8, 3, 0, 0))
     × (report (report-answer (Figures (record { plans = 1; cells = 2; widths = 3; areas = 4; least = 5; greatest = 6; mean = 7; rest = 9 }))) ≡ (0, 0, (1, 2, 3, 4, 5, 6, 7, 9)))
     × (report (report-answer (Unreported 8 3)) ≡ (8, 3, (0, 0, 0, 0, 0, 0, 0, 0)))
-unfolding read-answer laid-answer check-answer ends-answer list-answer frame-answer copy-answer mend-answer pen-answer stroke-answer strip-answer join-answer drill-answer start-answer step-answer reach-answer report-answer nothing
-rows = (refl, refl, refl, refl, refl, refl, refl, refl, refl, refl, refl, refl, refl, refl, refl, refl, refl, refl, refl, refl, refl, refl, refl, refl, refl, refl, refl, refl, refl, refl, refl, refl, refl, refl, refl, refl, refl, refl, refl, refl)
+unfolding read-answer laid-answer check-answer ends-answer list-answer frame-answer mark-answer copy-answer mend-answer pen-answer stroke-answer strip-answer join-answer drill-answer start-answer step-answer reach-answer report-answer nothing
+rows = (refl, refl, refl, refl, refl, refl, refl, refl, refl, refl, refl, refl, refl, refl, refl, refl, refl, refl, refl, refl, refl, refl, refl, refl, refl, refl, refl, refl, refl, refl, refl, refl, refl, refl, refl, refl, refl, refl, refl, refl, refl, refl, refl, refl)
 
 -- ---- what a struct says: first whether it is a refusal, then by its code which case, then the fields of the case
 
@@ -196,6 +206,9 @@ said-list r = said Unlisted (r .number) (r .cell) 1 (Text (r .length) ∷ [])
 
 abbrev pub said-frame : FrameAnswer → Option Fitted
 said-frame r = said Unfitted (r .number) (r .cell) (r .outcome) (Allowance (r .allowance) ∷ None ∷ [])
+
+abbrev pub said-mark : MarkAnswer → Option Marked
+said-mark r = said Unmarked (r .number) (r .cell) (r .outcome) (FullMarks (r .width) (r .rows) ∷ Wide (r .width) (r .least) (r .rows) ∷ BrokenMark (r .rule) (r .a) (r .b) ∷ [])
 
 abbrev pub said-copy : CopyAnswer → Option Copied
 said-copy r = said Uncopied (r .number) (r .cell) 1 (Written (r .length) ∷ [])

@@ -16,6 +16,7 @@ use Rattle.answers.specs.declared.ReadAnswer.{ReadAnswer}
 use Rattle.answers.specs.declared.LayoutAnswer.{LayoutAnswer}
 use Rattle.answers.specs.declared.ListAnswer.{ListAnswer}
 use Rattle.answers.specs.declared.FrameAnswer.{FrameAnswer}
+use Rattle.answers.specs.declared.MarkAnswer.{MarkAnswer}
 use Rattle.answers.specs.declared.CopyAnswer.{CopyAnswer}
 use Rattle.answers.specs.declared.MendAnswer.{MendAnswer}
 use Rattle.answers.specs.declared.StripAnswer.{StripAnswer}
@@ -25,8 +26,8 @@ use Rattle.answers.specs.declared.StartAnswer.{StartAnswer}
 use Rattle.answers.specs.declared.StepAnswer.{StepAnswer}
 use Rattle.answers.specs.declared.ReachAnswer.{ReachAnswer}
 use Rattle.answers.specs.declared.ReportAnswer.{ReportAnswer}
-use Rattle.answers.specs.Answers.{check-answer, ends-answer, stroke-answer, report-answer, Filling, Laying, ListFilling, Framing, CopyFilling, MendFilling, Stripping, Joining, Drilling, Starting, Stepping, Reaching, Reporting}
-use Rattle.answers.specs.Header.{said-read, said-layout, said-check, said-ends, said-list, said-frame, said-copy, said-mend, said-stroke, said-strip, said-join, said-drill, said-start, said-step, said-reach, said-report}
+use Rattle.answers.specs.Answers.{check-answer, ends-answer, stroke-answer, report-answer, Filling, Laying, ListFilling, Framing, Marking, CopyFilling, MendFilling, Stripping, Joining, Drilling, Starting, Stepping, Reaching, Reporting}
+use Rattle.answers.specs.Header.{said-read, said-layout, said-check, said-ends, said-list, said-frame, said-mark, said-copy, said-mend, said-stroke, said-strip, said-join, said-drill, said-start, said-step, said-reach, said-report}
 use Rattle.answers.specs.laws.Promised as laws
 
 pub read-says : {f : List ℕ} {t t′ : List Record} {r : ReadAnswer} (c : Filling f t t′ r) → said-read r ≡ some (c .read)
@@ -46,6 +47,9 @@ list-says c = laws.list-says c
 
 pub frame-says : {t : Table} {squares : ℕ} {s s′ : List ℕ} {r : FrameAnswer} (c : Framing t squares s s′ r) → said-frame r ≡ some (c .fitted)
 frame-says c = laws.frame-says c
+
+pub mark-says : {t : Table} {ps : List ℤ} {al : ℕ} {s s′ : List ℕ} {r : MarkAnswer} (c : Marking t ps al s s′ r) → said-mark r ≡ some (c .marked)
+mark-says c = laws.mark-says c
 
 pub copy-says : {rs : List Record} {letters : List ℕ} {al : ℕ} {out out′ : List ℕ} {r : CopyAnswer} (c : CopyFilling rs letters al out out′ r) → said-copy r ≡ some (c .copied)
 copy-says c = laws.copy-says c

@@ -8,6 +8,7 @@ use finishing_step::Stepped;
 use fitting::Fitted;
 use following::Drilled;
 use layout::Laid;
+use mark_spec::Marked;
 use mending::Mended;
 use pen::Stroke;
 use plan::Refusal;
@@ -16,7 +17,7 @@ use season::Report;
 use season::Reported;
 use strokes::Stroked;
 ghost use mathlib.Core.Path.{_≡_};
-ghost use Rattle.answers.specs.Answers.{«read-answer», «laid-answer», «check-answer», «ends-answer», «list-answer», «frame-answer», «copy-answer», «mend-answer», «pen-answer», «stroke-answer», «strip-answer», «join-answer», «drill-answer», «start-answer», «step-answer», «reach-answer», «report-answer»};
+ghost use Rattle.answers.specs.Answers.{«read-answer», «laid-answer», «check-answer», «ends-answer», «list-answer», «frame-answer», «mark-answer», «copy-answer», «mend-answer», «pen-answer», «stroke-answer», «strip-answer», «join-answer», «drill-answer», «start-answer», «step-answer», «reach-answer», «report-answer»};
 
 // Number and cell of the refusal, or 0 and 0; the number of cells and the allowance.
 #[repr(C)]
@@ -298,6 +299,72 @@ pub fn told_frame(answer: Fitted) -> FrameAnswer
             cell,
             outcome: 0,
             allowance: 0,
+        },
+    }
+}
+
+// Number and cell of the refusal, or 0 and 0; 1 full marks, 2 wide, 3 broken; rule and cells of the last; width and rows of a drawing that is kept, the least width of one that is wide.
+#[repr(C)]
+pub struct MarkAnswer {
+    pub number: u8,
+    pub cell: u16,
+    pub outcome: u8,
+    pub rule: u8,
+    pub a: u16,
+    pub b: u16,
+    pub width: u32,
+    pub least: u32,
+    pub rows: u32,
+}
+
+// The answer of Mark as a struct.
+pub fn told_mark(answer: Marked) -> MarkAnswer
+    ensures { λ r. ⌜ r ≡ mark-answer answer ⌝ }
+{
+    match answer {
+        Marked::Full(width, rows) => MarkAnswer {
+            number: 0,
+            cell: 0,
+            outcome: 1,
+            rule: 0,
+            a: 0,
+            b: 0,
+            width,
+            least: 0,
+            rows,
+        },
+        Marked::Wide(width, least, rows) => MarkAnswer {
+            number: 0,
+            cell: 0,
+            outcome: 2,
+            rule: 0,
+            a: 0,
+            b: 0,
+            width,
+            least,
+            rows,
+        },
+        Marked::Broken(rule, a, b) => MarkAnswer {
+            number: 0,
+            cell: 0,
+            outcome: 3,
+            rule,
+            a,
+            b,
+            width: 0,
+            least: 0,
+            rows: 0,
+        },
+        Marked::Refused(number, cell) => MarkAnswer {
+            number,
+            cell,
+            outcome: 0,
+            rule: 0,
+            a: 0,
+            b: 0,
+            width: 0,
+            least: 0,
+            rows: 0,
         },
     }
 }

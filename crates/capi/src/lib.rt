@@ -9,6 +9,7 @@ use answers::LabelAnswer;
 use answers::LabelPart;
 use answers::LayoutAnswer;
 use answers::ListAnswer;
+use answers::MarkAnswer;
 use answers::MendAnswer;
 use answers::ReachAnswer;
 use answers::ReadAnswer;
@@ -25,6 +26,7 @@ use answers::told_frame;
 use answers::told_join;
 use answers::told_layout;
 use answers::told_list;
+use answers::told_mark;
 use answers::told_mend;
 use answers::told_reach;
 use answers::told_read;
@@ -42,7 +44,7 @@ ghost use Rattle.planfile_spec.specs.Reading.{«label-refusal», «label-part»
 ghost use Rattle.checker.specs.Checked.{«checked-of»};
 ghost use Rattle.ends.specs.Ended.{«ended-of»};
 ghost use Rattle.strokes.specs.Stroked.{«stroked-of»};
-ghost use Rattle.answers.specs.Answers.{«check-answer», «ends-answer», «stroke-answer», Filling, Laying, ListFilling, Framing, CopyFilling, MendFilling, Stripping, Joining, Drilling, Starting, Stepping, Reaching, Reporting, «report-answer»};
+ghost use Rattle.answers.specs.Answers.{«check-answer», «ends-answer», «stroke-answer», Filling, Laying, ListFilling, Framing, Marking, CopyFilling, MendFilling, Stripping, Joining, Drilling, Starting, Stepping, Reaching, Reporting, «report-answer»};
 ghost use Rattle.season.specs.Pool.{pool};
 
 #[no_mangle]
@@ -119,6 +121,19 @@ pub extern "C" fn kuzpalen_frame(table: &[Record], squares: u32, scratch: &mut [
 {
     let answer = frame_entry::frame(table, squares, scratch);
     told_frame(answer)
+}
+
+#[no_mangle]
+pub extern "C" fn kuzpalen_mark(
+    table: &[Record],
+    positions: &[i32],
+    allowance: u32,
+    scratch: &mut [u32],
+) -> MarkAnswer
+    ensures { λ r. ⌜ Marking (cells-of (now (table .entry))) (now (positions .entry)) allowance (now (scratch .entry)) (now (scratch .exit)) r ⌝ }
+{
+    let answer = mark_entry::mark(table, positions, allowance, scratch);
+    told_mark(answer)
 }
 
 #[no_mangle]

@@ -1,5 +1,5 @@
 -- THE THREE DEMANDS AT THE CALLS: statements only; each proof is one name. A reader needs the definitions of crate plan (sequence, puts, holds), of crate
--- rules (placement, S1 to S5, verdict), `sheet`, what each call answers (Reads, Lays, checked-of, ended-of, Labels, label-of and label-refusal, Lists, Frames, Copies, Mends, Strips, Joins, Drills with the moves of crate moves, Starts, Steps, Reaches with After, Reports with Answered and accepted) and Outcomes. Every call's
+-- rules (placement, S1 to S5, verdict), `sheet`, what each call answers (Reads, Lays, checked-of, ended-of, Labels, label-of and label-refusal, Lists, Frames, Marks with Narrowest, FullWith and WideBy, Copies, Mends, Strips, Joins, Drills with the moves of crate moves, Starts, Steps, Reaches with After, Reports with Answered and accepted) and Outcomes. Every call's
 -- contract is one of those, so what is said of them is said of what the call answers and leaves in the lent buffers. Assumes nothing.
 use mathlib.Core.Path.{_≡_, refl}
 use mathlib.Core.List.{List, [], _∷_, _++_, map}
@@ -137,6 +137,14 @@ use Rattle.finishing.specs.After.{After, counted}
 use Rattle.finishing.specs.laws.After as after
 use Rattle.finishing_order.specs.laws.Promised as finishing
 use Rattle.demands.specs.laws.Making as making
+use Rattle.plan.specs.Questions.{mark, mark-given}
+use Rattle.mark_spec.specs.Marked.{Marks}
+use Rattle.mark_spec.specs.Promises.{Narrowest, FullWith, WideBy, IsFull, IsWide, IsBroken, IsRefused, OneOf}
+use Rattle.mark_spec.specs.Promised as marking
+use Rattle.mark_spec.specs.Worked as marks
+use Rattle.mark_spec.specs.declared.Marked.{Marked}
+use Rattle.mark_spec.specs.declared.Marked.the-variants as marked
+use Rattle.demands.specs.laws.Mark as marking-laws
 
 -- ==== DEMAND 1: A CALL REFUSES BY THE FIRST "NO"
 -- The refusal is number k at cell c exactly where a question of that number, at that cell, is the first "no" of the sequence.
@@ -330,6 +338,58 @@ frame-least = fitting.allowance-least
 -- ◆E and ◆F in frames, the questions included.
 pub frame-worked : frames.Rows
 frame-worked = frames-laws.worked
+
+-- ==== THE MARK OF A DRAWING: full marks exactly where nothing narrower was possible
+module _ (t : Table) (ps : List ℤ) (al : ℕ) (s s′ : List ℕ) (r : Marked) (g : Marks t ps al s s′ r) where
+  -- Exactly one of the four answers, on every input.
+  pub mark-one : OneOf (IsFull r) (IsWide r) (IsBroken r) (IsRefused r)
+  mark-one = marking.one-answer t ps al s s′ r g
+
+  -- A refusal is answered by its number and cell, and leaves the scratch as it was.
+  pub mark-refuses : ¬ (refusal mark (mark-given t ps al (length s)) .number ≡ 0)
+      → (r ≡ marked.Refused (refusal mark (mark-given t ps al (length s)) .number) (refusal mark (mark-given t ps al (length s)) .cell)) × (s′ ≡ s)
+  mark-refuses = marking.mark-refuses t ps al s s′ r g
+
+  -- Where no question refuses:
+  module _ (z : refusal mark (mark-given t ps al (length s)) ≡ none) where
+    -- full marks exactly where the drawing keeps S1 to S5 and no placement that keeps them, whole numbers of any size, is narrower,
+    pub full-marks : IsFull r ↔ Narrowest t (placed ps) al
+    full-marks = marking.full-marks t ps al s s′ r g z
+
+    -- with its width and its rows,
+    pub full-with : (w h : ℕ) → (r ≡ marked.Full w h) ↔ FullWith t (placed ps) al w h
+    full-with = marking.full-with t ps al s s′ r g z
+
+    -- "wide" exactly where it keeps them, is w wide, and l < w is the least width of all that keep them,
+    pub wide-by : (w l h : ℕ) → (r ≡ marked.Wide w l h) ↔ WideBy t (placed ps) al w l h
+    wide-by = marking.wide-by t ps al s s′ r g z
+
+    -- "broken" exactly where that is the lowest rule and pair broken, as Check has it,
+    pub mark-broken : (k a b : ℕ) → (r ≡ marked.Broken k a b) ↔ Breaks t (placed ps) al k a b
+    mark-broken = marking.broken-by t ps al s s′ r g z
+
+    -- and the scratch is left as Layout leaves it, with "broken" too.
+    pub mark-clears : s′ ≡ replicate scratch-size 0 ++ drop scratch-size s
+    mark-clears = marking.mark-clears t ps al s s′ r g z
+
+-- So of every placement exactly one of four is so, and is answered: it is refused; or it is not, and is as narrow as the rules permit, or keeps them and is wider, or breaks one.
+pub mark-exactly : (t : Table) (ps : List ℤ) (al : ℕ) (s : List ℕ) → OneOf ((refusal mark (mark-given t ps al (length s)) ≡ none) × Narrowest t (placed ps) al)
+    ((refusal mark (mark-given t ps al (length s)) ≡ none) × (w : ℕ) × (l : ℕ) × (h : ℕ) × WideBy t (placed ps) al w l h)
+    ((refusal mark (mark-given t ps al (length s)) ≡ none) × (k : ℕ) × (a : ℕ) × (b : ℕ) × Breaks t (placed ps) al k a b) (¬ (refusal mark (mark-given t ps al (length s)) .number ≡ 0))
+mark-exactly = marking-laws.exactly
+
+-- It refuses what Check refuses, where the scratch is long enough.
+pub mark-as-check : (t : Table) (ps : List ℤ) (al s : ℕ) → scratch-size ≤ s → refusal mark (mark-given t ps al s) ≡ refusal check (check-given t al ps)
+mark-as-check = marking-laws.as-check
+
+-- What Layout writes gets full marks at the same allowance, with Layout's width and rows.
+pub layout-full : (t : Table) (al : ℕ) (s s′ : List ℕ) (ps ps′ : List ℤ) (w h : ℕ) → Lays t al s s′ ps ps′ (Sheet w h)
+    → (v v′ : List ℕ) (r : Marked) → Marks t ps′ al v v′ r → scratch-size ≤ length v → r ≡ marked.Full w h
+layout-full = marking-laws.layout-full
+
+-- The worked sheets, marked: ours full, ◆G wide by 1, ◆H, ◆I and ◆J broken.
+pub mark-worked : map marks.gives sheets ≡ marks.due
+mark-worked = marking.worked
 
 -- ==== THE CLEAN COPY of a table with its label bytes, at an allowance (document 02, E4)
 -- A refusal is answered by its number and cell, and leaves the output as it was.

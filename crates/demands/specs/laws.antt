@@ -7,5 +7,7 @@ pub mod Report
 pub mod WorkedCalls
 pub mod Copy
 pub mod Making
+pub mod Mark
 pub mod Between
 pub mod Prints
+pub mod Why

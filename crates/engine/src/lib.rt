@@ -6,6 +6,7 @@ pub use join_entry::join;
 pub use label_entry::label;
 pub use label_entry::label_refusal;
 pub use layout_entry::layout;
+pub use mark_entry::mark;
 pub use mending::mend;
 pub use printing::list;
 pub use read_entry::ReadAnswer;

@@ -15,12 +15,15 @@ ghost use mathlib.Core.Bool.{cond};
 ghost use Prim.Native.Nat.{suc, _+_, _-_, _≤_};
 ghost use lib.Dec.{T};
 ghost use lib.ListN.{length, replicate};
+ghost use lib.IntN.{pos};
 ghost use Rattle.plan.specs.Limits.{scratch-size, most-allowance};
 ghost use Rattle.plan.specs.Plan.{row};
 ghost use Rattle.plan.specs.Fit.{Fit};
 ghost use Rattle.plan.specs.Trees.{Column};
 ghost use Rattle.plan.specs.Columns.{table-of};
 ghost use Rattle.plan.specs.Questions.{refusal, frame, frame-given};
+ghost use Rattle.rules.specs.Placement.{width};
+ghost use Rattle.contours.specs.Sheet.{sheet};
 ghost use Rattle.least.specs.Frame.{fits, least-allowance, found};
 ghost use Rattle.layout.specs.Laid.{Placeable};
 ghost use Rattle.fitting.specs.Fitted.{told, Frames};
@@ -48,7 +51,7 @@ fn frame_refusal(t: Columns, squares: u32, scratch: usize) -> Refusal
 }
 
 // The row of each cell.
-fn tops_of(t: Columns) -> [u16; MOST_CELLS]
+pub fn tops_of(t: Columns) -> [u16; MOST_CELLS]
     requires { ⌜ Fit (table-of t) ⌝ }
     ensures { λ r. ⌜ Column r (t .count) (row (table-of t)) ⌝ }
 {
@@ -66,7 +69,16 @@ fn tops_of(t: Columns) -> [u16; MOST_CELLS]
     tops
 }
 
-// Whether the sheet for this allowance is no wider than the frame, over a scratch of zeros. No position is written.
+// The width of the sheet for this allowance, over a scratch of zeros. No position is written.
+pub fn width_at(t: Columns, tops: &[u16; MOST_CELLS], allowance: u32, scratch: &mut [u32]) -> u32
+    requires { ⌜ Placeable t (now tops) (now scratch) ⌝ }
+    ensures { λ r. ⌜ (pos r ≡ width (table-of t) (sheet (table-of t) allowance)) × (now (scratch .exit) ≡ replicate scratch-size 0) ⌝ }
+{
+    let xs = place(t, tops, allowance, scratch);
+    sheet_width(&xs, &t.width, t.count)
+}
+
+// Whether it is no wider than the frame.
 fn fits(
     t: Columns,
     tops: &[u16; MOST_CELLS],
@@ -77,8 +89,7 @@ fn fits(
     requires { ⌜ Placeable t (now tops) (now scratch) ⌝ }
     ensures { λ r. ⌜ (r ≡ fits (table-of t) squares allowance) × (now (scratch .exit) ≡ replicate scratch-size 0) ⌝ }
 {
-    let xs = place(t, tops, allowance, scratch);
-    sheet_width(&xs, &t.width, t.count) <= squares
+    width_at(t, tops, allowance, scratch) <= squares
 }
 
 // How many allowances there are, from 0 on.

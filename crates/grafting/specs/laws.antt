@@ -1,3 +1,4 @@
 pub mod Asked
 pub mod Grafted
 pub mod Joins
+pub mod Made

@@ -8,7 +8,7 @@ use Prim.Native.Nat.{ℕ}
 use lib.IntN.{ℤ}
 use Rattle.plan.specs.Plan.{Table}
 use Rattle.plan.specs.declared.Page.{Page}
-use Rattle.plan.specs.Questions.{Buffer, to-fill, scratch, copy-output, lines-output, Lent, absent, long, Label, Given, Question, buffers-long, file-sized, file-marked, cells-counted, positions-long, letters-printable, parent-lower, kind-known, box-sized, label-inside, label-fits, children-allowed, level-low, rows-few, frame-wide, allowance-small, coordinates-near, cell-named, page-fair, stroke-numbered, answers-few, cell-finished, number, Step, once, each, sequence, Call, read, label, layout, check, ends, list, frame, copy, mend, stroke, strip, drill, start, step, reach, report, kept, layout-given, check-given, ends-given, list-given, frame-given, copy-given, stroke-given, strip-given, drill-given, start-given, step-given, reach-given}
+use Rattle.plan.specs.Questions.{Buffer, to-fill, scratch, copy-output, lines-output, Lent, absent, long, Label, Given, Question, buffers-long, file-sized, file-marked, cells-counted, positions-long, letters-printable, parent-lower, kind-known, box-sized, label-inside, label-fits, children-allowed, level-low, rows-few, frame-wide, allowance-small, coordinates-near, cell-named, page-fair, stroke-numbered, answers-few, cell-finished, number, Step, once, each, sequence, Call, read, label, layout, check, ends, list, frame, copy, mend, stroke, strip, drill, start, step, reach, report, mark, kept, layout-given, check-given, ends-given, list-given, frame-given, copy-given, stroke-given, strip-given, drill-given, start-given, step-given, reach-given, mark-given}
 
 -- whether there is a buffer, and whether there are positions, to put question 1 to
 unfoldable pub some-buffer : List Buffer → Bool
@@ -95,6 +95,8 @@ pub record Rows : Type 0 where
   pub of-reach : (t : Table) (al s m : ℕ) (finished : List ℕ) (c : ℕ) → asks reach (reach-given t al s m finished c) ≡ 1 ∷ 4 ∷ 6 ∷ 7 ∷ 8 ∷ 11 ∷ 12 ∷ 13 ∷ 14 ∷ 16 ∷ 20 ∷ []
   -- E14: Read's, with Layout's scratch and positions
   pub of-report : (g : Given) (m s p : ℕ) → g .buffers ≡ to-fill m ∷ scratch s ∷ [] → g .positions ≡ long p → asks report g ≡ 1 ∷ 2 ∷ 3 ∷ 4 ∷ 1 ∷ 5 ∷ 6 ∷ 7 ∷ 8 ∷ 9 ∷ 10 ∷ 11 ∷ 12 ∷ 13 ∷ 14 ∷ []
+  -- an examiner's mark: Layout's scratch, then Check's questions
+  pub of-mark : (t : Table) (ps : List ℤ) (al s : ℕ) → asks mark (mark-given t ps al s) ≡ 1 ∷ 4 ∷ 1 ∷ 6 ∷ 7 ∷ 8 ∷ 11 ∷ 12 ∷ 13 ∷ 14 ∷ 15 ∷ []
   -- "For each record in turn, 6 to 10"; 11, 12, 13, 15 and 20 each of all cells before the next number. Of a lent table, 6 to 8 in turn
   pub by-cell : (g : Given) → cell-by-cell g sequence ≡ (6 ∷ 7 ∷ 8 ∷ 9 ∷ 10 ∷ []) ∷ (11 ∷ []) ∷ (12 ∷ []) ∷ (13 ∷ []) ∷ (15 ∷ []) ∷ (20 ∷ []) ∷ []
   pub by-cell-lent : (g : Given) → cell-by-cell g (kept layout sequence) ≡ (6 ∷ 7 ∷ 8 ∷ []) ∷ (11 ∷ []) ∷ (12 ∷ []) ∷ (13 ∷ []) ∷ []

@@ -148,6 +148,7 @@ pub data Call : Type 0 where
   drill : Call
   start step reach : Call
   report : Call
+  mark : Call
 
 -- the numbers of the questions that a call puts
 unfoldable pub puts : Call → List ℕ
@@ -169,6 +170,8 @@ puts start = 1 ∷ 4 ∷ 6 ∷ 7 ∷ 8 ∷ 11 ∷ 12 ∷ 13 ∷ 14 ∷ []
 puts step = 1 ∷ 4 ∷ 6 ∷ 7 ∷ 8 ∷ 11 ∷ 12 ∷ 13 ∷ 14 ∷ []
 puts reach = 1 ∷ 4 ∷ 6 ∷ 7 ∷ 8 ∷ 11 ∷ 12 ∷ 13 ∷ 14 ∷ 16 ∷ 20 ∷ []
 puts report = from 1 14
+-- an examiner's mark: Check's, behind Layout's scratch
+puts mark = 1 ∷ 4 ∷ 6 ∷ 7 ∷ 8 ∷ 11 ∷ 12 ∷ 13 ∷ 14 ∷ 15 ∷ []
 
 -- those of the questions that a call puts
 unfoldable pub put : Call → List Question → List Question
@@ -438,3 +441,8 @@ step-given t al s m p =
 unfoldable pub reach-given : Table → (allowance scratch second : ℕ) → (finished : List ℕ) → (asked-for : ℕ) → Given
 reach-given t al s m finished c =
     record { source = lent; table = t; allowance = al; buffers = scratch s ∷ second-scratch m ∷ []; positions = absent; coordinates = []; subject = reach-of finished c }
+
+-- what an examiner's mark is given: a table, the positions of a drawing, an allowance and a scratch
+unfoldable pub mark-given : Table → (positions : List ℤ) → (allowance scratch : ℕ) → Given
+mark-given t ps al s =
+    record { source = lent; table = t; allowance = al; buffers = scratch s ∷ []; positions = long (length ps); coordinates = ps; subject = nothing }

@@ -40,6 +40,14 @@ pub enum Verdict {
     Broken { rule: u8, a: u16, b: u16 },
 }
 
+/// The mark of a drawing: full, or wide with the least width that there is, or broken.
+#[derive(Clone, Copy, Debug, PartialEq, Eq)]
+pub enum Mark {
+    Full(Sheet),
+    Wide { sheet: Sheet, least: u32 },
+    Broken { rule: u8, a: u16, b: u16 },
+}
+
 #[derive(Clone, Copy, Debug, PartialEq, Eq)]
 pub struct Ends {
     pub from: (i32, i32),
@@ -189,6 +197,20 @@ mod raw {
 
     #[repr(C)]
     #[derive(Debug, Default, PartialEq)]
+    pub struct MarkAnswer {
+        pub number: u8,
+        pub cell: u16,
+        pub outcome: u8,
+        pub rule: u8,
+        pub a: u16,
+        pub b: u16,
+        pub width: u32,
+        pub least: u32,
+        pub rows: u32,
+    }
+
+    #[repr(C)]
+    #[derive(Debug, Default, PartialEq)]
     pub struct CopyAnswer {
         pub number: u8,
         pub cell: u16,
@@ -307,6 +329,15 @@ mod raw {
             scratch: *mut u32,
             scratch_len: usize,
         ) -> FrameAnswer;
+        pub fn kuzpalen_mark(
+            table: *const Record,
+            table_len: usize,
+            positions: *const i32,
+            positions_len: usize,
+            allowance: u32,
+            scratch: *mut u32,
+            scratch_len: usize,
+        ) -> MarkAnswer;
         pub fn kuzpalen_copy(
             table: *const Record,
             table_len: usize,
@@ -525,6 +556,44 @@ pub fn frame(table: &[Record], squares: u32, scratch: &mut [u32]) -> Result<Opti
         code => unknown(code),
     });
     exactly!(r, answer, FrameAnswer, a => { outcome: if a.is_some() { FRAME_ALLOWANCE } else { FRAME_NONE }, allowance: a.unwrap_or(0) });
+    answer
+}
+
+/// Mark's outcomes (include/kuzpalen.h).
+const MARK_FULL: u8 = 1;
+const MARK_WIDE: u8 = 2;
+const MARK_BROKEN: u8 = 3;
+
+/// Mark: full marks where nothing narrower was possible; scratch as Layout's.
+pub fn mark(table: &[Record], positions: &[i32], allowance: u32, scratch: &mut [u32]) -> Result<Mark, Refusal> {
+    // SAFETY: the pointers are good for their lengths, and the one that is written shares nothing.
+    let r = unsafe {
+        raw::kuzpalen_mark(
+            table.as_ptr(),
+            table.len(),
+            positions.as_ptr(),
+            positions.len(),
+            allowance,
+            scratch.as_mut_ptr(),
+            scratch.len(),
+        )
+    };
+    let sheet = Sheet { width: r.width, rows: r.rows };
+    let answer = unless(r.number, r.cell, || match r.outcome {
+        MARK_FULL => Mark::Full(sheet),
+        MARK_WIDE => Mark::Wide { sheet, least: r.least },
+        MARK_BROKEN => Mark::Broken { rule: r.rule, a: r.a, b: r.b },
+        code => unknown(code),
+    });
+    let header = match answer {
+        Ok(Mark::Full(s)) => raw::MarkAnswer { outcome: MARK_FULL, width: s.width, rows: s.rows, ..Default::default() },
+        Ok(Mark::Wide { sheet, least }) => {
+            raw::MarkAnswer { outcome: MARK_WIDE, width: sheet.width, least, rows: sheet.rows, ..Default::default() }
+        }
+        Ok(Mark::Broken { rule, a, b }) => raw::MarkAnswer { outcome: MARK_BROKEN, rule, a, b, ..Default::default() },
+        Err(_) => raw::MarkAnswer::default(),
+    };
+    exactly!(r, answer, MarkAnswer, _ => { outcome: header.outcome, rule: header.rule, a: header.a, b: header.b, width: header.width, least: header.least, rows: header.rows });
     answer
 }
 

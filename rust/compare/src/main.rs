@@ -272,6 +272,59 @@ impl Run {
         }
     }
 
+    fn mark(&mut self, rng: &mut Rng, cells: &[Cell], positions: &[i32], allowance: u32) {
+        let scratch = if rng.once_in(60) { SCRATCH - 1 - rng.index(2) } else { SCRATCH + rng.index(3) * rng.index(40) };
+        let mut theirs = vec![rng.next() as u32; scratch];
+        let at_end = rng.once_in(2);
+        let ours = self.rooms.scratch.lend(&theirs, at_end);
+        let table = self.rooms.table.lend(&records(cells), at_end);
+        let lent = self.rooms.positions.lend(positions, at_end);
+        let measure = |s: bindings::Sheet| reference::Measure { width: s.width, rows: s.rows };
+        let got = bindings::mark(table, lent, allowance, ours)
+            .map(|m| match m {
+                bindings::Mark::Full(sheet) => reference::Mark::Full(measure(sheet)),
+                bindings::Mark::Wide { sheet, least } => reference::Mark::Wide { measure: measure(sheet), least },
+                bindings::Mark::Broken { rule, a, b } => reference::Mark::Broken { rule: rule as u32, a: a as u32, b: b as u32 },
+            })
+            .map_err(|r| Refusal { number: r.number as u32, cell: r.cell as u32 });
+        let (ours, table, lent) = (ours.to_vec(), table.to_vec(), lent.to_vec());
+        let expected = reference::mark(cells, positions, allowance, &mut theirs);
+        let input = (allowance, scratch, positions, cells);
+        self.same("Mark's answer", &got, &expected, &input);
+        self.same("the scratch after Mark", &ours, &theirs, &input);
+        self.same("the buffers after Mark", &(lent.as_slice(), table), &(positions, records(cells)), &input);
+        if matches!(expected, Err(Refusal { number: 1, .. })) && scratch >= SCRATCH {
+            self.note("Mark", "positions too few");
+        }
+        if let Ok(reference::Mark::Wide { measure, least }) = expected {
+            self.note("Mark", if measure.width - least == 1 { "wide by 1" } else { "wide by more" });
+        }
+        self.note_widths("Mark", cells, &expected);
+        self.note_coordinates("Mark", positions, cells.len(), &expected);
+        let answer = match expected {
+            Ok(reference::Mark::Full(_)) => "full".into(),
+            Ok(reference::Mark::Wide { .. }) => "wide".into(),
+            Ok(reference::Mark::Broken { rule, .. }) => format!("broken S{rule}"),
+            Err(r) => format!("refused {:2}", r.number),
+        };
+        if expected.is_ok() {
+            self.note_ranks("Mark", cells, &answer);
+        }
+        self.count("Mark", answer);
+    }
+
+    /// Our sheet, any placement, one that is kept and mostly wider, and ours with one unit moved.
+    fn marks(&mut self, rng: &mut Rng, cells: &[Cell], ours: &[i32], foreign: &[i32], allowance: u32) {
+        self.mark(rng, cells, ours, allowance);
+        self.mark(rng, cells, foreign, allowance);
+        if reference::check(cells, ours, allowance).is_ok() {
+            let wider = make::kept(rng, cells, allowance);
+            self.mark(rng, cells, &wider, allowance);
+            let (beside, ..) = make::one_off(rng, cells, &ours[..2 * cells.len()]);
+            self.mark(rng, cells, &beside, allowance);
+        }
+    }
+
     /// A few strokes of a sheet on one page, the last one and the number after it among them, bit by bit.
     fn strokes(&mut self, rng: &mut Rng, cells: &[Cell], positions: &[i32]) {
         let page = make::page(rng);
@@ -919,7 +972,7 @@ impl Run {
         }
     }
 
-    /// A table, valid or damaged, through Layout, Check, Ends, Strip, Frame, Drill, the steps of a sheet that is being made and the rest that take one.
+    /// A table, valid or damaged, through Layout, Check, Ends, Strip, Frame, Mark, Drill, the steps of a sheet that is being made and the rest that take one.
     fn a_table(&mut self, rng: &mut Rng) {
         let widest = rng.once_in(1_000);
         let mut cells = match () {
@@ -982,6 +1035,10 @@ impl Run {
         if rng.once_in(100) {
             let (plan, answers) = near_full(rng);
             self.drill(rng, &plan, &answers);
+        }
+        // A mark is a verdict and, of what is kept, a sheet, which of a large plan take the reference long.
+        if rng.once_in(if cells.len() <= 60 { 2 } else { 8 }) {
+            self.marks(rng, &cells, &ours, &foreign, allowance);
         }
         // A step costs the reference nothing, but the copies of both scratches cost time.
         if rng.once_in(40) {
@@ -1421,7 +1478,7 @@ fn some_table(rng: &mut Rng) -> Vec<Cell> {
 /// The answers that each call can give: all must have been seen in a long run.
 fn unseen(seen: &Seen) -> Vec<String> {
     let mut all: Vec<(&str, String)> = Vec::new();
-    let refusals: [(&str, &[u32]); 18] = [
+    let refusals: [(&str, &[u32]); 19] = [
         ("Read", &[1, 2, 3]),
         ("Label", &[2, 3]),
         ("Layout", &[1, 4, 6, 7, 8, 11, 12, 13, 14]),
@@ -1429,6 +1486,7 @@ fn unseen(seen: &Seen) -> Vec<String> {
         ("Ends", &[1, 4, 6, 7, 8, 11, 12, 13, 15, 16]),
         ("List", &[1]),
         ("Frame", &[1, 4, 6, 7, 8, 11, 12, 13, 19]),
+        ("Mark", &[1, 4, 6, 7, 8, 11, 12, 13, 14, 15]),
         ("Copy", &[1, 4, 5, 6, 7, 8, 9, 10, 11, 12, 13, 14]),
         ("Mend", &[1, 2, 3]),
         ("Stroke", &[1, 4, 6, 7, 8, 11, 12, 13, 15, 17, 18]),
@@ -1468,6 +1526,8 @@ fn unseen(seen: &Seen) -> Vec<String> {
     }
     all.push(("Check", "kept".into()));
     all.extend((1..=5).map(|s| ("Check", format!("broken S{s}"))));
+    all.extend(["full", "wide", "wide by 1", "wide by more", "positions too few"].map(|a| ("Mark", a.into())));
+    all.extend((1..=5).map(|s| ("Mark", format!("broken S{s}"))));
     for what in ["cell", "sub-diagram", "later brother"] {
         all.extend(["up", "down"].map(|way| ("One off", format!("{what} {way} broken S1"))));
         for way in ["left", "right"] {
@@ -1500,15 +1560,16 @@ fn unseen(seen: &Seen) -> Vec<String> {
     }
     all.extend(["pitch 0.25", "pitch 16", "margin 0", "margin -0", "margin 100"].map(|a| ("Stroke", format!("{a} fair"))));
     all.extend(["pitch below 0.25", "pitch above 16", "pitch infinite", "margin above 100", "margin below -0", "margin infinite", "NaN"].map(|a| ("Stroke", format!("{a} unfair"))));
-    for call in ["Read", "Layout", "Check", "Ends", "Frame", "Copy", "Stroke", "Strip"] {
+    for call in ["Read", "Layout", "Check", "Ends", "Frame", "Mark", "Copy", "Stroke", "Strip"] {
         all.extend([255, 256, 1_023, 1_024].map(|w| (call, format!("width {w}"))));
     }
-    for call in ["Check", "Ends", "Stroke", "Strip"] {
+    for call in ["Check", "Ends", "Mark", "Stroke", "Strip"] {
         all.extend([262_143, 262_144, -262_143, -262_144].map(|x| (call, format!("at {x}"))));
     }
     for ranks in ["moved", "turned", "tied"] {
         all.extend([("Read", "read"), ("Layout", "laid"), ("Frame", "framed"), ("Copy", "copied")].map(|(c, a)| (c, format!("ranks {ranks} {a}"))));
         all.extend(["kept", "broken S1", "broken S2", "broken S3"].map(|a| ("Check", format!("ranks {ranks} {a}"))));
+        all.extend(["full", "wide"].map(|a| ("Mark", format!("ranks {ranks} {a}"))));
     }
     all.extend([4, 5].map(|s| ("Check", format!("ranks moved broken S{s}"))));
     for table in ["first", "second"] {

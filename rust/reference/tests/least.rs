@@ -29,6 +29,7 @@ fn search(t: &[Cell], allowance: u32, window: i64) -> usize {
     let mut p: Vec<i32> = (0..n).flat_map(|c| [if c == 0 { 0 } else { first as i32 }, plan.row[c] as i32]).collect();
     let mut kept = 0;
     let mut ours_found = false;
+    let mut narrowest = u32::MAX;
     loop {
         for c in (1..n).filter(|&c| appointed(c)) {
             p[2 * c] = p[2 * plan.father[c].unwrap()];
@@ -38,6 +39,7 @@ fn search(t: &[Cell], allowance: u32, window: i64) -> usize {
             let pairs: Vec<(i64, i64)> = (0..n).map(|c| (p[2 * c] as i64, p[2 * c + 1] as i64)).collect();
             ours_found |= pairs == ours;
             assert!(found.width >= m.width && found.rows == m.rows, "{t:?} {allowance} {p:?}");
+            narrowest = narrowest.min(found.width);
             for c in 0..n {
                 let r = reaches(&plan, &pairs, c);
                 assert!(r.0 >= least[c].0 && r.1 >= least[c].1, "{t:?} {allowance} {p:?}");
@@ -51,6 +53,9 @@ fn search(t: &[Cell], allowance: u32, window: i64) -> usize {
         }
     }
     assert!(ours_found, "our sheet is outside the window: {t:?} {allowance}");
+    // Full marks are for the narrowest of them.
+    let drawn: Vec<i32> = ours.iter().flat_map(|&(x, y)| [x as i32, y as i32]).collect();
+    assert_eq!(mark(t, &drawn, allowance, &mut vec![9; SCRATCH]), Ok(Mark::Full(Measure { width: narrowest, rows: m.rows })));
     kept
 }
 

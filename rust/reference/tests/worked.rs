@@ -92,6 +92,25 @@ fn g_to_j() {
 }
 
 #[test]
+fn marks() {
+    let marked = |t: &[Cell], p: &[i32], allowance| mark(t, p, allowance, &mut vec![9; SCRATCH]);
+    let b = table(&[0, 0], &[4, 3, 5]);
+    let wide = Mark::Wide { measure: Measure { width: 10, rows: 4 }, least: 9 };
+    assert_eq!(marked(&b, &[0, 0, -4, 2, 0, 2], 0), Ok(Mark::Full(Measure { width: 9, rows: 4 })));
+    assert_eq!(marked(&b, &[0, 0, -5, 2, 0, 2], 0), Ok(wide));
+    assert_eq!(marked(&b, &[0, 0, -3, 2, 0, 2], 0), Ok(Mark::Broken { rule: 3, a: 1, b: 2 }));
+    let e = table(&[0, 0, 2, 2], &[2, 6, 2, 3, 2]);
+    assert_eq!(marked(&e, &laid(&e, 4).0, 0), Ok(Mark::Broken { rule: 5, a: 1, b: 3 }));
+    // The sheet for a smaller allowance is kept, and wider than it had to be.
+    assert_eq!(marked(&e, &laid(&e, 0).0, 4), Ok(Mark::Wide { measure: Measure { width: 13, rows: 6 }, least: 9 }));
+    let mut scratch = vec![9; SCRATCH];
+    assert_eq!(mark(&b, &[0; 6], 0, &mut scratch[1..]), Err(Refusal { number: 1, cell: 0 }));
+    assert_eq!(mark(&b, &[0; 5], 0, &mut scratch), Err(Refusal { number: 1, cell: 0 }));
+    assert_eq!(mark(&b, &[0; 6], 65_536, &mut scratch), Err(Refusal { number: 14, cell: 0 }));
+    assert!(scratch.iter().all(|&n| n == 9));
+}
+
+#[test]
 fn each_half_of_s3_decides() {
     let (p, m) = laid(&table(&[0, 0, 1], &[2, 1, 1, 9]), 200);
     assert_eq!((xs(&p), m.width), (vec![0, -10, 0, -10], 12));

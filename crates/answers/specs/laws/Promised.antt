@@ -1,11 +1,11 @@
 -- For Promised: a refusal with its number, and what is answered otherwise, each said by its struct. Nothing that a reader must believe stands here. Assumes nothing.
 use mathlib.Core.Path.{_≡_, refl, sym, ap, _∙_, subst}
 use mathlib.Core.List.{List}
-use mathlib.Core.Bool.{cond}
+use mathlib.Core.Bool.{Bool, true, false, cond}
 use mathlib.Core.Option.{Option, some}
 use Prim.Native.Nat.{ℕ, zero, suc, _≤_}
 use native.Mathlib.Omega.{arith}
-use lib.Dec.{eqb, eqb·suc-zero}
+use lib.Dec.{eqb, leb, eqb·suc-zero}
 use lib.IntN.{ℤ}
 use lib.ListN.{length, getD}
 use Rattle.plan.specs.Plan.{Table, cells}
@@ -20,6 +20,7 @@ use Rattle.answers.specs.declared.ReadAnswer.{ReadAnswer}
 use Rattle.answers.specs.declared.LayoutAnswer.{LayoutAnswer}
 use Rattle.answers.specs.declared.ListAnswer.{ListAnswer}
 use Rattle.answers.specs.declared.FrameAnswer.{FrameAnswer}
+use Rattle.answers.specs.declared.MarkAnswer.{MarkAnswer}
 use Rattle.answers.specs.declared.CopyAnswer.{CopyAnswer}
 use Rattle.answers.specs.declared.MendAnswer.{MendAnswer}
 use Rattle.answers.specs.declared.StripAnswer.{StripAnswer}
@@ -51,6 +52,8 @@ use Rattle.printing.specs.Printing.{listed-of}
 use Rattle.printing.specs.declared.Listed.the-variants.{Refused as Unlisted}
 use Rattle.fitting.specs.Fitted.{told, fitted-of}
 use Rattle.fitting.specs.declared.Fitted.the-variants.{Refused as Unfitted}
+use Rattle.mark_spec.specs.Marked.{our-width, by-width, graded, marked-of}
+use Rattle.mark_spec.specs.declared.Marked.the-variants.{Full as FullMarks, Wide, Refused as Unmarked}
 use Rattle.copying.specs.Copied.{copied-of}
 use Rattle.copying.specs.declared.Copied.the-variants.{Refused as Uncopied}
 use Rattle.mending.specs.Mending.{mended-of, mend-refusal}
@@ -74,8 +77,8 @@ use Rattle.read_entry.specs.declared.ReadAnswer.the-variants.{Refused as Unread
 use Rattle.reporting.specs.Reporting.{reported-of, report-refusal}
 use Rattle.season.specs.Pool.{pool-refusal}
 use Rattle.season.specs.declared.Reported.the-variants.{Refused as Unreported}
-use Rattle.answers.specs.Answers.{read-answer, laid-answer, check-answer, ends-answer, list-answer, frame-answer, copy-answer, mend-answer, pen-answer, stroke-answer, strip-answer, join-answer, drill-answer, start-answer, step-answer, reach-answer, report-answer, Filling, Laying, ListFilling, Framing, CopyFilling, MendFilling, Stripping, Joining, Drilling, Starting, Stepping, Reaching, Reporting}
-use Rattle.answers.specs.Header.{numbered, coded, said-read, said-layout, said-check, said-ends, said-list, said-frame, said-copy, said-mend, said-stroke, said-strip, said-join, said-drill, said-start, said-step, said-reach, said-report}
+use Rattle.answers.specs.Answers.{read-answer, laid-answer, check-answer, ends-answer, list-answer, frame-answer, mark-answer, copy-answer, mend-answer, pen-answer, stroke-answer, strip-answer, join-answer, drill-answer, start-answer, step-answer, reach-answer, report-answer, Filling, Laying, ListFilling, Framing, Marking, CopyFilling, MendFilling, Stripping, Joining, Drilling, Starting, Stepping, Reaching, Reporting}
+use Rattle.answers.specs.Header.{numbered, coded, said-read, said-layout, said-check, said-ends, said-list, said-frame, said-mark, said-copy, said-mend, said-stroke, said-strip, said-join, said-drill, said-start, said-step, said-reach, said-report}
 
 -- a number that is not 0 says what it numbers
 by-number : {A : Type 0} (this : ℕ → ℕ → A) (k c : ℕ) (other : A) → 1 ≤ k → numbered this k c other ≡ this k c
@@ -141,6 +144,24 @@ fit-told (found a) = refl
 pub frame-says : {t : Table} {squares : ℕ} {s s′ : List ℕ} {r : FrameAnswer} (c : Framing t squares s s′ r) → said-frame r ≡ some (c .fitted)
 unfolding fitted-of frame-answer numbered coded
 frame-says {t} {squares} {s} c = answering said-frame frame-answer Unfitted (λ k x h. by-number (λ k x. some (Unfitted k x)) k x _ h) _ (fit-told (least-allowance t squares)) (q.refusal q.frame (q.frame-given t squares (length s))) (c .answers) (c .frames .answers)
+
+width-told : (l w h : ℕ) (b : Bool) → said-mark (mark-answer (cond b (FullMarks w h) (Wide w l h))) ≡ some (cond b (FullMarks w h) (Wide w l h))
+unfolding mark-answer numbered coded
+width-told l w h true = refl
+width-told l w h false = refl
+
+by-width-told : (l w h : ℕ) → said-mark (mark-answer (by-width l w h)) ≡ some (by-width l w h)
+unfolding by-width
+by-width-told l w h = width-told l w h (leb w l)
+
+graded-told : (l : ℕ) (a : Answer) → said-mark (mark-answer (graded l a)) ≡ some (graded l a)
+unfolding graded mark-answer numbered coded
+graded-told l (fine w h) = by-width-told l _ _
+graded-told l (faulty r a b) = refl
+
+pub mark-says : {t : Table} {ps : List ℤ} {al : ℕ} {s s′ : List ℕ} {r : MarkAnswer} (c : Marking t ps al s s′ r) → said-mark r ≡ some (c .marked)
+unfolding marked-of mark-answer numbered coded
+mark-says {t} {ps} {al} {s} c = answering said-mark mark-answer Unmarked (λ k x h. by-number (λ k x. some (Unmarked k x)) k x _ h) _ (graded-told (our-width t al) (answer t (placed ps) al)) (q.refusal q.mark (q.mark-given t ps al (length s))) (c .answers) (c .marks .answers)
 
 pub copy-says : {rs : List Record} {letters : List ℕ} {al : ℕ} {out out′ : List ℕ} {r : CopyAnswer} (c : CopyFilling rs letters al out out′ r) → said-copy r ≡ some (c .copied)
 unfolding copied-of copy-answer numbered coded

@@ -80,7 +80,7 @@ module _ (test : ℕ → Bool) where
   every-append (v ∷ a) b p q = let (x, y) = every-head v a p in every-cons v (a ++ b) x (every-append a b y q)
 
 -- ---- a cell, of a width of at most m
-cell-zero : (m c p k w d : ℕ) → Passed m c p k w d → cell-refusal m c p k w d .number ≡ 0
+pub cell-zero : (m c p k w d : ℕ) → Passed m c p k w d → cell-refusal m c p k w d .number ≡ 0
 unfolding cell-refusal
 cell-zero m c p k w d h =
     zero-none (asked 6 (lower c p) c) _ (asked-zero 5 _ c (h .is-lower)) (zero-none (asked 7 (known k) c) _ (asked-zero 6 _ c (h .is-known)) (asked-zero 7 (sized m w d) c (h .is-sized)))

@@ -8,6 +8,8 @@ use borrow.Author.Tests.{eq-eqb, ne-eqb}
 use lib.ListN.{length, take, drop}
 use Rattle.plan.specs.Limits.{most-cells, most-file, trailer-size}
 use Rattle.plan.specs.Lists.{from}
+use Rattle.plan.specs.Records.{cells-of}
+use Rattle.plan.specs.Columns.{table-of}
 use Rattle.plan.specs.Questions.{to-fill, nothing, none, read, refusal}
 use Rattle.plan.specs.laws.Questions.{both-none}
 use Rattle.plan.specs.declared.Record.{Record}
@@ -18,7 +20,7 @@ use Rattle.planfile_spec.specs.Format.{trailer-of, entry, records-of, file-give
 use Rattle.planfile_spec.specs.Reading.{columns-of, reading-of}
 use Rattle.planfile_spec.specs.FileSteps.{header-refusal, body-refusal, file-refusal}
 use Rattle.planfile_spec.specs.laws.File.{read-refusal}
-use Rattle.planfile_spec.specs.laws.Examined.{Headed, header-read, column-at}
+use Rattle.planfile_spec.specs.laws.Examined.{Headed, header-read, column-at, same-table}
 use Rattle.records.specs.Apart.{row-at, records-in}
 use Rattle.content.specs.Content.{letters-of, file-content}
 use Rattle.content.specs.Clean.{copy, file-copy, copy-refusal}
@@ -133,11 +135,21 @@ module _ (f : List ℕ) where
       pub clean-begin : trailer-of f .begin ≤ length f
       clean-begin = omega (arith, headed (passes z) .full .exact)
 
+      plan-is : p ≡ plan
+      plan-is = e ∙ passed-reading (passes z)
+
+      -- the records, the table and the allowance of the reading are the file's
+      pub clean-records : records-in (lettered p) ≡ records-of f
+      clean-records = ap (λ (x : Reading). records-in (lettered x)) plan-is ∙ plan-records (passes z)
+
+      pub clean-table : table-of (p .columns) ≡ cells-of (records-of f)
+      clean-table = ap (λ (x : Reading). table-of (x .columns)) plan-is ∙ same-table f (headed (passes z))
+
+      pub clean-allowance : p .allowance ≡ trailer-of f .allowance
+      clean-allowance = ap (λ (x : Reading). x .allowance) plan-is ∙ plan-allowance
+
       pub clean-copied : (letters : List ℕ) (al : ℕ) → letters ≡ take (trailer-of f .begin) f → al ≡ p .allowance → (out out′ : List ℕ) (d : Copied) → most-file ≤ length out
           → Copies (records-in (lettered p)) letters al out out′ d → Cleans f out out′ d
       clean-copied letters al l a out out′ d room g =
-          let q : p ≡ plan = e ∙ passed-reading (passes z) in
-          let r : records-in (lettered p) ≡ records-of f = ap (λ (x : Reading). records-in (lettered x)) q ∙ plan-records (passes z) in
           let s : letters ≡ letters-of f = unfold letters-of in l in
-          let t : al ≡ trailer-of f .allowance = a ∙ ap (λ (x : Reading). x .allowance) q ∙ plan-allowance in
-          copied-is (passes z) out out′ d room (rw (r, s, t) at g)
+          copied-is (passes z) out out′ d room (rw (clean-records, s, a ∙ clean-allowance) at g)

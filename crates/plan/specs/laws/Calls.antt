@@ -15,7 +15,7 @@ use Rattle.plan.specs.Lists.{some, mem}
 use Rattle.plan.specs.Plan.{Table}
 use Rattle.plan.specs.Pages.{fair}
 use Rattle.plan.specs.declared.Page.{Page}
-use Rattle.plan.specs.Questions.{roomy, all-roomy, enough, in-table, in-file, sequence, puts, put, with-each, kept, number, holds, ask, none, asked, or-else, framed, on-page, strokes-of, numbered, refusal, layout, check, ends, list, frame, stroke, strip, layout-given, check-given, ends-given, list-given, frame-given, stroke-given, strip-given, answerable, drill, drill-given, reach-of, finished-at, at-each, start, step, reach, start-given, step-given, reach-given}
+use Rattle.plan.specs.Questions.{roomy, all-roomy, enough, in-table, in-file, sequence, puts, put, with-each, kept, number, holds, ask, none, asked, or-else, framed, on-page, strokes-of, numbered, refusal, layout, check, ends, list, frame, stroke, strip, layout-given, check-given, ends-given, list-given, frame-given, stroke-given, strip-given, answerable, drill, drill-given, reach-of, finished-at, at-each, start, step, reach, start-given, step-given, reach-given, mark, mark-given}
 use Rattle.plan.specs.laws.Kept.{asked-last, asked-true, and-true, or-assoc, none-first, each-last, refusal-kept, turn-ends, turn-once, turn-table, turn-near, turn-finished}
 use Rattle.plan.specs.Steps.{counted-refusal, lent-refusal, near-refusal}
 
@@ -140,3 +140,10 @@ module _ (t : Table) (al s m : ℕ) where
       let g = reach-given t al s m finished c in
       refusal-kept reach g
       ∙ simp (turn-once g, turn-table g refl, turn-finished g, asked-true 0 0, none-first, and-true, both-roomy, or-assoc, start-refusal, finished-one finished c (length t))
+
+-- an examiner's mark: as Check, behind the scratch
+pub mark-refusal : (t : Table) (ps : List ℤ) (al s : ℕ) → refusal mark (mark-given t ps al s) ≡ or-else (asked 1 (leb scratch-size s) 0) (refusal check (check-given t al ps))
+unfolding kept put with-each sequence number puts mem some ask holds roomy all-roomy enough in-file lent-refusal mark-given
+mark-refusal t ps al s =
+    let g = mark-given t ps al s in
+    refusal-kept mark g ∙ simp (turn-once g, turn-table g refl, turn-near g, turn-ends g, and-true, or-assoc, check-refusal t al ps, near-last ps (length t))

@@ -3,9 +3,10 @@
 //!
 //!     bench                          the calls
 //!     bench check                    Check alone
+//!     bench mark                     Mark alone
 //!     bench PLAN PROGRAM...          programs that print a plan's listing, such as `sheet`: microseconds a run
 
-use bindings::{Record, Sheet, Step, Verdict};
+use bindings::{Mark, Record, Sheet, Step, Verdict};
 use compare::{plain, records};
 use reference::generate::{file, labels, stems, table, Shape, Sizes};
 use reference::rng::Rng;
@@ -79,12 +80,14 @@ fn main() {
     let args: Vec<String> = std::env::args().skip(1).collect();
     match args.split_first() {
         Some((what, [])) if what == "check" => checks(),
+        Some((what, [])) if what == "mark" => marks(),
         Some((plan, named)) => programs(plan, named),
         None => {
             calls();
             checks();
             drills();
             steps();
+            marks();
         }
     }
 }
@@ -246,6 +249,32 @@ fn steps() {
             let (layout, _) = race(|| { let _ = black_box(bindings::layout(&records, 10, &mut scratch, &mut positions)); }, || ());
             println!("| {shape:?} | {n} | {} | {:.0} | {:.0} | {layout:.0} |", sheet.rows, (whole - start) / n as f64, guard / n as f64);
         }
+    }
+}
+
+/// Drawings of plans of 256 cells marked: one that gets full marks, one that is wide (our sheet at 0, marked at 65,535), one that is broken at the first pair that the search comes to and one at the last.
+/// A drawing is marked together with the taking apart of its table; a second of them, and what two hundred take.
+fn marks() {
+    println!("| marks | cells | rows | full ns | wide ns | first pair ns | last pair ns | drawings a second, the slowest | 200 drawings, ms |\n|---|---|---|---|---|---|---|---|---|");
+    for shape in SHAPES {
+        let (cells, ..) = plans(shape, 256);
+        let records = records(&cells);
+        let (mut scratch, mut ours, mut at_0) = (vec![0; 16_384], vec![0; 2 * cells.len()], vec![0; 2 * cells.len()]);
+        let sheet = bindings::layout(&records, 65_535, &mut scratch, &mut ours).expect("a valid plan");
+        bindings::layout(&records, 0, &mut scratch, &mut at_0).expect("a valid plan");
+        let first = [[1].as_slice(), &ours[1..]].concat();
+        let (last, _) = broken_last(&cells, &records);
+        assert_eq!(bindings::mark(&records, &ours, 65_535, &mut scratch), Ok(Mark::Full(sheet)));
+        assert!(matches!(bindings::mark(&records, &at_0, 65_535, &mut scratch), Ok(Mark::Full(_) | Mark::Wide { .. })));
+        assert!(matches!(bindings::mark(&records, &first, 65_535, &mut scratch), Ok(Mark::Broken { rule: 1, .. })));
+        assert!(matches!(bindings::mark(&records, &last, 0, &mut scratch), Ok(Mark::Broken { .. })));
+        let mut one = |drawing: &[i32], allowance| {
+            let [ns] = least([&mut batch(|| { let _ = black_box(bindings::mark(black_box(&records), drawing, allowance, &mut scratch)); })]);
+            ns
+        };
+        let times = [one(&ours, 65_535), one(&at_0, 65_535), one(&first, 65_535), one(&last, 0)];
+        let slowest = times.iter().fold(0.0, |a: f64, &b| a.max(b));
+        println!("| {shape:?} | {} | {} | {} | {:.0} | {:.1} |", cells.len(), sheet.rows, times.map(|t| format!("{t:.0}")).join(" | "), 1e9 / slowest, 200.0 * slowest / 1e6);
     }
 }
 

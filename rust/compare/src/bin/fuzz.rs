@@ -6,7 +6,7 @@
 //!     fuzz library SECONDS SEED
 //!     fuzz program SECONDS SEED COMMAND...
 
-use bindings::{Outcome, Record, Verdict};
+use bindings::{Mark, Outcome, Record, Verdict};
 use compare::{plain, record};
 use reference::generate as make;
 use reference::rng::Rng;
@@ -127,7 +127,7 @@ fn list_call(rng: &mut Rng) -> Result<(), &'static str> {
     Ok(())
 }
 
-/// Layout, Check, Ends and strokes.
+/// Layout, Check, Mark, Ends and strokes.
 fn table_calls(rng: &mut Rng) -> Result<(), &'static str> {
     let table = lent(&some_table(rng));
     let room = if rng.once_in(10) { rng.index(600) } else { 2 * table.len() + rng.index(3) };
@@ -147,6 +147,7 @@ fn table_calls(rng: &mut Rng) -> Result<(), &'static str> {
         return Err("Check does not keep Layout's sheet");
     }
     let _ = bindings::check(&table, &lent(&before), allowance);
+    mark_calls(rng, &table, &positions, &lent(&before), allowance, laid.ok())?;
     if laid.is_ok() {
         // Beside our sheet, where the search is run.
         let mut moved = lent(&positions);
@@ -168,6 +169,31 @@ fn table_calls(rng: &mut Rng) -> Result<(), &'static str> {
         let ends = bindings::ends(&table, &positions, cell);
         if laid.is_ok() && ends.is_ok() != (cell > 0 && cell < table.len()) {
             return Err("Ends disagrees with Layout");
+        }
+    }
+    Ok(())
+}
+
+/// Mark, of Layout's positions, which get full marks, and of any: what Check says, and the scratch as Layout leaves it.
+fn mark_calls(rng: &mut Rng, table: &[Record], ours: &[i32], any: &[i32], allowance: u32, laid: Option<bindings::Sheet>) -> Result<(), &'static str> {
+    for (positions, sheet) in [(ours, laid), (any, None)] {
+        let length = if rng.once_in(10) { rng.index(SCRATCH) } else { SCRATCH + rng.index(3) };
+        let fill = rng.next() as u32 | 1;
+        let mut scratch = lent(&vec![fill; length]);
+        let marked = bindings::mark(table, positions, allowance, &mut scratch);
+        let zeros = if marked.is_ok() { SCRATCH } else { 0 };
+        if scratch[..zeros].iter().any(|n| *n != 0) || scratch[zeros..].iter().any(|n| *n != fill) {
+            return Err("Mark left the scratch otherwise than it should");
+        }
+        if length >= SCRATCH && sheet.is_some_and(|s| marked != Ok(Mark::Full(s))) {
+            return Err("Mark does not give full marks to Layout's sheet");
+        }
+        let told = marked.map(|m| match m {
+            Mark::Full(sheet) | Mark::Wide { sheet, .. } => Verdict::Kept(sheet),
+            Mark::Broken { rule, a, b } => Verdict::Broken { rule, a, b },
+        });
+        if length >= SCRATCH && told != bindings::check(table, positions, allowance) {
+            return Err("Mark disagrees with Check");
         }
     }
     Ok(())

@@ -1,0 +1,5 @@
+pub mod Contents
+pub mod Joined
+pub mod Promised
+pub mod Worked
+pub mod laws

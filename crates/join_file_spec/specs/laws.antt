@@ -1,0 +1,5 @@
+pub mod Contents
+pub mod Asked
+pub mod Read
+pub mod Answers
+pub mod Promised

@@ -1,0 +1,3 @@
+pub mod JoinText
+pub mod Examples
+pub mod laws

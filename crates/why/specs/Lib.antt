@@ -1,0 +1,3 @@
+pub mod Judges
+pub mod Shows
+pub mod laws

@@ -1,0 +1,9 @@
+pub mod Certified
+pub mod Links
+pub mod Measures
+pub mod Moved
+pub mod Reached
+pub mod Same
+pub mod Theorems
+pub mod Trail
+pub mod Worked
