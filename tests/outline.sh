@@ -103,9 +103,45 @@ faulty 'allowance 0\nrun\n' 'refused 11 0'
 
 # ---- an output that cannot be written
 "$outline" < plans/pond.plan > /dev/full 2> "$work/err"
-same "standard error, an outline to a full device" "outline_program: the outline could not be written whole" "$(cat "$work/err")"
+same "standard error, an outline to a full device" "outline: the outline could not be written whole" "$(cat "$work/err")"
 "$compose" < plans/pond.outline > /dev/full 2> "$work/err"
-same "standard error, a plan to a full device" "compose_program: the plan could not be written whole" "$(cat "$work/err")"
+same "standard error, a plan to a full device" "compose: the plan could not be written whole" "$(cat "$work/err")"
+
+# ---- a file by its name, whole or not at all
+"$compose" "$work/made.plan" < plans/pond.outline > "$work/out" 2> "$work/err"
+same_files "standard output of a plan written into a file" "$work/empty" "$work/out"
+same_files "standard error of a plan written into a file" "$work/empty" "$work/err"
+"$clean" < plans/pond.plan > "$work/copy"
+same_files "a plan written into a file" "$work/copy" "$work/made.plan"
+printf 'allowance 0\nstop\n' | "$compose" "$work/made.plan" 2> "$work/err"
+same "standard error of a faulty text for a file" "line 2" "$(cut -d : -f 1 "$work/err")"
+same_files "the file, of a faulty text" "$work/copy" "$work/made.plan"
+"$compose" "$work" < plans/pond.outline 2> "$work/err"
+same "standard error of a plan for a folder" "compose: OUT is no regular file, and is not replaced" "$(cat "$work/err")"
+"$compose" "$work/none/made.plan" < plans/pond.outline 2> "$work/err"
+same "standard error of a plan for a folder that is not there" "compose: the file could not be written" "$(cat "$work/err")"
+"$compose" a b < plans/pond.outline 2> "$work/err"
+same "standard error of two arguments" "compose: one argument, the file to write, or none" "$(cat "$work/err")"
+same "nothing left over" "" "$(find "$work" -name '*.unfinished-*')"
+
+# ---- the one command
+[ -x target/bin/sheet ] || { echo "tests/outline.sh: target/bin/sheet is not built: rt check"; exit 1; }
+same "kuzpalen outline" "$(cat plans/printed.outline)" "$(./kuzpalen outline plans/printed.plan)"
+./kuzpalen plan plans/printed.outline "$work/by.plan"
+same "status of kuzpalen plan" 0 $?
+same_files "kuzpalen plan" plans/printed.plan "$work/by.plan"
+printf 'allowance 0\nrun\n step\n' > "$work/odd.outline"
+./kuzpalen plan "$work/odd.outline" "$work/by.plan" 2> "$work/err"
+same "status of kuzpalen plan, a faulty text" 1 $?
+same "what kuzpalen plan says of a faulty text" "kuzpalen: $work/odd.outline: line 3: an odd number of blanks before the word: use two for each level" "$(cat "$work/err")"
+same_files "the file after a faulty text" plans/printed.plan "$work/by.plan"
+printf 'allowance 0\nrun\n' | ./kuzpalen plan - "$work/by.plan" 2> "$work/err"
+same "status of kuzpalen plan, a plan that is refused" 1 $?
+same "what kuzpalen plan says of a plan that is refused" "kuzpalen: standard input: refused 11 0" "$(cat "$work/err")"
+./kuzpalen plan plans/printed.outline "$work" 2> "$work/err"
+same "status of kuzpalen plan, into a folder" 2 $?
+./kuzpalen plan plans/nothing.outline "$work/by.plan" 2> "$work/err"
+same "what kuzpalen plan says of a text that is not there" "kuzpalen: plans/nothing.outline: there is no such file" "$(cat "$work/err")"
 
 tests/outline.py "$outline" "$compose" 1 300 || exit 1
 echo "tests/outline.sh: $checks passed"

@@ -8,10 +8,7 @@ fn write_outline(file: &[u8]) {
     match answer {
         Outlined::Written(length) => {
             if !io::write_all(1, &out[..length]) {
-                io::write_all(
-                    2,
-                    b"outline_program: the outline could not be written whole\n",
-                );
+                io::write_all(2, b"outline: the outline could not be written whole\n");
             }
         }
         Outlined::Refused(number, cell) => {
@@ -27,7 +24,7 @@ fn main() {
     let mut file = [0u8; MOST_FILE + 1];
     let input = input::read_whole(0, &mut file);
     if input::failed(input) {
-        io::write_all(2, b"outline_program: the plan cannot be read\n");
+        io::write_all(2, b"outline: the plan cannot be read\n");
         return;
     }
     let n = input.length;

@@ -40,19 +40,13 @@ array-share-prefix-out c =
     let h = fits _ _ (c .before .answer .given .1) (c .before .before .before .before .compose .ensures .suffices) in
     omega (arith, h, c .before .before .before .before .compose .kept)
 
-slice-aggregate-write-all : tie.Need-slice-aggregate-write-all
-slice-aggregate-write-all c =
+slice-aggregate-hand-over : tie.Need-slice-aggregate-hand-over
+slice-aggregate-hand-over c =
     let h = fits _ _ (c .before .before .answer .given .1) (c .before .before .before .before .before .compose .ensures .suffices) in
     sym (length-take-le _ _ (omega (arith, h, c .before .before .before .before .before .compose .kept)))
 
-write-all-requires : tie.Need-write-all-requires
-write-all-requires c κs = search needs
-
-slice-aggregate-write-all-2 : tie.Need-slice-aggregate-write-all-2
-slice-aggregate-write-all-2 c = search needs
-
-write-all-requires-2 : tie.Need-write-all-requires-2
-write-all-requires-2 c κs = search needs
+hand-over-requires : tie.Need-hand-over-requires
+hand-over-requires c κs = search needs
 
 enum-known-answer-2 : tie.Need-enum-known-answer-2
 enum-known-answer-2 c = search needs
@@ -71,13 +65,13 @@ array-share-prefix-bytes c =
     let r = c .before .refused-line .ensures in
     omega (arith, r .1, line-long _ _ (r .0) (r .1))
 
-slice-aggregate-write-all-3 : tie.Need-slice-aggregate-write-all-3
-slice-aggregate-write-all-3 c =
+slice-aggregate-trouble : tie.Need-slice-aggregate-trouble
+slice-aggregate-trouble c =
     let r = c .before .before .refused-line .ensures in
     sym (length-take-le _ _ (omega (arith, r .1, line-long _ _ (r .0) (r .1))))
 
-write-all-requires-3 : tie.Need-write-all-requires-3
-write-all-requires-3 c κs = search needs
+trouble-requires : tie.Need-trouble-requires
+trouble-requires c κs = search needs
 
 enum-known-answer-3 : tie.Need-enum-known-answer-3
 enum-known-answer-3 c = search needs
@@ -91,11 +85,11 @@ put-fault-requires c κs = search needs
 array-share-prefix-told : tie.Need-array-share-prefix-told
 array-share-prefix-told c = search needs
 
-slice-aggregate-write-all-4 : tie.Need-slice-aggregate-write-all-4
-slice-aggregate-write-all-4 c = sym (length-take-le _ _ (omega (arith, c .before .before .put-fault .ensures .1, c .before .before .put-fault .kept)))
+slice-aggregate-trouble-2 : tie.Need-slice-aggregate-trouble-2
+slice-aggregate-trouble-2 c = sym (length-take-le _ _ (omega (arith, c .before .before .put-fault .ensures .1, c .before .before .put-fault .kept)))
 
-write-all-requires-4 : tie.Need-write-all-requires-4
-write-all-requires-4 c κs = search needs
+trouble-requires-2 : tie.Need-trouble-requires-2
+trouble-requires-2 c κs = search needs
 
 returns : tie.Need-returns
 returns c = search needs
@@ -106,9 +100,6 @@ returns-2 c = search needs
 returns-3 : tie.Need-returns-3
 returns-3 c = search needs
 
-returns-4 : tie.Need-returns-4
-returns-4 c = search needs
-
 pub write-plan-spec : {M : Type 1} → statement M
 write-plan-spec =
     tie.close
@@ -117,24 +108,21 @@ write-plan-spec =
     compose-requires
     enum-known-answer
     array-share-prefix-out
-    slice-aggregate-write-all
-    write-all-requires
-    slice-aggregate-write-all-2
-    write-all-requires-2
+    slice-aggregate-hand-over
+    hand-over-requires
     enum-known-answer-2
     cast-refused-line
     cast-refused-line-2
     refused-line-requires
     array-share-prefix-bytes
-    slice-aggregate-write-all-3
-    write-all-requires-3
+    slice-aggregate-trouble
+    trouble-requires
     enum-known-answer-3
     slice-aggregate-put-fault
     put-fault-requires
     array-share-prefix-told
-    slice-aggregate-write-all-4
-    write-all-requires-4
+    slice-aggregate-trouble-2
+    trouble-requires-2
     returns
     returns-2
-    returns-3
-    returns-4)
+    returns-3)
