@@ -45,7 +45,7 @@ and-both false b p q = p
 
 -- ---- every byte of a list, of its parts, of two lists
 module _ (test : ℕ → Bool) where
-  every-head : (v : ℕ) (vs : List ℕ) → T (every test (v ∷ vs)) → T (test v) × T (every test vs)
+  pub every-head : (v : ℕ) (vs : List ℕ) → T (every test (v ∷ vs)) → T (test v) × T (every test vs)
   unfolding every
   every-head v vs h = go (test v) h
     where
@@ -169,11 +169,11 @@ rows-widen form room c (r ∷ rs) e =
     zero-none (row-refusal Wide room c r) _ (row-widen form room c _ _ _ _ _ _ a) (rows-widen form room (suc c) rs b)
 
 -- ---- and what makes them pass: in the form that the items take
-Taken : Form → Item → Type 0
+unfoldable pub Taken : Form → Item → Type 0
 Taken Old i = i .cell .width ≤ old-width
 Taken Wide i = T true
 
-AllTaken : Form → List Item → Type 0
+unfoldable pub AllTaken : Form → List Item → Type 0
 AllTaken form [] = T true
 AllTaken form (i ∷ is) = Taken form i × AllTaken form is
 
@@ -189,7 +189,7 @@ unfolding AllTaken Taken
 wide-taken [] = tt
 wide-taken (i ∷ is) = (tt, wide-taken is)
 
-form-taken : (is : List Item) → AllTaken (form-for is) is
+pub form-taken : (is : List Item) → AllTaken (form-for is) is
 unfolding form-for
 form-taken is = go (all-narrow is) refl
   where

@@ -31,12 +31,12 @@ use Rattle.content.specs.laws.Clean.{clean-trailer, clean-length, clean-
 use Rattle.content.specs.laws.Asked.{row-refusal, rows-refusal, copy-steps, copy-asks, each-row}
 use Rattle.content.specs.laws.Fine.{letter, AllFine, zero-none, asked-no, asked-zero, and-both, items-fine, entries-fine, labels-short, labels-printable, rows-widen}
 
-cells-same : (letters : List ℕ) (rs : List Record) → map (λ (i : Item). i .cell) (map (item-of letters) rs) ≡ cells-of rs
+pub cells-same : (letters : List ℕ) (rs : List Record) → map (λ (i : Item). i .cell) (map (item-of letters) rs) ≡ cells-of rs
 unfolding item-of cells-of
 cells-same letters [] = refl
 cells-same letters (r ∷ rs) = ap (λ (x : Table). bare r ∷ x) (cells-same letters rs)
 
-mark-known : (form : Form) → T (marked (mark-of form))
+pub mark-known : (form : Form) → T (marked (mark-of form))
 unfolding mark-of marked
 mark-known Old = tt
 mark-known Wide = tt
@@ -52,13 +52,13 @@ module _ (rs : List Record) (letters : List ℕ) (al : ℕ) (e : copy-steps rs l
   abbrev g : List ℕ
   g = copy rs letters al
 
-  record Asked : Type 0 where
-    count : (1 ≤ length rs) × (length rs ≤ most-cells)
-    fine : AllFine 0 (map (item-of letters) rs)
-    tree : tree-refusal (cells-of rs) .number ≡ 0
-    last : T (leb al most-allowance)
+  pub record Asked : Type 0 where
+    pub count : (1 ≤ length rs) × (length rs ≤ most-cells)
+    pub fine : AllFine 0 (map (item-of letters) rs)
+    pub tree : tree-refusal (cells-of rs) .number ≡ 0
+    pub last : T (leb al most-allowance)
 
-  answers : Asked
+  pub answers : Asked
   unfolding copy-steps
   answers =
       let (a, r) = both-none (asked 4 (between 1 most-cells (length rs)) 0) _ e in

@@ -34,7 +34,7 @@ use Rattle.copying.specs.Copied.{copied-of, output-after, Copies, cleane
 abbrev pub lettered : Reading → Lettered
 lettered p = record { columns = p .columns; «label_length» = p .«label_length»; «label_start» = p .«label_start» }
 
-rows-same : (g e : ℕ → Record) (k d : ℕ) → ((c : ℕ) → k ≤ c → c < k + d → g c ≡ e c) → map g (from k d) ≡ map e (from k d)
+pub rows-same : (g e : ℕ → Record) (k d : ℕ) → ((c : ℕ) → k ≤ c → c < k + d → g c ≡ e c) → map g (from k d) ≡ map e (from k d)
 unfolding from
 rows-same g e k zero h = refl
 rows-same g e k (suc d) h = cc (h k (omega arith) (omega arith), rows-same g e (suc k) d (λ c p q. h c (omega arith) (omega arith)))
@@ -45,25 +45,25 @@ unfolding file-content
 copy-file f = refl
 
 module _ (f : List ℕ) where
-  abbrev why : Refusal
+  abbrev pub why : Refusal
   why = refusal read (file-given f (to-fill most-cells ∷ []) nothing)
 
-  abbrev plan : Reading
+  abbrev pub plan : Reading
   plan = columns-of none (trailer-of f .allowance) (trailer-of f .count) (entry f)
 
-  refused-reading : ¬ (why .number ≡ 0) → reading-of f most-cells .refusal ≡ why
+  pub refused-reading : ¬ (why .number ≡ 0) → reading-of f most-cells .refusal ≡ why
   unfolding reading-of columns-of
   refused-reading z = rw (ne-eqb (why .number) 0 z) refl
 
-  passed-reading : why .number ≡ 0 → reading-of f most-cells ≡ plan
+  pub passed-reading : why .number ≡ 0 → reading-of f most-cells ≡ plan
   unfolding reading-of
   passed-reading z = rw (eq-eqb (why .number) 0 z) refl
 
-  none-refused : plan .refusal .number ≡ 0
+  pub none-refused : plan .refusal .number ≡ 0
   unfolding columns-of
   none-refused = refl
 
-  plan-allowance : plan .allowance ≡ trailer-of f .allowance
+  pub plan-allowance : plan .allowance ≡ trailer-of f .allowance
   unfolding columns-of
   plan-allowance = refl
 
@@ -77,7 +77,7 @@ module _ (f : List ℕ) where
 
   -- ---- of a file that Read accepts
   module _ (z : why .number ≡ 0) where
-    headed : Headed f
+    pub headed : Headed f
     unfolding file-refusal
     headed = header-read f (both-none (header-refusal f) (body-refusal f) (both-none _ (file-refusal f) (ap (λ (x : Refusal). x .number) (sym (read-refusal f most-cells)) ∙ z) .1) .0)
 
@@ -99,7 +99,7 @@ module _ (f : List ℕ) where
     unfolding columns-of
     plan-count = refl
 
-    plan-records : records-in (lettered plan) ≡ records-of f
+    pub plan-records : records-in (lettered plan) ≡ records-of f
     unfolding records-in records-of
     plan-records = rw plan-count (rows-same (row-at (lettered plan)) (entry f) 0 (trailer-of f .count) (λ c p q. plan-row c (omega arith)))
 
@@ -114,7 +114,7 @@ module _ (f : List ℕ) where
 
   -- ---- as the code has the reading
   module _ (p : Reading) (e : p ≡ reading-of f most-cells) where
-    passes : p .refusal .number ≡ 0 → why .number ≡ 0
+    pub passes : p .refusal .number ≡ 0 → why .number ≡ 0
     passes z = go (ℕ-discrete (why .number) 0)
       where
         go : Dec (why .number ≡ 0) → why .number ≡ 0

@@ -49,19 +49,19 @@ map-append : {A B : Type 0} (f : A → B) (a b : List A) → map f (a ++ b) ≡ 
 map-append f [] b = refl
 map-append {A} {B} f (x ∷ a) b = ap (λ (r : List B). f x ∷ r) (map-append f a b)
 
-map-last : {B : Type 0} (f : ℕ → B) (n : ℕ) → map f (from 0 (suc n)) ≡ map f (from 0 n) ++ (f n ∷ [])
+pub map-last : {B : Type 0} (f : ℕ → B) (n : ℕ) → map f (from 0 (suc n)) ≡ map f (from 0 n) ++ (f n ∷ [])
 map-last f n = ap (map f) (from-last 0 n) ∙ map-append f (from 0 n) ((0 + n) ∷ []) ∙ (let e : 0 + n ≡ n = omega arith in rw e)
 
-map-map : {A B : Type 0} (f : A → B) (g : ℕ → A) (l : List ℕ) → map f (map g l) ≡ map (λ c. f (g c)) l
+pub map-map : {A B : Type 0} (f : A → B) (g : ℕ → A) (l : List ℕ) → map f (map g l) ≡ map (λ c. f (g c)) l
 map-map f g [] = refl
 map-map {A} {B} f g (c ∷ l) = ap (λ (r : List B). f (g c) ∷ r) (map-map f g l)
 
-labels-append : (a b : List Item) → labels (a ++ b) ≡ labels a ++ labels b
+pub labels-append : (a b : List Item) → labels (a ++ b) ≡ labels a ++ labels b
 unfolding labels
 labels-append [] b = refl
 labels-append (i ∷ a) b = ap (λ (x : List ℕ). i .text ++ x) (labels-append a b) ∙ sym (append-assoc (i .text) (labels a) (labels b))
 
-entries-last : (s : ℕ) (a : List Item) (i : Item) → entries s (a ++ (i ∷ [])) ≡ entries s a ++ (record-of i (s + length (labels a)) ∷ [])
+pub entries-last : (s : ℕ) (a : List Item) (i : Item) → entries s (a ++ (i ∷ [])) ≡ entries s a ++ (record-of i (s + length (labels a)) ∷ [])
 unfolding entries labels
 entries-last s [] i = let e : s + 0 ≡ s = omega arith in rw e
 entries-last s (j ∷ a) i =
