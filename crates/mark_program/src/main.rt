@@ -7,6 +7,7 @@ use mark_text::write_counts;
 use mark_text::write_outcome;
 use plan::Columns;
 use plan::limits::MOST_CELLS;
+use planfile_spec::Reading;
 use summary::write_named;
 ghost use Prim.Native.Nat.{_≤_};
 ghost use lib.ListN.{length};
@@ -158,7 +159,7 @@ fn main() {
         return;
     }
     let size = got.size;
-    let plan = planfile::read(&file[..size], MOST_CELLS);
+    let plan: Reading = planfile::read(&file[..size], MOST_CELLS);
     let refusal = plan.refusal;
     let columns = plan.columns;
     let mut written = true;
