@@ -125,7 +125,6 @@ same "standard error of two arguments" "compose: one argument, the file to write
 same "nothing left over" "" "$(find "$work" -name '*.unfinished-*')"
 
 # ---- the one command
-[ -x target/bin/sheet ] || { echo "tests/outline.sh: target/bin/sheet is not built: rt check"; exit 1; }
 same "kuzpalen outline" "$(cat plans/printed.outline)" "$(./kuzpalen outline plans/printed.plan)"
 ./kuzpalen plan plans/printed.outline "$work/by.plan"
 same "status of kuzpalen plan" 0 $?
