@@ -150,14 +150,14 @@ for command in turns drill "mend"; do
     run 1 "$work/refused" "" "$@"
 done
 same "what mend leaves of a file where the plan is refused" before "$(cat "$work/kept")"
-for command in clean plot strip; do run 1 "$work/empty" "kuzpalen: $work/short.plan: refused 2 0" $command "$work/short.plan"; done
+for command in clean outline plot strip; do run 1 "$work/empty" "kuzpalen: $work/short.plan: refused 2 0" $command "$work/short.plan"; done
 
 # ---- trouble: one line that names the file and the reason, and nothing printed
 tests/on_terminal.py "$work/out" ./kuzpalen sheet $(for i in {1..100}; do echo plans/A.plan; done) > "$work/err"
 same "how far sheet is, on a terminal" "kuzpalen: 100 of 100 plans" "$(cat "$work/err")"
 tests/on_terminal.py "$work/out" ./kuzpalen folder $(for i in {1..100}; do echo plans/A.plan; done) > "$work/err"
 same "how far folder is, on a terminal" "folder: 100 of 100 files" "$(cat "$work/err")"
-for command in sheet why clean plot strip turns folder drill; do
+for command in sheet why clean outline plot strip turns folder drill; do
     run 2 "$work/empty" "kuzpalen: $work/none.plan: there is no such file" $command "$work/none.plan"
     run 2 "$work/empty" "kuzpalen: $work: is a folder" $command "$work"
     ./kuzpalen $command - <&- > "$work/out" 2> "$work/err"
@@ -167,7 +167,7 @@ for command in sheet why clean plot strip turns folder drill; do
     ./kuzpalen $command plans/A.plan - < "$work" > "$work/out" 2> "$work/err"
     same "status of $command, an input that fails" 2 $?
 done
-for command in sheet why clean plot strip turns; do
+for command in sheet why clean outline plot strip turns; do
     tests/cut_input.py plans/printed.plan ./kuzpalen $command - > "$work/out" 2> "$work/err"
     same "status of $command, an input that fails behind a plan" 2 $?
     same_files "output of $command, an input that fails behind a plan" "$work/empty" "$work/out"
@@ -179,8 +179,8 @@ for command in "drill plans/pond.plan" "folder -" "drill - $work/empty" "frame -
     same_files "output of $command, an input that fails behind a plan" "$work/empty" "$work/out"
     same "lines on standard error of $command, an input that fails behind a plan" 1 "$(wc -l < "$work/err")"
 done
-for command in clean strip turns why; do run 2 "$work/empty" "kuzpalen: $command takes PLAN" $command plans/A.plan plans/B.plan; done
-for command in clean strip turns why; do run 2 "$work/empty" "kuzpalen: $command takes PLAN" $command; done
+for command in clean outline strip turns why; do run 2 "$work/empty" "kuzpalen: $command takes PLAN" $command plans/A.plan plans/B.plan; done
+for command in clean outline strip turns why; do run 2 "$work/empty" "kuzpalen: $command takes PLAN" $command; done
 run 2 "$work/empty" "kuzpalen: mend takes PLAN OUT" mend plans/A.plan
 run 2 "$work/empty" "kuzpalen: frame takes PLAN SQUARES" frame plans/A.plan
 run 2 "$work/empty" "kuzpalen: frame takes PLAN SQUARES" frame plans/A.plan 1 2
@@ -213,7 +213,7 @@ run 2 "$work/empty" "kuzpalen: plans/printed.plan: the file could not be written
 run 2 "$work/empty" "kuzpalen: plans/printed.plan: the file could not be written" join plans/printed.plan 0 plans/B.plan /proc/out.plan
 run 2 "$work/empty" "kuzpalen: plans/A.plan: the file could not be written" mend plans/A.plan /proc/out.plan     # a folder where nothing can be written
 # an output that cannot be written: a full device, a closed one, a pipe that nobody reads
-for command in sheet why clean plot strip turns folder; do
+for command in sheet why clean outline plot strip turns folder; do
     ./kuzpalen $command plans/full.plan > /dev/full 2> "$work/err"
     same "status of $command to a full device" 2 $?
     same "lines on standard error of $command to a full device" 1 "$(wc -l < "$work/err")"
@@ -242,7 +242,7 @@ same "what a signal leaves behind" "" "$(ls "$work/temporary")"
 # ---- help: every command with an example, each of which runs
 ./kuzpalen help > "$work/out"
 same "status of help" 0 $?
-for command in sheet why mark frame clean mend join plot strip drill folder turns; do
+for command in sheet why mark frame clean outline plan mend join plot strip drill folder turns; do
     same "help names $command" 1 "$(grep -c "^kuzpalen $command " "$work/out")"
     ./kuzpalen help $command > "$work/one"
     same "lines of help $command" 3 "$(wc -l < "$work/one")"
