@@ -29,13 +29,17 @@ same "the reason of F at 3" $'why 13 3 25 4\n2 3 S3 3 3\n3 4 S3 10 13\n4 11 S4 1
 python3 tests/reasons.py "$why" "$sheet" plans/*.plan || exit 1
 checks=$((checks + 1))
 
-# ---- the pictures of docs/RULES.md are what plot draws
+# ---- the pictures of docs/RULES.md and of README.md are what plot draws
 for picture in docs/rules/*.svg; do
     name="$(basename "$picture" .svg)"
     target/bin/plot 4 5 < "plans/$name.plan" > "$work/out"
     cmp "$picture" "$work/out" || exit 1
     checks=$((checks + 1))
 done
+
+./kuzpalen plot plans/rinse.plan A4 > "$work/out"
+cmp docs/rinse.svg "$work/out" || exit 1
+checks=$((checks + 1))
 
 # ---- refusals, and nothing on standard error
 head -c 15 plans/printed.plan > "$work/short.plan"
