@@ -102,6 +102,64 @@ same "a frame that nothing fits" none "$(cut -d ' ' -f 1 "$work/wanted")"
 run 0 "$work/wanted" "" frame plans/F-3.plan 1
 echo "refused 19 0" > "$work/wanted"
 run 1 "$work/wanted" "" frame plans/F-3.plan 0
+# drawings marked: the plan's own listing, one that is wide, one that breaks each rule, one too far, one that cannot be read
+printf '0 0 0\n1 -5 2\n2 0 2\n' > "$work/wide.txt"
+printf '0 0 0\n1 -4 3\n2 0 2\n' > "$work/s1.txt"
+printf '0 1 0\n1 -4 2\n2 0 2\n' > "$work/s2.txt"
+printf '0 0 0\n1 -3 2\n2 0 2\n' > "$work/s3.txt"
+printf '0 5 0\n1 -262143 2\n2 0 2\n' > "$work/far.txt"
+printf '0 0 0\n0 0 0\n' > "$work/twice.txt"
+awk 'NR > 1 { x = $2; if ($1 >= 1 && $1 <= 7) x = x + 1; print $1, x, $3 }' plans/F-3.txt > "$work/s4.txt"
+for plan in A B F-3 pond full; do
+    read -r _ _ _ width rows < plans/$plan.txt
+    echo "plans/$plan.txt full $width $rows" > "$work/wanted"
+    run 0 "$work/wanted" "" mark plans/$plan.plan plans/$plan.txt
+done
+cat > "$work/wanted" << END
+plans/printed.txt full 9 4
+$work/wide.txt wide 10 9 4
+$work/s1.txt broken S1 1 1
+$work/s2.txt broken S2 0 2
+$work/s3.txt broken S3 1 2
+$work/far.txt refused 15 1
+$work/twice.txt line 2: cell 0 is given twice
+drawings 7 full 1 wide 1 broken 3 refused 1 unread 1
+END
+run 1 "$work/wanted" "" mark plans/printed.plan plans/printed.txt "$work"/{wide,s1,s2,s3,far,twice}.txt
+cat > "$work/wanted" << END
+plans/printed.txt full 9 4
+  keeps the five rules, and no drawing that keeps them is narrower
+$work/wide.txt wide 10 9 4
+  keeps the five rules, and is 1 wider than it need be: 9 is enough
+$work/s1.txt broken S1 1 1
+  S1: box 1 "A" does not stand in the row right below its parent's box
+$work/s2.txt broken S2 0 2
+  S2: box 0 "Up" does not have the left edge of box 2 "Run", the child that it must stand over
+$work/s3.txt broken S3 1 2
+  S3: box 1 "A" and box 2 "Run" belong to neighbouring siblings: the earlier one's branch must end left of the later sibling, and the later one's branch begin right of the earlier sibling's left edge
+$work/far.txt refused 15 1
+  box 1 "A" stands more than 262143 from the root
+$work/twice.txt line 2: cell 0 is given twice
+drawings 7 full 1 wide 1 broken 3 refused 1 unread 1
+END
+run 1 "$work/wanted" "" mark --explain plans/printed.plan plans/printed.txt "$work"/{wide,s1,s2,s3,far,twice}.txt
+printf '%s broken S4 4 11\n  S4: in some row box 4, or the line down from its left edge, does not end left of box 11, or of the line down from its left edge\n' "$work/s4.txt" > "$work/wanted"
+run 1 "$work/wanted" "" mark --explain plans/F-3.plan "$work/s4.txt"
+printf 'plans/E-4.txt broken S5 1 3\n  S5: the right edge of box 1 passes the left edge of box 3 by more than the allowance of 0 lets it\n' > "$work/wanted"
+run 1 "$work/wanted" "" mark --explain plans/E-0.plan plans/E-4.txt
+printf -- '- full 9 4\n' > "$work/wanted"
+cp plans/printed.txt "$work/in"
+run 0 "$work/wanted" "" mark plans/printed.plan -
+cp plans/printed.plan "$work/in"
+printf 'plans/printed.txt full 9 4\n' > "$work/wanted"
+run 0 "$work/wanted" "" mark - plans/printed.txt
+run 2 "$work/empty" "kuzpalen: mark: only one file can be standard input" mark - -
+cp "$work/empty" "$work/in"
+echo "$work/short.plan refused 2 0" > "$work/wanted"
+for option in "" --explain; do run 1 "$work/wanted" "" mark $option "$work/short.plan" plans/printed.txt plans/B.txt; done
+run 2 "$work/empty" "kuzpalen: $work/none.txt: there is no such file" mark plans/printed.plan plans/printed.txt "$work/none.txt"
+run 2 "$work/empty" "kuzpalen: $work: is a folder" mark plans/printed.plan "$work"
+run 2 "$work/empty" "kuzpalen: mark takes [--explain] PLAN DRAWING..." mark --explain plans/printed.plan
 # two plans joined
 target/bin/join_program plans/printed.plan 0 plans/B.plan "$work/wanted.plan"
 run 0 "$work/empty" "" join plans/printed.plan 0 plans/B.plan "$work/joined.plan"
@@ -185,7 +243,7 @@ run 2 "$work/empty" "kuzpalen: mend takes PLAN OUT" mend plans/A.plan
 run 2 "$work/empty" "kuzpalen: frame takes PLAN SQUARES" frame plans/A.plan
 run 2 "$work/empty" "kuzpalen: frame takes PLAN SQUARES" frame plans/A.plan 1 2
 run 2 "$work/empty" "kuzpalen: join takes FIRST CELL SECOND OUT" join plans/A.plan 0 plans/B.plan
-run 2 "$work/empty" "kuzpalen: mark takes PLAN DRAWING..." mark plans/A.plan
+run 2 "$work/empty" "kuzpalen: mark takes [--explain] PLAN DRAWING..." mark plans/A.plan
 run 2 "$work/empty" "kuzpalen: drill takes PLAN [ANSWERS]" drill plans/A.plan "$work/empty" "$work/empty"
 run 2 "$work/empty" "kuzpalen: plot takes PLAN [PITCH [MARGIN-X [MARGIN-Y]]]" plot plans/A.plan 1 2 3 4
 run 2 "$work/empty" "kuzpalen: sheet takes PLAN..." sheet
