@@ -22,15 +22,12 @@ extern "C" {
 #endif
 
 #define KUZPALEN_CELLS 256u           /* the most cells of a plan; the records that Read's, Join's and Report's tables need */
-#define KUZPALEN_SCRATCH 16384u       /* the numbers that the scratch of Layout, Frame, Mark, Why, Start, Step, Reach and Report needs */
+#define KUZPALEN_SCRATCH 16384u       /* the numbers that the scratch of Layout, Frame, Mark, Start, Step, Reach and Report needs */
 #define KUZPALEN_SECOND 1024u         /* the numbers that the second scratch of Start, Step and Reach needs */
 #define KUZPALEN_LISTING_SIZE 17408u  /* the bytes that List's output needs, whatever the file */
 #define KUZPALEN_COPY_SIZE 16384u     /* the bytes that Copy's output needs, whatever the plan */
 #define KUZPALEN_MENDED_SIZE 16384u   /* the bytes that Mend's output needs, whatever the file, */
 #define KUZPALEN_LINES_SIZE 6144u     /* and those that its lines need */
-#define KUZPALEN_LINKS 1020u          /* the numbers that the links of Why and Judge need: four a link, at most 255 links */
-#define KUZPALEN_OUTLINE_SIZE 66560u  /* the bytes that Outline's output needs, whatever the file */
-#define KUZPALEN_COMPOSED_SIZE 16384u /* the bytes that Compose's output needs, whatever the text */
 #define KUZPALEN_NO_PARENT 65535u
 #define KUZPALEN_DRILL_RECORDS 4096u  /* the most steps that a drill records; the numbers that its list needs */
 #define KUZPALEN_DRILL_ANSWERS 4096u  /* the most answer bytes of a drill */
@@ -126,32 +123,6 @@ typedef struct {
 typedef struct {
     uint8_t number;
     uint16_t cell;
-    uint16_t last;         /* the last cell of the reason, 0 with a refusal */
-    uint32_t width;        /* of the sheet, as Layout has them */
-    uint32_t rows;
-    size_t links;          /* the number of links of the reason; 0 where one box is as wide as the sheet */
-} kuzpalen_why_answer;
-
-#define KUZPALEN_JUDGE_LEAST 1u   /* Judge's outcome: it keeps the rules, and no placement that does is narrower; */
-#define KUZPALEN_JUDGE_WIDER 2u   /* it keeps the rules, and a narrower one was possible; */
-#define KUZPALEN_JUDGE_BROKEN 3u  /* a rule is broken. 0 with a refusal */
-
-typedef struct {
-    uint8_t number;
-    uint16_t cell;
-    uint8_t outcome;       /* one of the three above */
-    uint8_t rule;          /* with KUZPALEN_JUDGE_BROKEN rule and cells, as Check has them, else 0 */
-    uint16_t a;
-    uint16_t b;
-    uint16_t last;         /* with KUZPALEN_JUDGE_LEAST the last cell of the reason, else 0 */
-    uint32_t width;        /* of a placement that keeps the rules, else 0 */
-    uint32_t rows;         /* of a placement that keeps the rules, else 0 */
-    size_t links;          /* with KUZPALEN_JUDGE_LEAST the number of links of the reason, else 0 */
-} kuzpalen_judge_answer;
-
-typedef struct {
-    uint8_t number;
-    uint16_t cell;
     size_t length;         /* of the clean copy, in bytes */
 } kuzpalen_copy_answer;
 
@@ -161,24 +132,6 @@ typedef struct {
     size_t length;         /* of the mended file, in bytes: that of the file */
     size_t lines;          /* of the lines, in bytes; 0 where no cell is altered */
 } kuzpalen_mend_answer;
-
-typedef struct {
-    uint8_t number;
-    uint16_t cell;
-    size_t length;         /* of the outline, in bytes */
-} kuzpalen_outline_answer;
-
-#define KUZPALEN_COMPOSE_WRITTEN 1u  /* Compose's outcome: the plan file was written, */
-#define KUZPALEN_COMPOSE_WRONG 2u    /* or a line of the text is not understood. 0 with a refusal */
-
-typedef struct {
-    uint8_t number;
-    uint16_t cell;         /* of the cells that the text says: cell c is on line c + 2 */
-    uint8_t outcome;       /* KUZPALEN_COMPOSE_WRITTEN or KUZPALEN_COMPOSE_WRONG */
-    uint8_t fault;         /* with the second what is wrong with the line, 1 to 11 (docs/OUTLINE.md), else 0 */
-    size_t line;           /* with the second the first line that is not understood, from 1, else 0 */
-    size_t length;         /* with the first the length of the file, in bytes, else 0 */
-} kuzpalen_compose_answer;
 
 /* The page of a plotter, in millimetres. A margin of -0.0 is a margin from 0. */
 typedef struct {
@@ -336,33 +289,6 @@ kuzpalen_mark_answer kuzpalen_mark(const kuzpalen_record *table, size_t table_le
                                    const int32_t *positions, size_t positions_len, uint32_t allowance,
                                    uint32_t *scratch, size_t scratch_len);
 
-/* A reason for a width, by Why and Judge: a chain of links that joins a box at the sheet's left edge to one at
- * its right edge. A link is four numbers: its rule (2 to 5), the cell it leads from, the cell it leads to and
- * its distance, which may be less than 0: by that rule the second box stands at least so much further right
- * than the first, in every placement that keeps S1 to S5. The first link leads from the first cell, each other
- * from where the one before leads to, the last to the cell `last`; the distances and the width of the last box
- * add up to the width. So whoever has the table and a pencil sees that nothing is narrower (docs/RULES.md). A
- * reason of no links has one cell, `last`, whose box is as wide as the sheet. There is one reason that is
- * given: of those with the fewest links that with the lowest last cell, then, from the last link back, the
- * lowest cell it leads from and the lowest rule. It has fewer links than there are cells. */
-
-/* Why: the sheet of a table, as Layout makes it, and the reason for its width. Allowance, scratch and positions
- * as for Layout, which are left as Layout leaves them. `links_len` is at least KUZPALEN_LINKS and
- * `scratch_len` at least KUZPALEN_SCRATCH, or question 1 refuses; then as Layout. The first 4 * `links` numbers
- * of `links` are the reason, the first link first; later ones stay as they were. */
-kuzpalen_why_answer kuzpalen_why(const kuzpalen_record *table, size_t table_len, uint32_t allowance,
-                                 uint32_t *scratch, size_t scratch_len,
-                                 int32_t *positions, size_t positions_len,
-                                 int32_t *links, size_t links_len);
-
-/* Judge: whether anyone's placement could be narrower. Positions and allowance as for Check, by the same
- * questions; the positions are only read. `links_len` is at least KUZPALEN_LINKS, or question 1 refuses, before
- * all others. With KUZPALEN_JUDGE_LEAST, and with it alone, the first 4 * `links` numbers of `links` are the
- * reason of that placement, and later ones stay as they were; else all of them do. No scratch is needed. */
-kuzpalen_judge_answer kuzpalen_judge(const kuzpalen_record *table, size_t table_len,
-                                     const int32_t *positions, size_t positions_len, uint32_t allowance,
-                                     int32_t *links, size_t links_len);
-
 /* Copy: the clean copy of a plan, from a table, label bytes and an allowance: the file with the labels in the
  * order of the cells, back to back, none shared and no byte unused; an empty label's start is where a next
  * label would begin. It is of the old form where every width is at most 255 and every rank 0, the root's too,
@@ -388,24 +314,6 @@ kuzpalen_copy_answer kuzpalen_copy(const kuzpalen_record *table, size_t table_le
  * KUZPALEN_MENDED_SIZE and `text_len` at least KUZPALEN_LINES_SIZE. */
 kuzpalen_mend_answer kuzpalen_mend(const uint8_t *file, size_t file_len,
                                    uint8_t *out, size_t out_len, uint8_t *text, size_t text_len);
-
-/* Outline: a plan file, of either form, as text that people type and keep (docs/OUTLINE.md): a line for the
- * allowance, then a line for each cell, in the order of the cells, each ended by a line feed. `out_len` is at
- * least KUZPALEN_OUTLINE_SIZE, or question 1 refuses; then 2 to 14 as Read. The first `length` bytes of `out`
- * are the outline, with no 0 after it; later ones stay as they were. Plans that agree in parents, kinds,
- * widths, depths, ranks, label texts and allowance have the same outline, and no others have it. */
-kuzpalen_outline_answer kuzpalen_outline(const uint8_t *file, size_t file_len,
-                                         uint8_t *out, size_t out_len);
-
-/* Compose: the plan file of a text, the clean copy of what the text says, as Copy has it. Question 1 is put
- * first: `out_len` is at least KUZPALEN_COMPOSED_SIZE. A text that is not understood is answered by its first
- * line that is not and that line's fault, and the output stays as it was. What is understood and is no plan is
- * refused by Copy's questions: 4, or one of 8 to 13, for no other can refuse it. The first `length` bytes of
- * `out` are the file, which Read accepts; later ones stay as they were. What Outline wrote of a file, Compose
- * makes the file's clean copy of; what Compose wrote of a text, Outline gives back as the one outline that says
- * the same as the text. The text may be of any length, 0 too. */
-kuzpalen_compose_answer kuzpalen_compose(const uint8_t *text, size_t text_len,
-                                         uint8_t *out, size_t out_len);
 
 /* Stroke: number `s`, from 0, of the 9n - 3 strokes that draw a sheet of n cells on a page. Each box, in the
  * order of the cells: a move to its upper left corner, lines to its upper right, lower right, lower left and

@@ -1,6 +1,6 @@
 #!/bin/sh
 # Builds the static library (proving what it is made of, unless that is done), then the comparison, and
-# runs it: the reference's own tests, the plain Check's and others against it, every call on seeded inputs, the C
+# runs it: the reference's own tests, the plain Check's against it, every call on seeded inputs, the C
 # header, the program's listings where the program is built, and a fuzz under valgrind where that is
 # installed. Fails on the first difference or fault. About two minutes when the crates are proved.
 #
@@ -16,7 +16,7 @@ unset KUZPALEN_LIB_DIR
 (cd .. && rt staticlib capi)
 cargo build --offline --quiet --profile checked -p compare
 cargo test --offline --quiet --profile checked -p reference
-cargo test --offline --quiet --profile checked -p compare --test sweep --test reasons
+cargo test --offline --quiet --profile checked -p compare --test sweep
 ./target/checked/compare "$inputs" "$seed"
 if command -v cc >/dev/null; then
     cc -Wall -Wextra -o target/smoke smoke.c ../target/staticlib/libcapi.a

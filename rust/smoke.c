@@ -179,61 +179,6 @@ static int marks_good(const kuzpalen_record *table, uint32_t *scratch) {
         && kuzpalen_mark(table, 3, p, 6, 65536, scratch, KUZPALEN_SCRATCH).number == 14 && scratch[0] == 7;
 }
 
-/* The reason of sheet B: from box 1 to box 2 by S3, 4 columns, and box 2's width of 5. Of G, which is wide, there is none. */
-static int reasons_good(const kuzpalen_record *table, uint32_t *scratch) {
-    static int32_t links[KUZPALEN_LINKS];
-    static const int32_t because[5] = {3, 1, 2, 4, 77};
-    int32_t p[6] = {7, 7, 7, 7, 7, 7};
-    links[4] = 77;
-    scratch[0] = 7;
-    kuzpalen_why_answer few = kuzpalen_why(table, 3, 0, scratch, KUZPALEN_SCRATCH, p, 6, links, KUZPALEN_LINKS - 1);
-    int good = few.number == 1 && few.cell == 0 && few.last == 0 && few.width == 0 && few.links == 0 && links[0] == 0 && p[0] == 7 && scratch[0] == 7;
-    kuzpalen_why_answer why = kuzpalen_why(table, 3, 0, scratch, KUZPALEN_SCRATCH, p, 6, links, KUZPALEN_LINKS);
-    good = good && why.number == 0 && why.cell == 0 && why.last == 2 && why.width == 9 && why.rows == 4 && why.links == 1
-        && memcmp(links, because, sizeof because) == 0 && p[0] == 0 && p[2] == -4 && p[4] == 0 && scratch[0] == 0;
-    memset(links, 0, 4 * sizeof links[0]);
-    kuzpalen_judge_answer least = kuzpalen_judge(table, 3, p, 6, 0, links, KUZPALEN_LINKS);
-    good = good && least.number == 0 && least.cell == 0 && least.outcome == KUZPALEN_JUDGE_LEAST && least.rule == 0 && least.last == 2
-        && least.width == 9 && least.rows == 4 && least.links == 1 && memcmp(links, because, sizeof because) == 0;
-    links[0] = 77;
-    p[2] = -5;
-    kuzpalen_judge_answer wider = kuzpalen_judge(table, 3, p, 6, 0, links, KUZPALEN_LINKS);
-    good = good && wider.number == 0 && wider.outcome == KUZPALEN_JUDGE_WIDER && wider.last == 0 && wider.width == 10 && wider.rows == 4
-        && wider.links == 0 && links[0] == 77;
-    p[2] = -3;
-    kuzpalen_judge_answer broken = kuzpalen_judge(table, 3, p, 6, 0, links, KUZPALEN_LINKS);
-    good = good && broken.number == 0 && broken.outcome == KUZPALEN_JUDGE_BROKEN && broken.rule == 3 && broken.a == 1 && broken.b == 2
-        && broken.width == 0 && broken.rows == 0 && broken.links == 0 && links[0] == 77;
-    return good && kuzpalen_judge(table, 3, p, 6, 0, links, KUZPALEN_LINKS - 1).number == 1
-        && kuzpalen_judge(table, 3, p, 5, 0, links, KUZPALEN_LINKS).number == 1
-        && kuzpalen_judge(table, 3, p, 6, 65536, links, KUZPALEN_LINKS).number == 14
-        && kuzpalen_why(table, 3, 65536, scratch, KUZPALEN_SCRATCH, p, 6, links, KUZPALEN_LINKS).number == 14;
-}
-
-/* The printed example as text and back; a text that is not understood, and one that says no plan. */
-static int texts_good(void) {
-    static const char text[] = "allowance 0\nrun \"Up\"\n  step \"A\"\n  step \"Run\"\n";
-    static const char odd[] = "allowance 0\nrun\n step\n", bare[] = "allowance 0\nrun\n";
-    static uint8_t out[KUZPALEN_OUTLINE_SIZE + 1], plan[KUZPALEN_COMPOSED_SIZE + 1];
-    memset(out, '~', sizeof out);
-    memset(plan, '~', sizeof plan);
-    kuzpalen_outline_answer small = kuzpalen_outline(file, sizeof file, out, KUZPALEN_OUTLINE_SIZE - 1);
-    int good = small.number == 1 && small.cell == 0 && small.length == 0 && out[0] == '~' && kuzpalen_outline(file, 15, out, sizeof out).number == 2;
-    kuzpalen_outline_answer outline = kuzpalen_outline(file, sizeof file, out, sizeof out);
-    good = good && outline.number == 0 && outline.cell == 0 && outline.length == strlen(text)
-        && memcmp(out, text, outline.length) == 0 && out[outline.length] == '~';
-    kuzpalen_compose_answer wrong = kuzpalen_compose((const uint8_t *)odd, strlen(odd), plan, sizeof plan);
-    good = good && wrong.number == 0 && wrong.cell == 0 && wrong.outcome == KUZPALEN_COMPOSE_WRONG && wrong.fault == 6 && wrong.line == 3
-        && wrong.length == 0 && plan[0] == '~';
-    kuzpalen_compose_answer refused = kuzpalen_compose((const uint8_t *)bare, strlen(bare), plan, sizeof plan);
-    good = good && refused.number == 11 && refused.cell == 0 && refused.outcome == 0 && refused.fault == 0 && refused.line == 0
-        && refused.length == 0 && plan[0] == '~'
-        && kuzpalen_compose((const uint8_t *)odd, strlen(odd), plan, KUZPALEN_COMPOSED_SIZE - 1).number == 1;
-    kuzpalen_compose_answer written = kuzpalen_compose(out, outline.length, plan, sizeof plan);
-    return good && written.number == 0 && written.outcome == KUZPALEN_COMPOSE_WRITTEN && written.fault == 0 && written.line == 0
-        && written.length == sizeof file && memcmp(plan, file, sizeof file) == 0 && plan[sizeof file] == '~';
-}
-
 /* The printed example's report, and pools. */
 static int folder_good(void) {
     static uint32_t numbers[KUZPALEN_SCRATCH];
@@ -284,7 +229,7 @@ int main(void) {
     good = good && join.number == 11 && join.cell == 2 && join.count == 0
         && kuzpalen_join(table, 3, table, 3, 3, joined, KUZPALEN_CELLS).number == 16
         && kuzpalen_join(table, 3, table, 3, 0, joined, KUZPALEN_CELLS - 1).number == 1;
-    good = good && steps_good(table, scratch) && marks_good(table, scratch) && reasons_good(table, scratch) && texts_good();
+    good = good && steps_good(table, scratch) && marks_good(table, scratch);
     table[1].rank = 1; /* cell 2 comes before cell 1, which the run hangs from */
     laid = kuzpalen_layout(table, 3, 0, scratch, KUZPALEN_SCRATCH, p, 6);
     good = good && laid.number == 0 && laid.width == 10 && p[2] == 0 && p[4] == -6;

@@ -95,39 +95,6 @@ same_files "what mend writes" "$work/wanted.plan" "$work/mended.plan"
 # the reason of a width, and the frame that a sheet fits
 printf 'why 13 3 25 4\n2 3 S3 3 3\n3 4 S3 10 13\n4 11 S4 1 14\n11 12 S3 9 23\n12 W 2 25\n' > "$work/wanted"
 run 0 "$work/wanted" "" why plans/F-3.plan
-run 0 "$work/wanted" "" why plans/F-3.plan plans/F-3.txt
-head="in every drawing that keeps the rules a link's second box stands its distance or more to the right of its first"
-cat > "$work/wanted" << END
-why 13 3 25 4
-  boxes 13, allowance 3, width 25, links 4; $head
-2 3 S3 3 3
-  S3: box 2 belongs to the sibling right before box 3, so it ends left of that: its width 2 and 1
-3 4 S3 10 13
-  S3: box 3 belongs to the sibling right before box 4, so it ends left of that: its width 9 and 1
-4 11 S4 1 14
-  S4: in some row the line down from the left edge of box 4 stands left of box 11, or of the line down from its left edge: 1
-11 12 S3 9 23
-  S3: box 11 belongs to the sibling right before box 12, so it ends left of that: its width 8 and 1
-12 W 2 25
-  box 12 is 2 wide: 25 in all; no drawing that keeps the rules is narrower
-END
-run 0 "$work/wanted" "" why --explain plans/F-3.plan
-run 0 "$work/wanted" "" why --explain plans/F-3.plan plans/F-3.txt
-cp plans/F-3.plan "$work/in"
-run 0 "$work/wanted" "" why --explain -
-run 0 "$work/wanted" "" why --explain - plans/F-3.txt
-cp plans/F-3.txt "$work/in"
-run 0 "$work/wanted" "" why --explain plans/F-3.plan -
-cp "$work/empty" "$work/in"
-# the other words, with labels
-for case in 'rinse|S5: the right edge of box 1 "Wait for the tide" passes the left edge of box 5 "Rake" by no more than the allowance lets it: its width 19 and 1, less 3' \
-    "Q-200|S3: box 7 belongs to the sibling right after box 2, so it begins right of that one's left edge: 1" \
-    'pond|S4: in some row box 10 "Close both gates" ends left of box 13 "Close valve V1", or of the line down from its left edge: its width 18 and 1' \
-    'ranked|S2: box 39 "Ponds" stands over box 40 "Full: open the overflow", at the same left edge: 0' \
-    'ranked|S2: box 41 "Not full" stands over box 43 "Close valve V2", at the same left edge: 0'; do
-    ./kuzpalen why --explain "plans/${case%%|*}.plan" > "$work/out"
-    same "the words of plans/${case%%|*}.plan: ${case#*|}" 1 "$(grep -cFx "  ${case#*|}" "$work/out")"
-done
 echo "allowance 3 width 25 rows 10" > "$work/wanted"
 run 0 "$work/wanted" "" frame plans/F-3.plan 25
 target/bin/frame_program 1 < plans/F-3.plan > "$work/wanted"
@@ -192,51 +159,7 @@ echo "$work/short.plan refused 2 0" > "$work/wanted"
 for option in "" --explain; do run 1 "$work/wanted" "" mark $option "$work/short.plan" plans/printed.txt plans/B.txt; done
 run 2 "$work/empty" "kuzpalen: $work/none.txt: there is no such file" mark plans/printed.plan plans/printed.txt "$work/none.txt"
 run 2 "$work/empty" "kuzpalen: $work: is a folder" mark plans/printed.plan "$work"
-run 2 "$work/empty" "kuzpalen: mark takes [--explain] [--why] PLAN DRAWING..." mark --explain plans/printed.plan
-# the key's reason behind a drawing that is wide, and nowhere else
-reason=$'  why 3 0 9 1\n  1 2 S3 4 4\n  2 W 5 9'
-printf '%s\n' "plans/printed.txt full 9 4" "$work/wide.txt wide 10 9 4" "$reason" "$work/s3.txt broken S3 1 2" "$work/wide.txt wide 10 9 4" "$reason" "$work/twice.txt line 2: cell 0 is given twice" "drawings 5 full 1 wide 2 broken 1 refused 0 unread 1" > "$work/wanted"
-run 1 "$work/wanted" "" mark --why plans/printed.plan plans/printed.txt "$work"/{wide,s3,wide,twice}.txt
-cat > "$work/wanted" << END
-$work/wide.txt wide 10 9 4
-  keeps the five rules, and is 1 wider than it need be: 9 is enough
-  why 3 0 9 1
-    boxes 3, allowance 0, width 9, links 1; $head
-  1 2 S3 4 4
-    S3: box 1 "A" belongs to the sibling right before box 2 "Run", so it ends left of that: its width 3 and 1
-  2 W 5 9
-    box 2 "Run" is 5 wide: 9 in all; no drawing that keeps the rules is narrower
-END
-for options in "--explain --why" "--why --explain"; do run 1 "$work/wanted" "" mark $options plans/printed.plan "$work/wide.txt"; done
-echo "plans/printed.txt full 9 4" > "$work/wanted"
-run 0 "$work/wanted" "" mark --why plans/printed.plan plans/printed.txt
-echo "$work/short.plan refused 2 0" > "$work/wanted"
-run 1 "$work/wanted" "" mark --why "$work/short.plan" plans/printed.txt
-run 2 "$work/empty" "kuzpalen: mark takes [--explain] [--why] PLAN DRAWING..." mark --why --explain plans/printed.plan
-# why of a drawing: each way to have no reason, the same in words, and the ways to fail
-for case in "wide|wider 10|keeps the five rules, and is 1 wider than it need be: 9 is enough" \
-    "s1|broken S1 1 1|S1: box 1 \"A\" does not stand in the row right below its parent's box" \
-    "s2|broken S2 0 2|S2: box 0 \"Up\" does not have the left edge of box 2 \"Run\", the child that it must stand over" \
-    "far|refused 15 1|box 1 \"A\" stands more than 262143 from the root" "twice|line 2: cell 0 is given twice|"; do
-    IFS='|' read -r drawing line words <<< "$case"
-    echo "$line" > "$work/wanted"
-    run 1 "$work/wanted" "" why plans/printed.plan "$work/$drawing.txt"
-    [ -z "$words" ] || echo "  $words" >> "$work/wanted"
-    run 1 "$work/wanted" "" why --explain plans/printed.plan "$work/$drawing.txt"
-done
-for arguments in "$work/short.plan" "--explain $work/short.plan" "$work/short.plan plans/printed.txt" "--explain $work/short.plan plans/printed.txt"; do run 1 "$work/refused" "" why $arguments; done
-for option in "" --explain; do
-    run 2 "$work/empty" "kuzpalen: why: only one file can be standard input" why $option - -
-    run 2 "$work/empty" "kuzpalen: $work/none.txt: there is no such file" why $option plans/printed.plan "$work/none.txt"
-    run 2 "$work/empty" "kuzpalen: $work/none.plan: there is no such file" why $option "$work/none.plan" plans/printed.txt
-    run 2 "$work/empty" "kuzpalen: $work: is a folder" why $option plans/printed.plan "$work"
-    run 2 "$work/empty" "kuzpalen: $work: is a folder" why $option "$work" plans/printed.txt
-    for files in plans/pond.plan "plans/pond.plan plans/pond.txt"; do
-        ./kuzpalen why $option $files > /dev/full 2> "$work/err"
-        same "status of why $option $files to a full device" 2 $?
-        same "standard error of why $option $files to a full device" "kuzpalen: plans/pond.plan: what is printed could not be written whole" "$(cat "$work/err")"
-    done
-done
+run 2 "$work/empty" "kuzpalen: mark takes [--explain] PLAN DRAWING..." mark --explain plans/printed.plan
 # two plans joined
 target/bin/join_program plans/printed.plan 0 plans/B.plan "$work/wanted.plan"
 run 0 "$work/empty" "" join plans/printed.plan 0 plans/B.plan "$work/joined.plan"
@@ -308,24 +231,21 @@ for command in sheet why clean outline plot strip turns; do
     same_files "output of $command, an input that fails behind a plan" "$work/empty" "$work/out"
     same "what is said of $command, an input that fails behind a plan" "kuzpalen: standard input: the plan cannot be read" "$(cat "$work/err")"
 done
-for command in "drill plans/pond.plan" "folder -" "drill - $work/empty" "frame - 9" "mend - $work/new.plan" "join - 0 plans/A.plan $work/new.plan" "mark - plans/A.txt" "mark plans/A.plan -" "why - plans/A.txt" "why plans/A.plan -" "why --explain -"; do
+for command in "drill plans/pond.plan" "folder -" "drill - $work/empty" "frame - 9" "mend - $work/new.plan" "join - 0 plans/A.plan $work/new.plan" "mark - plans/A.txt" "mark plans/A.plan -"; do
     tests/cut_input.py plans/printed.plan ./kuzpalen $command > "$work/out" 2> "$work/err"
     same "status of $command, an input that fails behind a plan" 2 $?
     same_files "output of $command, an input that fails behind a plan" "$work/empty" "$work/out"
     same "lines on standard error of $command, an input that fails behind a plan" 1 "$(wc -l < "$work/err")"
 done
-for command in clean outline strip turns; do run 2 "$work/empty" "kuzpalen: $command takes PLAN" $command plans/A.plan plans/B.plan; done
-for command in clean outline strip turns; do run 2 "$work/empty" "kuzpalen: $command takes PLAN" $command; done
-for files in "" --explain "plans/A.plan plans/A.txt plans/A.txt" "--explain plans/A.plan plans/A.txt plans/A.txt"; do
-    run 2 "$work/empty" "kuzpalen: why takes [--explain] PLAN [DRAWING]" why $files
-done
+for command in clean outline strip turns why; do run 2 "$work/empty" "kuzpalen: $command takes PLAN" $command plans/A.plan plans/B.plan; done
+for command in clean outline strip turns why; do run 2 "$work/empty" "kuzpalen: $command takes PLAN" $command; done
 run 2 "$work/empty" "kuzpalen: mend takes PLAN OUT" mend plans/A.plan
 run 2 "$work/empty" "kuzpalen: frame takes PLAN SQUARES" frame plans/A.plan
 run 2 "$work/empty" "kuzpalen: frame takes PLAN SQUARES" frame plans/A.plan 1 2
 run 2 "$work/empty" "kuzpalen: join takes FIRST CELL SECOND OUT" join plans/A.plan 0 plans/B.plan
-run 2 "$work/empty" "kuzpalen: mark takes [--explain] [--why] PLAN DRAWING..." mark plans/A.plan
+run 2 "$work/empty" "kuzpalen: mark takes [--explain] PLAN DRAWING..." mark plans/A.plan
 run 2 "$work/empty" "kuzpalen: drill takes PLAN [ANSWERS]" drill plans/A.plan "$work/empty" "$work/empty"
-run 2 "$work/empty" "kuzpalen: plot takes [--drawing DRAWING] PLAN [PITCH [MARGIN-X [MARGIN-Y]]]" plot plans/A.plan 1 2 3 4
+run 2 "$work/empty" "kuzpalen: plot takes PLAN [PITCH [MARGIN-X [MARGIN-Y]]]" plot plans/A.plan 1 2 3 4
 run 2 "$work/empty" "kuzpalen: sheet takes PLAN..." sheet
 run 2 "$work/empty" "kuzpalen: folder takes PLAN..." folder
 run 2 "$work/empty" "kuzpalen: plans/A.plan: arguments are pitch, margin x and margin y in millimetres, each with at most three digits after the point" plot plans/A.plan x

@@ -101,5 +101,4 @@ def main():
     print('tests/reasons.py: %d reasons hold, %d altered ones do not; links: %s' % (held, refused, ', '.join('%s %d' % x for x in sorted(by_rule.items()))))
 
 
-if __name__ == '__main__':
-    main()
+main()

@@ -27,18 +27,6 @@ use Rattle.copying.specs.declared.Copied.TheVariants.{Written, Refused as Uncopi
 use Rattle.mending.specs.Mending.{Mends}
 use Rattle.mending.specs.declared.Mended.{Mended}
 use Rattle.mending.specs.declared.Mended.TheVariants.{Written as Mending, Refused as Unmended}
-use Rattle.outline.specs.Outlined.{Outlines}
-use Rattle.outline.specs.declared.Outlined.{Outlined}
-use Rattle.outline.specs.declared.Outlined.TheVariants.{Written as Outlining, Refused as Unoutlined}
-use Rattle.compose.specs.Composed.{Composes}
-use Rattle.compose.specs.declared.Composed.{Composed}
-use Rattle.compose.specs.declared.Composed.TheVariants.{Written as Composing, Refused as Uncomposed, Wrong as Misread}
-use Rattle.why_answers.specs.Shows.{Shows}
-use Rattle.why_answers.specs.declared.Shown.{Shown}
-use Rattle.why_answers.specs.declared.Shown.TheVariants.{Because, Refused as Unshown}
-use Rattle.why_answers.specs.Judges.{Judges}
-use Rattle.why_answers.specs.declared.Judged.{Judged}
-use Rattle.why_answers.specs.declared.Judged.TheVariants.{Least, Wider, Broken as BrokenJudged, Refused as Unjudged}
 use Rattle.pen.specs.declared.Stroke.{Stroke}
 use Rattle.pen.specs.declared.Stroke.TheVariants.{Move, Line, Lift}
 use Rattle.strokes.specs.declared.Stroked.{Stroked}
@@ -68,10 +56,6 @@ use Rattle.answers.specs.declared.FrameAnswer.{FrameAnswer}
 use Rattle.answers.specs.declared.MarkAnswer.{MarkAnswer}
 use Rattle.answers.specs.declared.MendAnswer.{MendAnswer}
 use Rattle.answers.specs.declared.CopyAnswer.{CopyAnswer}
-use Rattle.answers.specs.declared.OutlineAnswer.{OutlineAnswer}
-use Rattle.answers.specs.declared.ComposeAnswer.{ComposeAnswer}
-use Rattle.answers.specs.declared.WhyAnswer.{WhyAnswer}
-use Rattle.answers.specs.declared.JudgeAnswer.{JudgeAnswer}
 use Rattle.answers.specs.declared.StrokeAnswer.{StrokeAnswer}
 use Rattle.answers.specs.declared.StripAnswer.{StripAnswer}
 use Rattle.answers.specs.declared.JoinAnswer.{JoinAnswer}
@@ -129,27 +113,6 @@ copy_answer (Uncopied k c) = record { number = k; cell = c; length = 0 }
 unfoldable pub mend_answer : Mended → MendAnswer
 mend_answer (Mending n k) = record { number = 0; cell = 0; length = n; lines = k }
 mend_answer (Unmended k c) = record { number = k; cell = c; length = 0; lines = 0 }
-
-unfoldable pub outline_answer : Outlined → OutlineAnswer
-outline_answer (Outlining n) = record { number = 0; cell = 0; length = n }
-outline_answer (Unoutlined k c) = record { number = k; cell = c; length = 0 }
-
--- outcome 1 for a file, 2 for a text that is not understood
-unfoldable pub compose_answer : Composed → ComposeAnswer
-compose_answer (Composing n) = record { number = 0; cell = 0; outcome = 1; fault = 0; line = 0; length = n }
-compose_answer (Misread n f) = record { number = 0; cell = 0; outcome = 2; fault = f; line = n; length = 0 }
-compose_answer (Uncomposed k c) = record { number = k; cell = c; outcome = 0; fault = 0; line = 0; length = 0 }
-
-unfoldable pub why_answer : Shown → WhyAnswer
-why_answer (Because w h n e) = record { number = 0; cell = 0; last = e; width = w; rows = h; links = n }
-why_answer (Unshown k c) = record { number = k; cell = c; last = 0; width = 0; rows = 0; links = 0 }
-
--- outcome 1 for "least", 2 for "wider", 3 for "broken"
-unfoldable pub judge_answer : Judged → JudgeAnswer
-judge_answer (Least w h n e) = record { number = 0; cell = 0; outcome = 1; rule = 0; a = 0; b = 0; last = e; width = w; rows = h; links = n }
-judge_answer (Wider w h) = record { number = 0; cell = 0; outcome = 2; rule = 0; a = 0; b = 0; last = 0; width = w; rows = h; links = 0 }
-judge_answer (BrokenJudged r a b) = record { number = 0; cell = 0; outcome = 3; rule = r; a = a; b = b; last = 0; width = 0; rows = 0; links = 0 }
-judge_answer (Unjudged k c) = record { number = k; cell = c; outcome = 0; rule = 0; a = 0; b = 0; last = 0; width = 0; rows = 0; links = 0 }
 
 -- the float 0, where a case has no point
 abbrev pub no_point : Float
@@ -214,28 +177,6 @@ pub record MendFilling (f out out' lines lines' : List ℕ) (r : MendAnswer) : T
   pub mended : Mended
   pub mends : Mends f out out' lines lines' mended
   pub answers : r ≡ mend_answer mended
-
--- calls of Outline and Compose, as `Outlines` and `Composes` have them, with the structs for their answers
-pub record OutlineFilling (f out out' : List ℕ) (r : OutlineAnswer) : Type 0 where
-  pub outlined : Outlined
-  pub outlines : Outlines f out out' outlined
-  pub answers : r ≡ outline_answer outlined
-
-pub record ComposeFilling (text out out' : List ℕ) (r : ComposeAnswer) : Type 0 where
-  pub composed : Composed
-  pub composes : Composes text out out' composed
-  pub answers : r ≡ compose_answer composed
-
--- calls of Why and Judge, as `Shows` and `Judges` have them, with the structs for their answers
-pub record Showing (t : Table) (al : ℕ) (s s' : List ℕ) (ps ps' ls ls' : List ℤ) (r : WhyAnswer) : Type 0 where
-  pub shown : Shown
-  pub shows : Shows t al s s' ps ps' ls ls' shown
-  pub answers : r ≡ why_answer shown
-
-pub record Judging (t : Table) (ps : List ℤ) (al : ℕ) (ls ls' : List ℤ) (r : JudgeAnswer) : Type 0 where
-  pub judged : Judged
-  pub judges : Judges t ps al ls ls' judged
-  pub answers : r ≡ judge_answer judged
 
 unfoldable pub strip_answer : Refusal → StripAnswer
 strip_answer r = record { number = r.number; cell = r.cell }

@@ -20,14 +20,6 @@ use Rattle.copying.specs.declared.Copied.{Copied}
 use Rattle.copying.specs.declared.Copied.TheVariants.{Written, Refused as Uncopied}
 use Rattle.mending.specs.declared.Mended.{Mended}
 use Rattle.mending.specs.declared.Mended.TheVariants.{Written as Mending, Refused as Unmended}
-use Rattle.outline.specs.declared.Outlined.{Outlined}
-use Rattle.outline.specs.declared.Outlined.TheVariants.{Written as Outlining, Refused as Unoutlined}
-use Rattle.compose.specs.declared.Composed.{Composed}
-use Rattle.compose.specs.declared.Composed.TheVariants.{Written as Composing, Refused as Uncomposed, Wrong as Misread}
-use Rattle.why_answers.specs.declared.Shown.{Shown}
-use Rattle.why_answers.specs.declared.Shown.TheVariants.{Because, Refused as Unshown}
-use Rattle.why_answers.specs.declared.Judged.{Judged}
-use Rattle.why_answers.specs.declared.Judged.TheVariants.{Least, Wider, Broken as BrokenJudged, Refused as Unjudged}
 use Rattle.pen.specs.declared.Stroke.TheVariants.{Move, Line, Lift}
 use Rattle.strokes.specs.declared.Stroked.{Stroked}
 use Rattle.strokes.specs.declared.Stroked.TheVariants.{Drawn, Refused as Undrawn}
@@ -56,10 +48,6 @@ use Rattle.answers.specs.declared.FrameAnswer.{FrameAnswer}
 use Rattle.answers.specs.declared.MarkAnswer.{MarkAnswer}
 use Rattle.answers.specs.declared.CopyAnswer.{CopyAnswer}
 use Rattle.answers.specs.declared.MendAnswer.{MendAnswer}
-use Rattle.answers.specs.declared.OutlineAnswer.{OutlineAnswer}
-use Rattle.answers.specs.declared.ComposeAnswer.{ComposeAnswer}
-use Rattle.answers.specs.declared.WhyAnswer.{WhyAnswer}
-use Rattle.answers.specs.declared.JudgeAnswer.{JudgeAnswer}
 use Rattle.answers.specs.declared.StrokeAnswer.{StrokeAnswer}
 use Rattle.answers.specs.declared.StripAnswer.{StripAnswer}
 use Rattle.answers.specs.declared.JoinAnswer.{JoinAnswer}
@@ -68,7 +56,7 @@ use Rattle.answers.specs.declared.StartAnswer.{StartAnswer}
 use Rattle.answers.specs.declared.StepAnswer.{StepAnswer}
 use Rattle.answers.specs.declared.ReachAnswer.{ReachAnswer}
 use Rattle.answers.specs.declared.ReportAnswer.{ReportAnswer}
-use Rattle.answers.specs.Answers.{read_answer, laid_answer, check_answer, ends_answer, list_answer, frame_answer, mark_answer, copy_answer, mend_answer, outline_answer, compose_answer, why_answer, judge_answer, pen_answer, stroke_answer, strip_answer, join_answer, drill_answer, start_answer, step_answer, reach_answer, report_answer}
+use Rattle.answers.specs.Answers.{read_answer, laid_answer, check_answer, ends_answer, list_answer, frame_answer, mark_answer, copy_answer, mend_answer, pen_answer, stroke_answer, strip_answer, join_answer, drill_answer, start_answer, step_answer, reach_answer, report_answer}
 
 -- ---- the rows
 
@@ -99,18 +87,6 @@ copy r = (r.number, r.cell, r.length)
 
 abbrev pub mend : MendAnswer → ℕ × ℕ × ℕ × ℕ
 mend r = (r.number, r.cell, r.length, r.lines)
-
-abbrev pub outline : OutlineAnswer → ℕ × ℕ × ℕ
-outline r = (r.number, r.cell, r.length)
-
-abbrev pub compose : ComposeAnswer → ℕ × ℕ × ℕ × ℕ × ℕ × ℕ
-compose r = (r.number, r.cell, r.outcome, r.fault, r.line, r.length)
-
-abbrev pub why : WhyAnswer → ℕ × ℕ × ℕ × ℕ × ℕ × ℕ
-why r = (r.number, r.cell, r.last, r.width, r.rows, r.links)
-
-abbrev pub judge : JudgeAnswer → ℕ × ℕ × ℕ × ℕ × ℕ × ℕ × ℕ × ℕ × ℕ × ℕ
-judge r = (r.number, r.cell, r.outcome, r.rule, r.a, r.b, r.last, r.width, r.rows, r.links)
 
 abbrev pub stroke : StrokeAnswer → ℕ × ℕ × ℕ × Float × Float
 stroke r = (r.number, r.cell, r.what, r.x, r.y)
@@ -143,7 +119,7 @@ report r = (r.number, r.cell, folder r.report)
 abbrev pub double : ℕ → Float
 double = of_bits binary64
 
--- an answer, then the struct. 8 3 is a refusal by question 8 at cell 3; the codes are the header's KUZPALEN_FRAME_, MARK_, COMPOSE_, JUDGE_, STROKE_, DRILL_ and STEP_ constants
+-- an answer, then the struct. 8 3 is a refusal by question 8 at cell 3; the codes are the header's KUZPALEN_FRAME_, MARK_, STROKE_, DRILL_ and STEP_ constants
 pub rows :
     (read (read_answer (Plan 9 4)) ≡ (0, 0, 4, 9))
     × (read (read_answer (Unread 8 3)) ≡ (8, 3, 0, 0))
@@ -167,17 +143,6 @@ pub rows :
     × (copy (copy_answer (Uncopied 8 3)) ≡ (8, 3, 0))
     × (mend (mend_answer (Mending 9 4)) ≡ (0, 0, 9, 4))
     × (mend (mend_answer (Unmended 8 3)) ≡ (8, 3, 0, 0))
-    × (outline (outline_answer (Outlining 9)) ≡ (0, 0, 9))
-    × (outline (outline_answer (Unoutlined 8 3)) ≡ (8, 3, 0))
-    × (compose (compose_answer (Composing 9)) ≡ (0, 0, 1, 0, 0, 9))
-    × (compose (compose_answer (Misread 9 4)) ≡ (0, 0, 2, 4, 9, 0))
-    × (compose (compose_answer (Uncomposed 8 3)) ≡ (8, 3, 0, 0, 0, 0))
-    × (why (why_answer (Because 9 4 7 6)) ≡ (0, 0, 6, 9, 4, 7))
-    × (why (why_answer (Unshown 8 3)) ≡ (8, 3, 0, 0, 0, 0))
-    × (judge (judge_answer (Least 9 4 7 6)) ≡ (0, 0, 1, 0, 0, 0, 6, 9, 4, 7))
-    × (judge (judge_answer (Wider 9 4)) ≡ (0, 0, 2, 0, 0, 0, 0, 9, 4, 0))
-    × (judge (judge_answer (BrokenJudged 5 6 7)) ≡ (0, 0, 3, 5, 6, 7, 0, 0, 0, 0))
-    × (judge (judge_answer (Unjudged 8 3)) ≡ (8, 3, 0, 0, 0, 0, 0, 0, 0, 0))
     × (stroke (stroke_answer (Drawn (Move (double 9) (double 4)))) ≡ (0, 0, 1, double 9, double 4))
     × (stroke (stroke_answer (Drawn (Line (double 9) (double 4)))) ≡ (0, 0, 2, double 9, double 4))
     × (stroke (stroke_answer (Drawn Lift)) ≡ (0, 0, 3, double 0, double 0))
@@ -200,8 +165,8 @@ pub rows :
     × (reach (reach_answer (Unreached 8 3)) ≡ (8, 3, 0, 0))
     × (report (report_answer (Figures (record { plans = 1; cells = 2; widths = 3; areas = 4; least = 5; greatest = 6; mean = 7; rest = 9 }))) ≡ (0, 0, (1, 2, 3, 4, 5, 6, 7, 9)))
     × (report (report_answer (Unreported 8 3)) ≡ (8, 3, (0, 0, 0, 0, 0, 0, 0, 0)))
-unfolding read_answer laid_answer check_answer ends_answer list_answer frame_answer mark_answer copy_answer mend_answer outline_answer compose_answer why_answer judge_answer pen_answer stroke_answer strip_answer join_answer drill_answer start_answer step_answer reach_answer report_answer nothing
-rows = (refl, refl, refl, refl, refl, refl, refl, refl, refl, refl, refl, refl, refl, refl, refl, refl, refl, refl, refl, refl, refl, refl, refl, refl, refl, refl, refl, refl, refl, refl, refl, refl, refl, refl, refl, refl, refl, refl, refl, refl, refl, refl, refl, refl, refl, refl, refl, refl, refl, refl, refl, refl, refl, refl, refl)
+unfolding read_answer laid_answer check_answer ends_answer list_answer frame_answer mark_answer copy_answer mend_answer pen_answer stroke_answer strip_answer join_answer drill_answer start_answer step_answer reach_answer report_answer nothing
+rows = (refl, refl, refl, refl, refl, refl, refl, refl, refl, refl, refl, refl, refl, refl, refl, refl, refl, refl, refl, refl, refl, refl, refl, refl, refl, refl, refl, refl, refl, refl, refl, refl, refl, refl, refl, refl, refl, refl, refl, refl, refl, refl, refl, refl)
 
 -- ---- what a struct says: first whether it is a refusal, then by its code which case, then the fields of the case
 
@@ -248,18 +213,6 @@ said_copy r = said Uncopied r.number r.cell 1 (Written r.length ∷ [])
 
 abbrev pub said_mend : MendAnswer → Option Mended
 said_mend r = said Unmended r.number r.cell 1 (Mending r.length r.lines ∷ [])
-
-abbrev pub said_outline : OutlineAnswer → Option Outlined
-said_outline r = said Unoutlined r.number r.cell 1 (Outlining r.length ∷ [])
-
-abbrev pub said_compose : ComposeAnswer → Option Composed
-said_compose r = said Uncomposed r.number r.cell r.outcome (Composing r.length ∷ Misread r.line r.fault ∷ [])
-
-abbrev pub said_why : WhyAnswer → Option Shown
-said_why r = said Unshown r.number r.cell 1 (Because r.width r.rows r.links r.last ∷ [])
-
-abbrev pub said_judge : JudgeAnswer → Option Judged
-said_judge r = said Unjudged r.number r.cell r.outcome (Least r.width r.rows r.links r.last ∷ Wider r.width r.rows ∷ BrokenJudged r.rule r.a r.b ∷ [])
 
 abbrev pub said_stroke : StrokeAnswer → Option Stroked
 said_stroke r = said Undrawn r.number r.cell r.what (Drawn (Move r.x r.y) ∷ Drawn (Line r.x r.y) ∷ Drawn Lift ∷ [])

@@ -1,9 +1,8 @@
 // The answers of the calls for C and Rust, as structs of numbers: number and cell of a refusal first, and 0 for all that a case does not have.
 ghost use Rattle.std.specs.Prelude.{◌≡◌};
-ghost use Rattle.answers.specs.Answers.{«read_answer», laid_answer, check_answer, ends_answer, list_answer, frame_answer, mark_answer, copy_answer, mend_answer, outline_answer, compose_answer, why_answer, judge_answer, pen_answer, stroke_answer, strip_answer, join_answer, drill_answer, start_answer, step_answer, reach_answer, report_answer};
+ghost use Rattle.answers.specs.Answers.{«read_answer», laid_answer, check_answer, ends_answer, list_answer, frame_answer, mark_answer, copy_answer, mend_answer, pen_answer, stroke_answer, strip_answer, join_answer, drill_answer, start_answer, step_answer, reach_answer, report_answer};
 
 use checker::Checked;
-use compose::Composed;
 use copying::Copied;
 use ends::Ended;
 use finishing::Started;
@@ -14,13 +13,11 @@ use following::Drilled;
 use layout::Laid;
 use mark_spec::Marked;
 use mending::Mended;
-use outline::Outlined;
 use pen::Stroke;
 use plan::Refusal;
 use printing::Listed;
 use season::{Report, Reported};
 use strokes::Stroked;
-use why_answers::{Judged, Shown};
 
 // Number and cell of the refusal, or 0 and 0; the number of cells and the allowance.
 #[repr(C)]
@@ -432,185 +429,6 @@ pub fn told_mend(answer: Mended) -> MendAnswer
             cell,
             length: 0,
             lines: 0,
-        },
-    }
-}
-
-// Number and cell of the refusal, or 0 and 0; the length of the outline.
-#[repr(C)]
-#[derive(Drop)]
-pub struct OutlineAnswer {
-    pub number: u8,
-    pub cell: u16,
-    pub length: usize,
-}
-
-// The answer of Outline as a struct.
-pub fn told_outline(answer: Outlined) -> OutlineAnswer
-    ensures { result ≡ outline_answer answer }
-{
-    match answer {
-        Outlined::Written(length) => OutlineAnswer {
-            number: 0,
-            cell: 0,
-            length,
-        },
-        Outlined::Refused(number, cell) => OutlineAnswer {
-            number,
-            cell,
-            length: 0,
-        },
-    }
-}
-
-// Number and cell of the refusal, or 0 and 0; 1 and the length of the file, or 2 with the line that is not understood and the number of its fault.
-#[repr(C)]
-#[derive(Drop)]
-pub struct ComposeAnswer {
-    pub number: u8,
-    pub cell: u16,
-    pub outcome: u8,
-    pub fault: u8,
-    pub line: usize,
-    pub length: usize,
-}
-
-// The answer of Compose as a struct.
-pub fn told_compose(answer: Composed) -> ComposeAnswer
-    ensures { result ≡ compose_answer answer }
-{
-    match answer {
-        Composed::Written(length) => ComposeAnswer {
-            number: 0,
-            cell: 0,
-            outcome: 1,
-            fault: 0,
-            line: 0,
-            length,
-        },
-        Composed::Refused(number, cell) => ComposeAnswer {
-            number,
-            cell,
-            outcome: 0,
-            fault: 0,
-            line: 0,
-            length: 0,
-        },
-        Composed::Wrong(line, fault) => ComposeAnswer {
-            number: 0,
-            cell: 0,
-            outcome: 2,
-            fault,
-            line,
-            length: 0,
-        },
-    }
-}
-
-// Number and cell of the refusal, or 0 and 0; the last cell of the reason, width and rows of the sheet, the number of links.
-#[repr(C)]
-#[derive(Drop)]
-pub struct WhyAnswer {
-    pub number: u8,
-    pub cell: u16,
-    pub last: u16,
-    pub width: u32,
-    pub rows: u32,
-    pub links: usize,
-}
-
-// The answer of Why as a struct.
-pub fn told_why(answer: Shown) -> WhyAnswer
-    ensures { result ≡ why_answer answer }
-{
-    match answer {
-        Shown::Because(width, rows, links, last) => WhyAnswer {
-            number: 0,
-            cell: 0,
-            last,
-            width,
-            rows,
-            links,
-        },
-        Shown::Refused(number, cell) => WhyAnswer {
-            number,
-            cell,
-            last: 0,
-            width: 0,
-            rows: 0,
-            links: 0,
-        },
-    }
-}
-
-// Number and cell of the refusal, or 0 and 0; 1 least, 2 wider, 3 broken; rule and cells of the last; width and rows of a placement that is kept; last cell and number of links of the reason of one that is least.
-#[repr(C)]
-#[derive(Drop)]
-pub struct JudgeAnswer {
-    pub number: u8,
-    pub cell: u16,
-    pub outcome: u8,
-    pub rule: u8,
-    pub a: u16,
-    pub b: u16,
-    pub last: u16,
-    pub width: u32,
-    pub rows: u32,
-    pub links: usize,
-}
-
-// The answer of Judge as a struct.
-pub fn told_judge(answer: Judged) -> JudgeAnswer
-    ensures { result ≡ judge_answer answer }
-{
-    match answer {
-        Judged::Least(width, rows, links, last) => JudgeAnswer {
-            number: 0,
-            cell: 0,
-            outcome: 1,
-            rule: 0,
-            a: 0,
-            b: 0,
-            last,
-            width,
-            rows,
-            links,
-        },
-        Judged::Wider(width, rows) => JudgeAnswer {
-            number: 0,
-            cell: 0,
-            outcome: 2,
-            rule: 0,
-            a: 0,
-            b: 0,
-            last: 0,
-            width,
-            rows,
-            links: 0,
-        },
-        Judged::Broken(rule, a, b) => JudgeAnswer {
-            number: 0,
-            cell: 0,
-            outcome: 3,
-            rule,
-            a,
-            b,
-            last: 0,
-            width: 0,
-            rows: 0,
-            links: 0,
-        },
-        Judged::Refused(number, cell) => JudgeAnswer {
-            number,
-            cell,
-            outcome: 0,
-            rule: 0,
-            a: 0,
-            b: 0,
-            last: 0,
-            width: 0,
-            rows: 0,
-            links: 0,
         },
     }
 }

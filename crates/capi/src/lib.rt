@@ -5,16 +5,15 @@ ghost use Rattle.planfile_spec.specs.Reading.{label_refusal, label_part};
 ghost use Rattle.checker.specs.Checked.{checked_of};
 ghost use Rattle.ends.specs.Ended.{«ended_of»};
 ghost use Rattle.strokes.specs.Stroked.{stroked_of};
-ghost use Rattle.answers.specs.Answers.{check_answer, ends_answer, stroke_answer, Filling, Laying, ListFilling, Framing, Marking, CopyFilling, MendFilling, OutlineFilling, ComposeFilling, Showing, Judging, Stripping, Joining, Drilling, Starting, Stepping, Reaching, Reporting, report_answer};
+ghost use Rattle.answers.specs.Answers.{check_answer, ends_answer, stroke_answer, Filling, Laying, ListFilling, Framing, Marking, CopyFilling, MendFilling, Stripping, Joining, Drilling, Starting, Stepping, Reaching, Reporting, report_answer};
 ghost use Rattle.season.specs.Pool.{pool};
 
 use answers::{
-    CheckAnswer, ComposeAnswer, CopyAnswer, DrillAnswer, EndsAnswer, FrameAnswer, JoinAnswer,
-    JudgeAnswer, LabelAnswer, LabelPart, LayoutAnswer, ListAnswer, MarkAnswer, MendAnswer,
-    OutlineAnswer, ReachAnswer, ReadAnswer, ReportAnswer, StartAnswer, StepAnswer, StripAnswer,
-    StrokeAnswer, WhyAnswer, told_check, told_compose, told_copy, told_drill, told_ends,
-    told_frame, told_join, told_judge, told_layout, told_list, told_mark, told_mend, told_outline,
-    told_reach, told_read, told_report, told_start, told_step, told_strip, told_stroke, told_why,
+    CheckAnswer, CopyAnswer, DrillAnswer, EndsAnswer, FrameAnswer, JoinAnswer, LabelAnswer,
+    LabelPart, LayoutAnswer, ListAnswer, MarkAnswer, MendAnswer, ReachAnswer, ReadAnswer,
+    ReportAnswer, StartAnswer, StepAnswer, StripAnswer, StrokeAnswer, told_check, told_copy,
+    told_drill, told_ends, told_frame, told_join, told_layout, told_list, told_mark, told_mend,
+    told_reach, told_read, told_report, told_start, told_step, told_strip, told_stroke,
 };
 use plan::{Page, Record};
 use season::Report;
@@ -127,49 +126,6 @@ pub extern "C" fn kuzpalen_mend(file: &[u8], out: &mut [u8], lines: &mut [u8]) -
 {
     let answer = mending::mend(file, out, lines);
     told_mend(answer)
-}
-
-#[unsafe(no_mangle)]
-pub extern "C" fn kuzpalen_outline(file: &[u8], out: &mut [u8]) -> OutlineAnswer
-    ensures { OutlineFilling file.now out.old out.new result }
-{
-    let answer = outline::outline(file, out);
-    told_outline(answer)
-}
-
-#[unsafe(no_mangle)]
-pub extern "C" fn kuzpalen_compose(text: &[u8], out: &mut [u8]) -> ComposeAnswer
-    ensures { ComposeFilling text.now out.old out.new result }
-{
-    let answer = compose::compose(text, out);
-    told_compose(answer)
-}
-
-#[unsafe(no_mangle)]
-pub extern "C" fn kuzpalen_why(
-    table: &[Record],
-    allowance: u32,
-    scratch: &mut [u32],
-    positions: &mut [i32],
-    links: &mut [i32],
-) -> WhyAnswer
-    ensures { Showing (cells_of table.now) allowance scratch.old scratch.new positions.old positions.new links.old links.new result }
-{
-    let answer = why_entry::why(table, allowance, scratch, positions, links);
-    told_why(answer)
-}
-
-#[unsafe(no_mangle)]
-pub extern "C" fn kuzpalen_judge(
-    table: &[Record],
-    positions: &[i32],
-    allowance: u32,
-    links: &mut [i32],
-) -> JudgeAnswer
-    ensures { Judging (cells_of table.now) positions.now allowance links.old links.new result }
-{
-    let answer = why_entry::judge(table, positions, allowance, links);
-    told_judge(answer)
 }
 
 #[unsafe(no_mangle)]

@@ -1,7 +1,6 @@
 -- WHAT THE WRITER OF A PLAN FILE FROM AN OUTLINE ANSWERS, and what it leaves in the output lent to it, on every text. Assumes nothing.
-use Rattle.std.specs.Prelude.{◌≡◌, cond, List, [], ◌++◌, ℕ, ◌≤◌, eqb, length, drop}
+use Rattle.std.specs.Prelude.{◌≡◌, cond, List, [], ◌++◌, ℕ, ◌≤◌, eqb, leb, length, drop}
 use Rattle.plan.specs.Limits.{most_file}
-use Rattle.plan.specs.Questions.{copy_output, roomy}
 use Rattle.content.specs.Clean.{clean}
 use Rattle.outline_spec.specs.Understood.{Understood, fault, plan, understood}
 use Rattle.outline_spec.specs.Faults.{fault_number}
@@ -9,16 +8,16 @@ use Rattle.outline_spec.specs.Refused.{content_refusal}
 use Rattle.compose.specs.declared.Composed.{Composed}
 use Rattle.compose.specs.declared.Composed.TheVariants.{Written, Refused, Wrong}
 
--- by what the text says: the line and the number of its fault; or the length of the content's clean copy, or the refusal: the first "no" of the questions that the call puts
+-- by what the text says: the line and the number of its fault; or Copy's answer about the content: the length of its clean copy, or the refusal
 unfoldable pub composed_by : Understood → (output : ℕ) → Composed
 composed_by (fault n f) room = Wrong n (fault_number f)
 composed_by (plan c) room =
     let r = content_refusal c room in
     cond (eqb r.number 0) (Written (length (clean c))) (Refused r.number r.cell)
 
--- question 1, of the output, comes before the text is read
+-- question 1 comes first, as in every call
 unfoldable pub composed_of : (text : List ℕ) → (output : ℕ) → Composed
-composed_of t room = cond (roomy (copy_output room)) (composed_by (understood t) room) (Refused 1 0)
+composed_of t room = cond (leb most_file room) (composed_by (understood t) room) (Refused 1 0)
 
 -- the file: the clean copy of what the text says
 unfoldable pub file_by : Understood → List ℕ

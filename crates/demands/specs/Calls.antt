@@ -222,7 +222,7 @@ pub check-total : (t : Table) (al : ℕ) (ps : List ℤ) → refusal check (chec
     → (((w : ℕ) × (h : ℕ) × (checked_of t ps al ≡ Kept w h)) ↔ Keeps t (placed ps) al)
     × (((r : ℕ) × (a : ℕ) × (b : ℕ) × (checked_of t ps al ≡ Broken r a b)) ↔ (¬ (Keeps t (placed ps) al)))
     × ((k c : ℕ) → ¬ (checked_of t ps al ≡ checked.Refused k c))
-check-total t al ps z = (checking.keeps_iff t al ps z, checking.breaks_iff t al ps z, checking.no_refusal t al ps z)
+check-total t al ps z = (checking.keeps_iff t al ps z, checking.breaks_iff t al ps z, checking.no-refusal t al ps z)
 
 -- Ends gives two points: on the parent's box below, and on the cell's above, each at the nearer whole number to half the width, a tie going to the even one (document 02, E3).
 pub ends-gives : (t : Table) (ps : List ℤ) (c : ℕ) → refusal ends (ends_given t ps c) ≡ none
@@ -326,7 +326,7 @@ module _ (t : Table) (f : ℕ) (s s' : List ℕ) (r : Fitted) (g : Frames t f s 
 
 -- Of an answer alone: an allowance is the least.
 pub frame-least : (t : Table) (f : ℕ) (s s' : List ℕ) (a : ℕ) → Frames t f s s' (fitted.Allowance a) → Least t f a
-frame-least = fitting.allowance-least
+frame-least = fitting.allowance_least
 
 -- ◆E and ◆F in frames, the questions included.
 pub frame-worked : frames.Rows

@@ -11,4 +11,3 @@ pub mod Mark
 pub mod Between
 pub mod Prints
 pub mod Why
-pub mod Outline

@@ -1,5 +1,4 @@
 // THE CALLS, over lent memory, each from the crate that proves it: no call asks anything of its caller.
-pub use compose::compose;
 pub use copy_entry::copy;
 pub use drill_entry::drill;
 pub use frame_entry::frame;
@@ -8,9 +7,7 @@ pub use label_entry::{label, label_refusal};
 pub use layout_entry::layout;
 pub use mark_entry::mark;
 pub use mending::mend;
-pub use outline::outline;
 pub use printing::list;
 pub use read_entry::{ReadAnswer, read};
 pub use sheet_entry::{check, ends};
 pub use strip_entry::strip;
-pub use why_entry::{judge, why};

@@ -1,24 +1,26 @@
 -- WHAT THE WRITER OF OUTLINES ANSWERS, and what it leaves in the output, on every file. Assumes nothing.
-use Rattle.std.specs.Prelude.{◌≡◌, cond, List, [], ◌∷◌, ◌++◌, ℕ, ◌≤◌, eqb, length, drop}
-use Rattle.plan.specs.Limits.{outline_size}
-use Rattle.plan.specs.Questions as asked
-use Rattle.plan.specs.Questions.{outline_output, nothing, refusal}
-use Rattle.plan.specs.declared.Refusal.{Refusal}
+use Rattle.std.specs.Prelude.{◌≡◌, cond, List, [], ◌∷◌, ◌++◌, ℕ, ◌≤◌, eqb, leb, length, drop}
+use Rattle.plan.specs.Limits.{most_cells}
+use Rattle.plan.specs.Questions.{to_fill, nothing, read, refusal}
 use Rattle.planfile_spec.specs.Format.{file_given}
 use Rattle.content.specs.Content.{file_content}
 use Rattle.outline_spec.specs.Outline.{outline}
 use Rattle.outline.specs.declared.Outlined.{Outlined}
 use Rattle.outline.specs.declared.Outlined.TheVariants.{Written, Refused}
 
--- the refusal, for an output of so many bytes: the first "no" of the questions that the call puts, 1 of the output, then Read's
-abbrev pub outline_refusal : List ℕ → (output : ℕ) → Refusal
-outline_refusal f room = refusal asked.outline (file_given f (outline_output room ∷ []) nothing)
+-- bytes of an output for an outline: more than the longest has
+abbrev pub outline_size : ℕ
+outline_size = 66560
 
--- the length of the outline; number and cell of the refusal
-unfoldable pub outlined_of : (file : List ℕ) → (output : ℕ) → Outlined
-outlined_of f room =
-    let r = outline_refusal f room in
+-- the length of the outline, or Read's refusal
+unfoldable pub outlined_by : (file : List ℕ) → Outlined
+outlined_by f =
+    let r = refusal read (file_given f (to_fill most_cells ∷ []) nothing) in
     cond (eqb r.number 0) (Written (length (outline (file_content f)))) (Refused r.number r.cell)
+
+-- question 1 comes first, as in every call
+unfoldable pub outlined_of : (file : List ℕ) → (output : ℕ) → Outlined
+outlined_of f room = cond (leb outline_size room) (outlined_by f) (Refused 1 0)
 
 -- the output after it: the outline, the rest as it was; of a refusal, as it was
 unfoldable pub outlined_after : Outlined → (file out : List ℕ) → List ℕ

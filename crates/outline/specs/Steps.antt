@@ -1,14 +1,11 @@
 -- The writer as the code does it: cell after cell, from columns. Nothing that a reader must believe stands here. Assumes nothing.
-use Rattle.std.specs.Prelude.{◌≡◌, cond, List, [], ◌∷◌, ◌++◌, ℕ, zero, suc, ◌+◌, ◌≤◌, ◌<◌, eqb, length, get_or, take, drop}
-use Rattle.plan.specs.Limits.{most_cells, most_label, outline_size}
-use Rattle.plan.specs.Questions.{to_fill, nothing, read, refusal}
-use Rattle.planfile_spec.specs.Format.{file_given}
+use Rattle.std.specs.Prelude.{◌≡◌, List, [], ◌∷◌, ◌++◌, ℕ, zero, suc, ◌+◌, ◌≤◌, ◌<◌, length, get_or, take, drop}
+use Rattle.plan.specs.Limits.{most_cells, most_label}
 use Rattle.listing.specs.Printed.{Bytes, line_feed}
-use Rattle.content.specs.Content.{Item, file_content}
-use Rattle.outline_spec.specs.Outline.{level_under, cell_line, outline}
-use Rattle.outline.specs.Outlined.{outlined_after, size}
+use Rattle.content.specs.Content.{Item}
+use Rattle.outline_spec.specs.Outline.{level_under, cell_line}
+use Rattle.outline.specs.Outlined.{outline_size, outlined_by, outlined_after, size}
 use Rattle.outline.specs.declared.Outlined.{Outlined}
-use Rattle.outline.specs.declared.Outlined.TheVariants.{Written, Refused}
 
 -- cell c, from columns and label bytes
 abbrev pub item_from : (ps ks ws ds qs ls ss letters : List ℕ) → ℕ → Item
@@ -34,12 +31,6 @@ pub record Ready (e : ℕ → Item) (ls ss : List ℕ) (n letters : ℕ) : Type 
   pub brief : (c : ℕ) → c < n → length (cell_line (levels_of e c) (e c)) ≤ 255
   pub short : (c : ℕ) → c < n → get_or ls c 0 ≤ most_label
   pub within : (c : ℕ) → c < n → get_or ss c 0 + get_or ls c 0 ≤ letters
-
--- the length of the outline, or Read's refusal
-unfoldable pub outlined_by : (file : List ℕ) → Outlined
-outlined_by f =
-    let r = refusal read (file_given f (to_fill most_cells ∷ []) nothing) in
-    cond (eqb r.number 0) (Written (length (outline (file_content f)))) (Refused r.number r.cell)
 
 -- the answer and the output, into an output that is long enough
 pub record Outlining (f out out' : List ℕ) (d : Outlined) : Type 0 where

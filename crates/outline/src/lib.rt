@@ -3,16 +3,17 @@ ghost use Rattle.std.specs.Prelude.{◌≡◌, ◌++◌, ◌∷◌, [], ◌+◌,
 ghost use Rattle.listing.specs.Put.{Put};
 ghost use Rattle.listing.specs.Printed.{line_feed};
 ghost use Rattle.outline_spec.specs.Outline.{first_line};
-ghost use Rattle.plan.specs.Limits.{outline_size};
-ghost use Rattle.outline.specs.Outlined.{Outlines};
+ghost use Rattle.outline.specs.Outlined.{outline_size, Outlines};
 ghost use Rattle.outline.specs.Steps.{«item_from», «lines_of», Ready, Outlining};
 
 use decimals::{put_byte, put_decimal, put_text};
 use outline_line::{level_under, put_cell, wide};
-use plan::limits::{MOST_CELLS, OUTLINE_SIZE};
+use plan::limits::MOST_CELLS;
 use planfile_cursor::trailer;
 
 const LINE_FEED: u8 = 10;
+
+const OUTLINE_SIZE: usize = 66560;
 
 // The length of the outline; or the refusal's number and cell.
 #[derive(Drop)]

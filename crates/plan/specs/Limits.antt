@@ -51,14 +51,6 @@ listing_size = 17408
 abbrev pub lines_size : ℕ
 lines_size = 6144
 
--- numbers of an output for the links of a reason (question 1): four a link, and a reason has fewer links than there are cells (crate why_spec, `reason_short`)
-abbrev pub links_size : ℕ
-links_size = 1020
-
--- bytes of an output for an outline (question 1): more than the longest has
-abbrev pub outline_size : ℕ
-outline_size = 66560
-
 -- bytes of a file (question 2)
 abbrev pub least_file : ℕ
 least_file = 16

@@ -4,7 +4,7 @@
 use Rattle.std.specs.Prelude.{◌≡◌, List, [], ◌∷◌, ◌++◌, Bool, true, false, cond, ℕ, ℤ}
 use Rattle.plan.specs.Plan.{Table}
 use Rattle.plan.specs.declared.Page.{Page}
-use Rattle.plan.specs.Questions.{Buffer, to_fill, scratch, copy_output, lines_output, outline_output, Lent, absent, long, Label, Given, Question, buffers_long, file_sized, file_marked, cells_counted, positions_long, letters_printable, parent_lower, kind_known, box_sized, label_inside, label_fits, children_allowed, level_low, rows_few, frame_wide, allowance_small, coordinates_near, cell_named, page_fair, stroke_numbered, answers_few, cell_finished, number, Step, once, each, sequence, Call, read, label, layout, check, ends, list, frame, copy, mend, stroke, strip, drill, start, step, reach, report, mark, why, judge, outline, compose, kept, layout_given, check_given, ends_given, list_given, frame_given, copy_given, stroke_given, strip_given, drill_given, start_given, step_given, reach_given, mark_given, why_given, judge_given}
+use Rattle.plan.specs.Questions.{Buffer, to_fill, scratch, copy_output, lines_output, Lent, absent, long, Label, Given, Question, buffers_long, file_sized, file_marked, cells_counted, positions_long, letters_printable, parent_lower, kind_known, box_sized, label_inside, label_fits, children_allowed, level_low, rows_few, frame_wide, allowance_small, coordinates_near, cell_named, page_fair, stroke_numbered, answers_few, cell_finished, number, Step, once, each, sequence, Call, read, label, layout, check, ends, list, frame, copy, mend, stroke, strip, drill, start, step, reach, report, mark, kept, layout_given, check_given, ends_given, list_given, frame_given, copy_given, stroke_given, strip_given, drill_given, start_given, step_given, reach_given, mark_given}
 
 -- whether there is a buffer, and whether there are positions, to put question 1 to
 unfoldable pub some_buffer : List Buffer → Bool
@@ -93,12 +93,6 @@ pub record Rows : Type 0 where
   pub of_report : (g : Given) (m s p : ℕ) → g.buffers ≡ to_fill m ∷ scratch s ∷ [] → g.positions ≡ long p → asks report g ≡ 1 ∷ 2 ∷ 3 ∷ 4 ∷ 1 ∷ 5 ∷ 6 ∷ 7 ∷ 8 ∷ 9 ∷ 10 ∷ 11 ∷ 12 ∷ 13 ∷ 14 ∷ []
   -- an examiner's mark: Layout's scratch, then Check's questions
   pub of_mark : (t : Table) (ps : List ℤ) (al s : ℕ) → asks mark (mark_given t ps al s) ≡ 1 ∷ 4 ∷ 1 ∷ 6 ∷ 7 ∷ 8 ∷ 11 ∷ 12 ∷ 13 ∷ 14 ∷ 15 ∷ []
-  -- the reason for our sheet's width: Layout's row; for anyone's: the links, then Check's questions
-  pub of_why : (t : Table) (al s p l : ℕ) → asks why (why_given t al s p l) ≡ 1 ∷ 4 ∷ 1 ∷ 6 ∷ 7 ∷ 8 ∷ 11 ∷ 12 ∷ 13 ∷ 14 ∷ []
-  pub of_judge : (t : Table) (ps : List ℤ) (al l : ℕ) → asks judge (judge_given t ps al l) ≡ 1 ∷ 4 ∷ 1 ∷ 6 ∷ 7 ∷ 8 ∷ 11 ∷ 12 ∷ 13 ∷ 14 ∷ 15 ∷ []
-  -- the outline of a plan file: Read's row; the plan file of a text: Copy's row, of what the text says
-  pub of_outline : (g : Given) (m : ℕ) → g.buffers ≡ outline_output m ∷ [] → g.positions ≡ absent → asks outline g ≡ 1 ∷ 2 ∷ 3 ∷ 4 ∷ 5 ∷ 6 ∷ 7 ∷ 8 ∷ 9 ∷ 10 ∷ 11 ∷ 12 ∷ 13 ∷ 14 ∷ []
-  pub of_compose : (t : Table) (ls : List Label) (letters : List ℕ) (al o : ℕ) → asks compose (copy_given t ls letters al o) ≡ 1 ∷ 4 ∷ 5 ∷ 6 ∷ 7 ∷ 8 ∷ 9 ∷ 10 ∷ 11 ∷ 12 ∷ 13 ∷ 14 ∷ []
   -- "For each record in turn, 6 to 10"; 11, 12, 13, 15 and 20 each of all cells before the next number. Of a lent table, 6 to 8 in turn
   pub by_cell : (g : Given) → cell_by_cell g sequence ≡ (6 ∷ 7 ∷ 8 ∷ 9 ∷ 10 ∷ []) ∷ (11 ∷ []) ∷ (12 ∷ []) ∷ (13 ∷ []) ∷ (15 ∷ []) ∷ (20 ∷ []) ∷ []
   pub by_cell_lent : (g : Given) → cell_by_cell g (kept layout sequence) ≡ (6 ∷ 7 ∷ 8 ∷ []) ∷ (11 ∷ []) ∷ (12 ∷ []) ∷ (13 ∷ []) ∷ []

@@ -2,7 +2,7 @@
 -- A call's refusal is the first "no". Every definition computes. Assumes nothing.
 use Rattle.std.specs.Prelude.{List, [], ◌∷◌, ◌++◌, Bool, true, false, ◌&&◌, cond, ℕ, zero, suc, ◌+◌, ◌*◌, ◌-◌, length, get_or, eqb, leb, ltb, ℤ, pos}
 use Rattle.whole.specs.Range.{in_range}
-use Rattle.plan.specs.Limits.{between, most_cells, most_width, most_depth, most_level, last_row, most_allowance, farthest, scratch_size, second_size, listing_size, lines_size, links_size, outline_size, least_file, most_file, trailer_size, first_letter, last_letter, most_label, no_parent, most_steps, most_answers}
+use Rattle.plan.specs.Limits.{between, most_cells, most_width, most_depth, most_level, last_row, most_allowance, farthest, scratch_size, second_size, listing_size, lines_size, least_file, most_file, trailer_size, first_letter, last_letter, most_label, no_parent, most_steps, most_answers}
 use Rattle.plan.specs.Forms.{marked, form_of, record_size, widest}
 use Rattle.plan.specs.Lists.{from, mem}
 use Rattle.plan.specs.Plan.{Table, parent, kind, box_width, box_depth, children, level, row}
@@ -13,16 +13,13 @@ use Rattle.plan.specs.Pages.{fair}
 
 -- ---- what a call is given
 -- a lent buffer of a length that question 1 asks for, with the length that it has: a table to fill, Layout's scratch, the output of a listing; of document 02 the output of a clean copy
--- or of a mended file (E4, E11), that of the lines that tell the mending, a drill's list (E12), and the second scratch of a sheet that is being made (E9); beyond the papers the links of a
--- reason, and an outline
+-- or of a mended file (E4, E11), that of the lines that tell the mending, a drill's list (E12), and the second scratch of a sheet that is being made (E9)
 pub data Buffer : Type 0 where
   to_fill scratch output : ℕ → Buffer
   copy_output : ℕ → Buffer
   lines_output : ℕ → Buffer
   step_list : ℕ → Buffer
   second_scratch : ℕ → Buffer
-  links_output : ℕ → Buffer
-  outline_output : ℕ → Buffer
 
 -- the length of the positions, where the call has them
 pub data Lent : Type 0 where
@@ -147,8 +144,6 @@ pub data Call : Type 0 where
   start step reach : Call
   report : Call
   mark : Call
-  why judge : Call
-  outline compose : Call
 
 -- the numbers of the questions that a call puts
 unfoldable pub puts : Call → List ℕ
@@ -172,12 +167,6 @@ puts reach = 1 ∷ 4 ∷ 6 ∷ 7 ∷ 8 ∷ 11 ∷ 12 ∷ 13 ∷ 14 ∷ 16 ∷ 20
 puts report = from 1 14
 -- an examiner's mark: Check's, behind Layout's scratch
 puts mark = 1 ∷ 4 ∷ 6 ∷ 7 ∷ 8 ∷ 11 ∷ 12 ∷ 13 ∷ 14 ∷ 15 ∷ []
--- the reason for our sheet's width: Layout's, with the links; the reason for anyone's: Check's, behind the links
-puts why = 1 ∷ 4 ∷ 6 ∷ 7 ∷ 8 ∷ 11 ∷ 12 ∷ 13 ∷ 14 ∷ []
-puts judge = 1 ∷ 4 ∷ 6 ∷ 7 ∷ 8 ∷ 11 ∷ 12 ∷ 13 ∷ 14 ∷ 15 ∷ []
--- a plan file as text: Read's; the plan file of a text: Copy's, of what the text says
-puts outline = from 1 14
-puts compose = 1 ∷ from 4 11
 
 -- those of the questions that a call puts
 unfoldable pub put : Call → List Question → List Question
@@ -204,8 +193,6 @@ roomy (copy_output m) = leb most_file m
 roomy (lines_output m) = leb lines_size m
 roomy (step_list m) = leb most_steps m
 roomy (second_scratch m) = leb second_size m
-roomy (links_output m) = leb links_size m
-roomy (outline_output m) = leb outline_size m
 
 unfoldable pub all_roomy : List Buffer → Bool
 all_roomy [] = true
@@ -454,13 +441,3 @@ reach_given t al s m finished c =
 unfoldable pub mark_given : Table → (positions : List ℤ) → (allowance scratch : ℕ) → Given
 mark_given t ps al s =
     record { source = lent; table = t; allowance = al; buffers = scratch s ∷ []; positions = long (length ps); coordinates = ps; subject = nothing }
-
--- what the reason for our sheet's width is given: a table, an allowance, a scratch, positions and links to fill
-unfoldable pub why_given : Table → (allowance scratch positions links : ℕ) → Given
-why_given t al s p l =
-    record { source = lent; table = t; allowance = al; buffers = scratch s ∷ links_output l ∷ []; positions = long p; coordinates = []; subject = nothing }
-
--- what the reason for the width of anyone's placement is given: a table, positions, an allowance, and links to fill
-unfoldable pub judge_given : Table → (positions : List ℤ) → (allowance links : ℕ) → Given
-judge_given t ps al l =
-    record { source = lent; table = t; allowance = al; buffers = links_output l ∷ []; positions = long (length ps); coordinates = ps; subject = nothing }

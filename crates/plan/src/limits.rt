@@ -34,12 +34,6 @@ pub const LISTING_SIZE: usize = 17408;
 // Bytes of an output for the lines of a mended file (1): 24 a cell, more than the longest line has.
 pub const LINES_SIZE: usize = 6144;
 
-// Numbers of an output for the links of a reason (1): four a link, and a reason has fewer links than there are cells.
-pub const LINKS_SIZE: usize = 1020;
-
-// Bytes of an output for an outline (1): more than the longest has.
-pub const OUTLINE_SIZE: usize = 66560;
-
 // The parent of the root (6).
 pub const NO_PARENT: u16 = 65535;
 

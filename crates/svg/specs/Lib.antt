@@ -1,4 +1,4 @@
+pub mod Words
 pub mod Drawing
 pub mod Sizes
-pub mod Promised
 pub mod Laws

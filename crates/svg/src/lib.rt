@@ -1,19 +1,73 @@
-// The drawing of a plan file in SVG, as bytes: our sheet of it, or the line of a refusal.
-ghost use Rattle.std.specs.Prelude.{◌≤◌, length};
+// The drawing of a plan file in SVG, as bytes: its strokes as paths and its labels as texts, in millimetres; or the line of a refusal.
+ghost use Rattle.std.specs.Prelude.{◌≡◌, ◌+◌, ◌*◌, ◌-◌, ◌≤◌, length};
+ghost use Rattle.plan.specs.Columns.{«table_of»};
+ghost use Rattle.plan.specs.Fit.{Fit};
+ghost use Rattle.plan.specs.Near.{Near};
+ghost use Rattle.rules.specs.Placement.{placed};
+ghost use Rattle.pen.specs.Strokes.{strokes};
 ghost use Rattle.listing.specs.Put.{Put};
 ghost use Rattle.printing.specs.Printing.{Taken};
-ghost use Rattle.svg.specs.Drawing.{sheet_text, drawing_of};
+ghost use Rattle.svg_strokes.specs.Sizes.{stroke_size};
+ghost use Rattle.svg_labels.specs.Sizes.{label_size};
+ghost use Rattle.svg.specs.Drawing.{strokes_text, side, labels_text, sheet_text, drawing_of};
 ghost use Rattle.svg.specs.Sizes.{drawing_size};
 
 use decimals::{put_refused, put_text};
-use plan::Page;
 use plan::limits::{MOST_CELLS, SCRATCH_SIZE};
+use plan::{Columns, Page};
 use planfile_spec::Reading;
-use strokes::fair;
-use svg_sheet::put_sheet;
+use strokes::{drawn, fair};
+use svg_labels::{put_label, put_labels_head};
+use svg_strokes::{put_head, put_stroke};
 
 // Bytes of an output for a drawing: more than the longest has.
 pub const DRAWING_SIZE: usize = 262144;
+
+// All strokes of a sheet.
+fn put_strokes(t: Columns, positions: &[i32], page: Page, out: &mut [u8], at: usize) -> usize
+    requires { Fit (table_of t) × Near positions.now t.count × (at + stroke_size * (9 * t.count - 3) ≤ length out.old) }
+    ensures { Put out.old at (strokes_text (strokes (table_of t) (placed positions.now) page)) out.new result × (result ≤ at + stroke_size * (9 * t.count - 3)) }
+{
+    let n = 9 * t.count - 3;
+    let mut next = at;
+    let mut s: usize = 0;
+    while s < n {
+        let stroke = drawn(t, positions, page, s);
+        next = put_stroke(stroke, out, next);
+        s += 1;
+    }
+    next
+}
+
+// All labels.
+fn put_labels(
+    t: Columns,
+    file: &[u8],
+    positions: &[i32],
+    page: Page,
+    out: &mut [u8],
+    at: usize,
+) -> usize
+    requires { Fit (table_of t) × Near positions.now t.count × (at + label_size * t.count ≤ length out.old) }
+    ensures { Put out.old at (labels_text (strokes (table_of t) (placed positions.now) page) file.now t.count) out.new result × (result ≤ at + label_size * t.count) }
+{
+    let n = t.count;
+    let mut next = at;
+    let mut c: usize = 0;
+    while c < n {
+        let corner = drawn(t, positions, page, 6 * c + 3);
+        next = put_label(corner, planfile::label(file, c), out, next);
+        c += 1;
+    }
+    next
+}
+
+// So many lattice units, and a margin on both sides.
+fn side(units: u32, pitch: f64, margin: f64) -> f64
+    ensures { result ≡ side units pitch margin }
+{
+    (units as f64) * pitch + margin + margin
+}
 
 // The drawing of a plan that Read gave, on a page that question 17 passes.
 fn write_sheet(plan: Reading, file: &[u8], page: Page, out: &mut [u8]) -> usize
@@ -24,9 +78,14 @@ fn write_sheet(plan: Reading, file: &[u8], page: Page, out: &mut [u8]) -> usize
     let mut positions = [0i32; 2 * MOST_CELLS];
     let t = plan.columns;
     let allowance = plan.allowance as u32;
-    layout::draw_over_zeros(t, allowance, &mut scratch, &mut positions);
-    let end = put_sheet(t, file, &positions, page, out);
-    put_text(b"</g></g>\n</svg>\n", out, end)
+    let sheet = layout::draw_over_zeros(t, allowance, &mut scratch, &mut positions);
+    let wide = side(sheet.width, page.pitch, page.margin_x);
+    let high = side(sheet.rows, page.pitch, page.margin_y);
+    let a = put_head(wide, high, out, 0);
+    let b = put_strokes(t, &positions, page, out, a);
+    let c = put_labels_head(page.pitch, out, b);
+    let d = put_labels(t, file, &positions, page, out, c);
+    put_text(b"</g></g>\n</svg>\n", out, d)
 }
 
 // The drawing of a plan file on a page, or the line of the refusal, into an output that is long enough: its length.

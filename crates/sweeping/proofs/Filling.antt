@@ -99,13 +99,13 @@ module _ (s : Sights) (n c : ℕ) (rows : Rows s n) (ic : c < n) {w : View} (e :
   own : Filled rs rs' (s c).y (s c).base (s c).x ((s c).right + 1)
   own = rw e at h
 
-  box-held : (y : ℕ) → farthest ≤ y → Dec ((s c).y ≤ y) → Dec (y ≤ (s c).base) → Held s c y rs rs'
-  box-held y f (yes a) (yes b) = Held.by_it (s c).right (Fills.box a b refl) (own.put y a b)
-  box-held y f (yes a) (no b) = Held.as_it_was (own.off y f (inr (omega arith)))
-  box-held y f (no a) b = Held.as_it_was (own.off y f (inl (omega arith)))
+  box_held : (y : ℕ) → farthest ≤ y → Dec ((s c).y ≤ y) → Dec (y ≤ (s c).base) → Held s c y rs rs'
+  box_held y f (yes a) (yes b) = Held.by_it (s c).right (Fills.box a b refl) (own.put y a b)
+  box_held y f (yes a) (no b) = Held.as_it_was (own.off y f (inr (omega arith)))
+  box_held y f (no a) b = Held.as_it_was (own.off y f (inl (omega arith)))
 
   box-only : ((y e : ℕ) → 1 ≤ c → (s c).nth ≡ (s (s c).parent).middle → ⊥) → Settled s c rs rs'
-  box-only n = record { long = h.long; free = free; put = put_in; own = λ y f. box-held y f (dec_le (s c).y y) (dec_le y (s c).base); grows = h.grows }
+  box-only n = record { long = h.long; free = free; put = put_in; own = λ y f. box_held y f (dec_le (s c).y y) (dec_le y (s c).base); grows = h.grows }
     where
       free : (y e : ℕ) → Fills s c y e → level rs y ≤ (s c).x
       free y e (Fills.box a b q) = own.free y a b
@@ -148,9 +148,9 @@ module _ (s : Sights) (n c : ℕ) (rows : Rows s n) (ic : c < n) {w : View} (e :
           first y g (Held.by_it e a b) = Held.by_it e a (g ∙ b)
 
           held : (y : ℕ) → farthest ≤ y → Dec (y ≤ (s c).bottom) → Dec (y ≤ (s (s c).parent).bottom) → Held s c y rs rs''
-          held y f (yes a) b = first y (more.off y f (inl (omega arith))) (box-held y f (dec_le (s c).y y) (dec_le y (s c).base))
+          held y f (yes a) b = first y (more.off y f (inl (omega arith))) (box_held y f (dec_le (s c).y y) (dec_le y (s c).base))
           held y f (no a) (yes b) = Held.by_it (s c).x (Fills.hang (omega arith) nth_is (omega arith) b refl) (more.put y (omega arith) b)
-          held y f (no a) (no b) = first y (more.off y f (inr (omega arith))) (box-held y f (dec_le (s c).y y) (dec_le y (s c).base))
+          held y f (no a) (no b) = first y (more.off y f (inr (omega arith))) (box_held y f (dec_le (s c).y y) (dec_le y (s c).base))
 
       pub heir_blocked : Taken rs' (w.bottom + 1) v.bottom w.x → Blocked s c rs
       heir_blocked k = record { row = k.row; to = (s c).x; fills = Fills.hang (omega arith) nth_is (omega (arith, k.low, bottom-is)) (rw v_is at k.high) refl; so = so }

@@ -13,7 +13,7 @@ use Rattle.whole.specs.Laws.Whole.{whole, narrow, not_lt, sum, diff, neg-plus, n
 use Rattle.whole.specs.Bias.{bias}
 use Rattle.whole.specs.Laws.Says.{is_true, is_false, holds, fails, says_lt_z}
 use Rattle.whole.specs.Range.{in_range, InRange}
-use Rattle.whole.specs.Laws.Range.{says-within}
+use Rattle.whole.specs.Laws.Range.{says_within}
 
 pub fits32 : (z : ℤ) → plus z < 2147483648 → minus z ≤ 2147483648 → SFits w32 z
 fits32 (pos n) h k = record { sfits = omega arith }
@@ -62,15 +62,15 @@ module _ (far : ℕ) (small : far < 2 ^ 30) (x : ℤ) (f : SFits w32 x) where
   pub low_fails : lt_z (to_z w32 (of_z w32 x)) (to_z w32 (of_z w32 (to_z w32 0 -ℤ to_z w32 far))) ≡ true → false ≡ in_range far x
   low_fails e =
       let h : x <ℤ neg_ℤ (pos far) = holds (says_lt_z x (neg_ℤ (pos far))) (rw (to_z-of_z w32 x f, low_is) at e) in
-      sym (is_false (says-within far x) (λ i. omega (whole, i.low)))
+      sym (is_false (says_within far x) (λ i. omega (whole, i.low)))
 
   pub high_fails : lt_z (to_z w32 far) (to_z w32 (of_z w32 x)) ≡ true → false ≡ in_range far x
   high_fails e =
       let h : pos far <ℤ x = holds (says_lt_z (pos far) x) (rw (to_z-of_z w32 x f, back_nat far (omega arith)) at e) in
-      sym (is_false (says-within far x) (λ i. omega (whole, i.high)))
+      sym (is_false (says_within far x) (λ i. omega (whole, i.high)))
 
   pub passes : lt_z (to_z w32 (of_z w32 x)) (to_z w32 (of_z w32 (to_z w32 0 -ℤ to_z w32 far))) ≡ false → lt_z (to_z w32 far) (to_z w32 (of_z w32 x)) ≡ false → true ≡ in_range far x
   passes e g =
       let h : ¬ (x <ℤ neg_ℤ (pos far)) = fails (says_lt_z x (neg_ℤ (pos far))) (rw (to_z-of_z w32 x f, low_is) at e) in
       let k : ¬ (pos far <ℤ x) = fails (says_lt_z (pos far) x) (rw (to_z-of_z w32 x f, back_nat far (omega arith)) at g) in
-      sym (is_true (says-within far x) (record { low = not_lt h; high = not_lt k }))
+      sym (is_true (says_within far x) (record { low = not_lt h; high = not_lt k }))

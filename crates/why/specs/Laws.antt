@@ -1,4 +1,3 @@
-pub mod Ending
 pub mod Judges
 pub mod Ours
 pub mod Shows

@@ -1,2 +1,3 @@
-pub mod Ending
+pub mod Judges
+pub mod Shows
 pub mod Laws

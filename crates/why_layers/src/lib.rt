@@ -1,16 +1,58 @@
-// The search, layer by layer: a cell's mark is 1 more than the fewest links that lead to it, 0 where none do so far.
+// The search: a cell's mark is 1 more than the fewest links that lead to it, 0 where none do so far.
 ghost use Rattle.std.specs.Prelude.{◌≡◌, ◌^◌, ◌≤◌, ◌<◌};
 ghost use Rattle.plan.specs.Limits.{most_cells};
 ghost use Rattle.plan.specs.Trees.{Column};
 ghost use Rattle.looking_sights.specs.Sights.{«view_in», Sighted};
-ghost use Rattle.why_buckets.specs.Buckets.{Bucketed};
-ghost use Rattle.why_spread.specs.Spread.{Kept, Spread};
-ghost use Rattle.why_layers.specs.Marks.{source, led, at_end, ending, mark_first, Within};
+ghost use Rattle.why_ties.specs.Ties.{Ready};
+ghost use Rattle.why_layers.specs.Marks.{leads_on, source, at_end, ending, mark_first, mark_next};
 
 use looking_columns::SIGHTS;
 use looking_sights::see;
 use plan::limits::MOST_CELLS;
-use why_spread::{Bounds, spread};
+use why_ties::rule_of;
+
+// a has mark m, and a tight link leads from it to b.
+fn leads_on<'a>(
+    sights: &'a [u32; SIGHTS],
+    marks: &'a [usize; MOST_CELLS],
+    m: usize,
+    a: usize,
+    b: usize,
+    allowance: u32,
+) -> bool
+    requires { Ready a b (view_in sights.now a) (view_in sights.now b) allowance }
+    ensures { result ≡ leads_on (view_in sights.now) allowance marks.now m b a }
+{
+    if marks[a] != m {
+        return false;
+    }
+    let v = see(sights, a);
+    let w = see(sights, b);
+    let rule = rule_of(a, b, v, w, allowance);
+    0 < rule
+}
+
+// The lowest such a; n where there is none.
+pub fn source<'a>(
+    sights: &'a [u32; SIGHTS],
+    marks: &'a [usize; MOST_CELLS],
+    n: usize,
+    m: usize,
+    b: usize,
+    allowance: u32,
+) -> usize
+    requires { Sighted (view_in sights.now) n × (b < n) × (allowance < 2 ^ 31) }
+    ensures { result ≡ source (view_in sights.now) allowance n marks.now m b }
+{
+    let mut a: usize = 0;
+    while a < n {
+        if leads_on(sights, marks, m, a, b, allowance) {
+            return a;
+        }
+        a += 1;
+    }
+    n
+}
 
 // e has mark m and the greatest right edge.
 fn at_end<'a>(
@@ -36,14 +78,13 @@ pub fn ending<'a>(
     marks: &'a [usize; MOST_CELLS],
     n: usize,
     m: usize,
-    bounds: Bounds,
     high: u32,
 ) -> usize
-    requires { (n ≤ most_cells) × Within marks.now n m bounds.low bounds.end }
+    requires { n ≤ most_cells }
     ensures { result ≡ ending (view_in sights.now) n marks.now m high }
 {
-    let mut e = bounds.low;
-    while e < bounds.end {
+    let mut e: usize = 0;
+    while e < n {
         if at_end(sights, marks, m, high, e) {
             return e;
         }
@@ -77,26 +118,44 @@ pub fn first_marks(sights: &[u32; SIGHTS], n: usize, low: u32) -> [usize; MOST_C
     out
 }
 
-// The marks of one link more, each with the lowest cell that the link leads from, and the bounds of the new ones.
-pub fn next_layer(
-    sights: &[u32; SIGHTS],
-    heads: &[usize; MOST_CELLS],
-    next: &[usize; MOST_CELLS],
-    marks: &mut [usize; MOST_CELLS],
-    came: &mut [usize; MOST_CELLS],
+fn mark_next<'a>(
+    sights: &'a [u32; SIGHTS],
+    marks: &'a [usize; MOST_CELLS],
+    n: usize,
+    m: usize,
+    c: usize,
+    allowance: u32,
+) -> usize
+    requires { Sighted (view_in sights.now) n × (c < n) × (allowance < 2 ^ 31) × (m ≤ most_cells) }
+    ensures { result ≡ mark_next (view_in sights.now) allowance n marks.now m c }
+{
+    let old = marks[c];
+    if old != 0 {
+        return old;
+    }
+    let a = source(sights, marks, n, m, c, allowance);
+    if a < n {
+        return m + 1;
+    }
+    0
+}
+
+// The marks of one link more.
+pub fn next_marks<'a>(
+    sights: &'a [u32; SIGHTS],
+    marks: &'a [usize; MOST_CELLS],
     n: usize,
     m: usize,
     allowance: u32,
-    bounds: Bounds,
-) -> Bounds
-    requires { Sighted (view_in sights.now) n × (allowance < 2 ^ 31) × (1 ≤ m) × (m ≤ most_cells) × Kept marks.old came.old × Bucketed (view_in sights.now) n heads.now next.now × Within marks.old n m bounds.low bounds.end }
-    ensures { Spread n m (led (view_in sights.now) allowance n marks.old m n) (source (view_in sights.now) allowance marks.old m n) marks.old came.old marks.new came.new n 0 result.low result.end }
+) -> [usize; MOST_CELLS]
+    requires { Sighted (view_in sights.now) n × (allowance < 2 ^ 31) × (m ≤ most_cells) }
+    ensures { Column result n (mark_next (view_in sights.now) allowance n marks.now m) }
 {
-    let mut wide = Bounds { low: n, end: 0 };
-    let mut a = bounds.low;
-    while a < bounds.end {
-        wide = spread(sights, heads, next, marks, came, n, m, a, allowance, wide);
-        a += 1;
+    let mut out = [0usize; MOST_CELLS];
+    let mut c: usize = 0;
+    while c < n {
+        out[c] = mark_next(sights, marks, n, m, c, allowance);
+        c += 1;
     }
-    wide
+    out
 }

@@ -1,6 +1,6 @@
 // Prints the reason for the width of the sheet of the plan file on standard input, with one write. One byte more than a plan file may have is read, so that a longer one is refused.
 use plan::limits::MOST_FILE;
-use why_chain::REASON_SIZE;
+use why_text::REASON_SIZE;
 
 fn print_reason(file: &[u8]) {
     let mut out = [0u8; REASON_SIZE];

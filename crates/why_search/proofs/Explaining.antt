@@ -27,12 +27,12 @@ use Rattle.why_search.specs.Laws.Explained.{chain-inside, rule_named}
 use Rattle.why_search.specs.Laws.Extremes.{looked_stands}
 
 module _ (t : Columns) (fit : Fit (table_of t)) (ps : List ℤ) (al : ℕ) (s1 : S1 (table_of t) (placed ps)) (s : Sights) (g : Looked (table_of t) (placed ps) s)
-    (low high : ℕ) (x : Extremes s t.count t.count low high) (came : List ℕ) (count last : ℕ)
-    (means : (u : Table) (p : Placement) → Stands u al p s t.count low high → Told u al p t.count came count last) where
+    (low high : ℕ) (x : Extremes s t.count t.count low high) (marks : List ℕ) (count last : ℕ)
+    (means : (u : Table) (p : Placement) → Stands u al p s t.count low high → Told u al p t.count marks count last) where
   stands : Stands (table_of t) al (placed ps) s t.count low high
   stands = looked_stands (table_of t) al (placed ps) s t.count low high fit.sound s1 g (length-is t) x
 
-  told : Told (table_of t) al (placed ps) t.count came count last
+  told : Told (table_of t) al (placed ps) t.count marks count last
   told = means (table_of t) (placed ps) stands
 
   pub explains_none : (xs rs : List ℕ) → t.count ≤ last → Explains (table_of t) al (placed ps) false count xs rs
@@ -46,23 +46,23 @@ module _ (t : Columns) (fit : Fit (table_of t)) (ps : List ℤ) (al : ℕ) (s1 :
   count_less l = (told.found l).1
 
   module _ (l : last < t.count) (cells : List ℕ)
-      (h : (u : Table) (al : ℕ) (p : Placement) → Begun u al p t.count came count last → (j : ℕ) → j ≤ count → get_or cells j 0 ≡ stop u al p count last j) where
-    begun : Begun (table_of t) al (placed ps) t.count came count last
-    begun = let (c, m, k) = told.found l in record { size = length-is t; new = c.new; led = k }
+      (h : (u : Table) (p : Placement) → Begun u al p s t.count marks count last → (j : ℕ) → j ≤ count → get_or cells j 0 ≡ stop u al p count last j) where
+    begun : Begun (table_of t) al (placed ps) s t.count marks count last
+    begun = let (c, m, k) = told.found l in record { low = low; high = high; stands = stands; new = c.new; marked = k }
 
     pub cells-inside : Inside cells t.count count
-    cells-inside = chain-inside (table_of t) al (placed ps) s t.count low high came count last stands begun cells (h (table_of t) al (placed ps) begun)
+    cells-inside = chain-inside (table_of t) al (placed ps) s t.count marks count last begun cells (h (table_of t) (placed ps) begun)
 
     pub explains_found : (rules : List ℕ) → Column rules count (rule_between s al cells) → Explains (table_of t) al (placed ps) true count cells rules
     explains_found rules r =
         let (c, m, k) = told.found l in
         record {
           yes = λ e. (
-            why-told (table_of t) al (placed ps) count last cells c (h (table_of t) al (placed ps) begun),
+            why-told (table_of t) al (placed ps) count last cells c (h (table_of t) (placed ps) begun),
             record {
               short = omega (arith, length-is t);
               inside = λ j v. omega (arith, length-is t, cells-inside.inside j v);
-              named = λ j v. rule_named (table_of t) al (placed ps) s t.count low high came count last stands begun cells (h (table_of t) al (placed ps) begun) j (get_or rules j 0) v (r.each j v);
+              named = λ j v. rule_named (table_of t) al (placed ps) s t.count marks count last begun cells (h (table_of t) (placed ps) begun) j (get_or rules j 0) v (r.each j v);
             },
           );
           no = λ e. absurd (subst (λ (b : Bool). T b) e tt);

@@ -6,17 +6,13 @@ use Rattle.rules.specs.Placement.{Placement}
 use Rattle.looking_sights.specs.Sights.{Sights}
 use Rattle.why_spec.specs.Measures.{across}
 use Rattle.why_spec.specs.Layers.{New}
-use Rattle.why_spec.specs.Search.{first, tight, tied, leftmost, rightmost, reached, closes, fewest, final, before}
+use Rattle.why_spec.specs.Search.{first, tight, tied, leftmost, rightmost, reached, closes, fewest, final}
 use Rattle.why_ties.specs.Ties.{rule_of}
 
 module _ (t : Table) (al : ℕ) (p : Placement) where
   -- the marks after k turns
   abbrev pub Marks : List ℕ → ℕ → Type 0
   Marks xs k = (c : ℕ) → Is t c → ((get_or xs c 0 ≡ 0) × ¬ T (mem c (reached t al (across t) p k))) ⊎ ((j : ℕ) × (j ≤ k) × (get_or xs c 0 ≡ suc j) × New t al (across t) p j c)
-
-  -- where the cells that k links or fewer reach were reached from
-  abbrev pub Led : List ℕ → ℕ → Type 0
-  Led cs k = (b j : ℕ) → Is t b → j < k → New t al (across t) p (suc j) b → get_or cs b 0 ≡ before t al (across t) p j b
 
   -- fewer than k links close no chain
   abbrev pub Open : ℕ → Type 0
@@ -37,13 +33,15 @@ pub record Stands (t : Table) (al : ℕ) (p : Placement) (s : Sights) (n low hig
   pub lefts : (c : ℕ) → Is t c → eqb (s c).x low ≡ leftmost (across t) p c
   pub tops : (e : ℕ) → Is t e → eqb (s e).right high ≡ rightmost (across t) p e
 
--- what the search finds: the chain's end, and where each cell was reached from
-pub record Told (t : Table) (al : ℕ) (p : Placement) (n : ℕ) (came : List ℕ) (count last : ℕ) : Type 0 where
-  pub found : last < n → Closed t al p count last × (count < n) × Led t al p came count
+-- what the search finds
+pub record Told (t : Table) (al : ℕ) (p : Placement) (n : ℕ) (marks : List ℕ) (count last : ℕ) : Type 0 where
+  pub found : last < n → Closed t al p count last × (count < n) × Marks t al p marks count
   pub none : n ≤ last → Open t al p n
 
 -- what the search has left, where it closed
-pub record Begun (t : Table) (al : ℕ) (p : Placement) (n : ℕ) (came : List ℕ) (count last : ℕ) : Type 0 where
-  pub size : length t ≡ n
+pub record Begun (t : Table) (al : ℕ) (p : Placement) (s : Sights) (n : ℕ) (marks : List ℕ) (count last : ℕ) : Type 0 where
+  pub low : ℕ
+  pub high : ℕ
+  pub stands : Stands t al p s n low high
   pub new : New t al (across t) p count last
-  pub led : Led t al p came count
+  pub marked : Marks t al p marks count

@@ -66,17 +66,17 @@ pub fn explain(t: Columns, positions: &[i32], allowance: u32) -> Chain
     let way = search(&sights, n, allowance, span.low, span.high);
     let last = way.last;
     let count = way.count;
-    let came = way.came;
+    let marks = way.marks;
     if n <= last {
         let none = [0u8; MOST_CELLS];
         return Chain {
             found: false,
             count,
-            cells: came,
+            cells: marks,
             rules: none,
         };
     }
-    let cells = trace(&came, n, count, last);
+    let cells = trace(&sights, &marks, n, allowance, count, last);
     let rules = rules_of(&sights, &cells, n, count, allowance);
     Chain {
         found: true,

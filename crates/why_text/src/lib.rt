@@ -1,15 +1,51 @@
 // THE REASON for the width of a plan file's sheet, as bytes: its lines, or the line of a refusal.
 ghost use Rattle.std.specs.Prelude.{◌≤◌, length};
+ghost use Rattle.plan.specs.Columns.{«table_of»};
+ghost use Rattle.listing.specs.Printed.{lines_joined};
 ghost use Rattle.listing.specs.Put.{Put};
 ghost use Rattle.printing.specs.Printing.{Taken};
-ghost use Rattle.why_chain.specs.Chain.{reason_size};
-ghost use Rattle.why_text.specs.Text.{why_text};
+ghost use Rattle.why_text.specs.Text.{sheet_reason, why_text, reason_size, Reasoned};
 
 use decimals::put_refused;
+use looking_columns::raised;
+use plan::Columns;
 use plan::limits::{MOST_CELLS, SCRATCH_SIZE};
 use planfile_spec::Reading;
-use why_chain::write_chain;
+use whole::numbers::wide16to32;
+use why_lines::{put_end, put_head, put_steps};
 use why_search::explain;
+
+// Bytes of an output that is long enough, whatever the file.
+pub const REASON_SIZE: usize = 32768;
+
+// The lines of a chain, from the positions of the sheet, its width, the chain's cells and its rules.
+fn write_chain<'a>(
+    t: Columns,
+    allowance: u32,
+    width: u32,
+    positions: &[i32],
+    count: usize,
+    cells: &'a [usize; MOST_CELLS],
+    rules: &'a [u8; MOST_CELLS],
+    out: &mut [u8],
+) -> usize
+    requires { Reasoned t allowance width positions.now count cells.now rules.now × (reason_size ≤ length out.old) }
+    ensures { Put out.old 0 (lines_joined (sheet_reason (table_of t) allowance)) out.new result × (result ≤ reason_size) }
+{
+    let xs = raised(positions, t.count, 0);
+    let last = cells[count];
+    let wide = wide16to32(t.width[last]);
+    let a = put_head(
+        t.count as u64,
+        allowance as u64,
+        width as u64,
+        count as u64,
+        out,
+        0,
+    );
+    let b = put_steps(cells, rules, &xs, count, out, a);
+    put_end(cells, &xs, count, wide, out, b)
+}
 
 // The reason of a plan that Read gave: Layout's questions have all been answered.
 fn write_plan(plan: Reading, file: &[u8], out: &mut [u8]) -> usize

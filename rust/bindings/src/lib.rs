@@ -48,29 +48,6 @@ pub enum Mark {
     Broken { rule: u8, a: u16, b: u16 },
 }
 
-/// Our sheet and the reason for its width: the number of its links and its last cell.
-#[derive(Clone, Copy, Debug, PartialEq, Eq)]
-pub struct Shown {
-    pub sheet: Sheet,
-    pub links: usize,
-    pub last: u16,
-}
-
-/// What is said of a placement: that nothing is narrower, with the reason; that something is; or the rule that it breaks.
-#[derive(Clone, Copy, Debug, PartialEq, Eq)]
-pub enum Judged {
-    Least(Shown),
-    Wider(Sheet),
-    Broken { rule: u8, a: u16, b: u16 },
-}
-
-/// The length of a plan file that was made of a text; or the first line that is not understood, from 1, and the number of what is wrong with it (docs/OUTLINE.md).
-#[derive(Clone, Copy, Debug, PartialEq, Eq)]
-pub enum Composed {
-    Written(usize),
-    Wrong { line: usize, fault: u8 },
-}
-
 #[derive(Clone, Copy, Debug, PartialEq, Eq)]
 pub struct Ends {
     pub from: (i32, i32),
@@ -234,51 +211,6 @@ mod raw {
 
     #[repr(C)]
     #[derive(Debug, Default, PartialEq)]
-    pub struct WhyAnswer {
-        pub number: u8,
-        pub cell: u16,
-        pub last: u16,
-        pub width: u32,
-        pub rows: u32,
-        pub links: usize,
-    }
-
-    #[repr(C)]
-    #[derive(Debug, Default, PartialEq)]
-    pub struct JudgeAnswer {
-        pub number: u8,
-        pub cell: u16,
-        pub outcome: u8,
-        pub rule: u8,
-        pub a: u16,
-        pub b: u16,
-        pub last: u16,
-        pub width: u32,
-        pub rows: u32,
-        pub links: usize,
-    }
-
-    #[repr(C)]
-    #[derive(Debug, Default, PartialEq)]
-    pub struct OutlineAnswer {
-        pub number: u8,
-        pub cell: u16,
-        pub length: usize,
-    }
-
-    #[repr(C)]
-    #[derive(Debug, Default, PartialEq)]
-    pub struct ComposeAnswer {
-        pub number: u8,
-        pub cell: u16,
-        pub outcome: u8,
-        pub fault: u8,
-        pub line: usize,
-        pub length: usize,
-    }
-
-    #[repr(C)]
-    #[derive(Debug, Default, PartialEq)]
     pub struct CopyAnswer {
         pub number: u8,
         pub cell: u16,
@@ -406,28 +338,6 @@ mod raw {
             scratch: *mut u32,
             scratch_len: usize,
         ) -> MarkAnswer;
-        pub fn kuzpalen_why(
-            table: *const Record,
-            table_len: usize,
-            allowance: u32,
-            scratch: *mut u32,
-            scratch_len: usize,
-            positions: *mut i32,
-            positions_len: usize,
-            links: *mut i32,
-            links_len: usize,
-        ) -> WhyAnswer;
-        pub fn kuzpalen_judge(
-            table: *const Record,
-            table_len: usize,
-            positions: *const i32,
-            positions_len: usize,
-            allowance: u32,
-            links: *mut i32,
-            links_len: usize,
-        ) -> JudgeAnswer;
-        pub fn kuzpalen_outline(file: *const u8, file_len: usize, out: *mut u8, out_len: usize) -> OutlineAnswer;
-        pub fn kuzpalen_compose(text: *const u8, text_len: usize, out: *mut u8, out_len: usize) -> ComposeAnswer;
         pub fn kuzpalen_copy(
             table: *const Record,
             table_len: usize,
@@ -684,96 +594,6 @@ pub fn mark(table: &[Record], positions: &[i32], allowance: u32, scratch: &mut [
         Err(_) => raw::MarkAnswer::default(),
     };
     exactly!(r, answer, MarkAnswer, _ => { outcome: header.outcome, rule: header.rule, a: header.a, b: header.b, width: header.width, least: header.least, rows: header.rows });
-    answer
-}
-
-/// Why: our sheet as Layout writes it, and the reason for its width into the links, which need room for 1,020 numbers: of each link rule, from, to and distance.
-pub fn why(table: &[Record], allowance: u32, scratch: &mut [u32], positions: &mut [i32], links: &mut [i32]) -> Result<Shown, Refusal> {
-    // SAFETY: the pointers are good for their lengths, and the three that are written share nothing.
-    let r = unsafe {
-        raw::kuzpalen_why(
-            table.as_ptr(),
-            table.len(),
-            allowance,
-            scratch.as_mut_ptr(),
-            scratch.len(),
-            positions.as_mut_ptr(),
-            positions.len(),
-            links.as_mut_ptr(),
-            links.len(),
-        )
-    };
-    let answer = unless(r.number, r.cell, || Shown { sheet: Sheet { width: r.width, rows: r.rows }, links: r.links, last: r.last });
-    exactly!(r, answer, WhyAnswer, s => { last: s.last, width: s.sheet.width, rows: s.sheet.rows, links: s.links });
-    answer
-}
-
-/// Judge's outcomes (include/kuzpalen.h).
-const JUDGE_LEAST: u8 = 1;
-const JUDGE_WIDER: u8 = 2;
-const JUDGE_BROKEN: u8 = 3;
-
-/// Judge: where a placement keeps the rules and nothing is narrower, the reason into the links, as Why writes it.
-pub fn judge(table: &[Record], positions: &[i32], allowance: u32, links: &mut [i32]) -> Result<Judged, Refusal> {
-    // SAFETY: the pointers are good for their lengths, and the one that is written shares nothing.
-    let r = unsafe {
-        raw::kuzpalen_judge(
-            table.as_ptr(),
-            table.len(),
-            positions.as_ptr(),
-            positions.len(),
-            allowance,
-            links.as_mut_ptr(),
-            links.len(),
-        )
-    };
-    let sheet = Sheet { width: r.width, rows: r.rows };
-    let answer = unless(r.number, r.cell, || match r.outcome {
-        JUDGE_LEAST => Judged::Least(Shown { sheet, links: r.links, last: r.last }),
-        JUDGE_WIDER => Judged::Wider(sheet),
-        JUDGE_BROKEN => Judged::Broken { rule: r.rule, a: r.a, b: r.b },
-        code => unknown(code),
-    });
-    let header = match answer {
-        Ok(Judged::Least(s)) => {
-            raw::JudgeAnswer { outcome: JUDGE_LEAST, last: s.last, width: s.sheet.width, rows: s.sheet.rows, links: s.links, ..Default::default() }
-        }
-        Ok(Judged::Wider(s)) => raw::JudgeAnswer { outcome: JUDGE_WIDER, width: s.width, rows: s.rows, ..Default::default() },
-        Ok(Judged::Broken { rule, a, b }) => raw::JudgeAnswer { outcome: JUDGE_BROKEN, rule, a, b, ..Default::default() },
-        Err(_) => raw::JudgeAnswer::default(),
-    };
-    exactly!(r, answer, JudgeAnswer, _ => { outcome: header.outcome, rule: header.rule, a: header.a, b: header.b, last: header.last, width: header.width, rows: header.rows, links: header.links });
-    answer
-}
-
-/// Outline: the outline of a file into the first bytes of the output, which needs room for 66,560; its length.
-pub fn outline(file: &[u8], out: &mut [u8]) -> Result<usize, Refusal> {
-    // SAFETY: both pointers are good for their lengths, and no byte of the file is in the output.
-    let r = unsafe { raw::kuzpalen_outline(file.as_ptr(), file.len(), out.as_mut_ptr(), out.len()) };
-    let answer = unless(r.number, r.cell, || r.length);
-    exactly!(r, answer, OutlineAnswer, n => { length: *n });
-    answer
-}
-
-/// Compose's outcomes (include/kuzpalen.h).
-const COMPOSE_WRITTEN: u8 = 1;
-const COMPOSE_WRONG: u8 = 2;
-
-/// Compose: the plan file of an outline into the first bytes of the output, which needs room for 16,384; its length, or the line that is not understood.
-pub fn compose(text: &[u8], out: &mut [u8]) -> Result<Composed, Refusal> {
-    // SAFETY: both pointers are good for their lengths, and no byte of the text is in the output.
-    let r = unsafe { raw::kuzpalen_compose(text.as_ptr(), text.len(), out.as_mut_ptr(), out.len()) };
-    let answer = unless(r.number, r.cell, || match r.outcome {
-        COMPOSE_WRITTEN => Composed::Written(r.length),
-        COMPOSE_WRONG => Composed::Wrong { line: r.line, fault: r.fault },
-        code => unknown(code),
-    });
-    let (outcome, fault, line, length) = match answer {
-        Ok(Composed::Written(length)) => (COMPOSE_WRITTEN, 0, 0, length),
-        Ok(Composed::Wrong { line, fault }) => (COMPOSE_WRONG, fault, line, 0),
-        Err(_) => (0, 0, 0, 0),
-    };
-    exactly!(r, answer, ComposeAnswer, _ => { outcome: outcome, fault: fault, line: line, length: length });
     answer
 }
 

@@ -6,16 +6,13 @@
 //!
 //! Input number k depends on the seed and k alone, so a difference is run again by `compare 1 SEED k`.
 
-mod reasons;
-mod texts;
-
 use bindings::Record;
 use compare::guard::Guarded;
 use compare::records;
 use reference::generate as make;
 use reference::making::{self, SECOND};
 use reference::rng::Rng;
-use reference::{Cell, Form, Refusal, COPY, ANSWERS, FORMS, LINES, LINKS, LISTING, MAX_CELLS, MAX_COORDINATE, MAX_WIDTH, MENDED, OUTLINE, RECORDS, SCRATCH};
+use reference::{Cell, Form, Refusal, COPY, ANSWERS, FORMS, LINES, LISTING, MAX_CELLS, MAX_COORDINATE, MAX_WIDTH, MENDED, RECORDS, SCRATCH};
 use std::collections::BTreeMap;
 use std::mem::size_of;
 use std::process::exit;
@@ -43,9 +40,6 @@ struct Rooms {
     answers: Guarded,
     list: Guarded,
     making: Guarded,
-    links: Guarded,
-    text: Guarded,
-    outline: Guarded,
 }
 
 struct Run {
@@ -739,8 +733,8 @@ impl Run {
         self.count("Pool", named(&expected.map(|_| ())));
     }
 
-    /// A file of either form, valid or damaged, through Read, Label, List, Copy, Mend and Report. The file comes back.
-    fn a_file(&mut self, rng: &mut Rng) -> Vec<u8> {
+    /// A file of either form, valid or damaged, through Read, Label, List, Copy, Mend and Report.
+    fn a_file(&mut self, rng: &mut Rng) {
         let form = rng.pick(&FORMS);
         let mut cells = if rng.once_in(10) { make::too_tall(rng) } else { some_table(rng) };
         make::fit(form, &mut cells);
@@ -805,7 +799,6 @@ impl Run {
         }
         self.report(rng, &file);
         self.made_up(rng);
-        file
     }
 
     /// Copy of a table that may be damaged, with label bytes that may be, under any allowance.
@@ -979,8 +972,8 @@ impl Run {
         }
     }
 
-    /// A table, valid or damaged, through Layout, Check, Ends, Strip, Frame, Drill, the steps of a sheet that is being made, Mark and the rest that take one. The table comes back.
-    fn a_table(&mut self, rng: &mut Rng) -> reasons::Tabled {
+    /// A table, valid or damaged, through Layout, Check, Ends, Strip, Frame, Drill, the steps of a sheet that is being made, Mark and the rest that take one.
+    fn a_table(&mut self, rng: &mut Rng) {
         let widest = rng.once_in(1_000);
         let mut cells = match () {
             _ if widest => make::widest(rng),
@@ -1052,7 +1045,6 @@ impl Run {
         if rng.once_in(if cells.len() <= 60 { 2 } else { 8 }) {
             self.marks(rng, &cells, &ours, &foreign, allowance);
         }
-        reasons::Tabled { cells, ours, foreign, allowance }
     }
 }
 
@@ -1587,8 +1579,6 @@ fn unseen(seen: &Seen) -> Vec<String> {
     let outcomes = ["accepted", "root first", "root between", "root last", "128 and 128", "200 and 57", "under a step", "under a full run", "same memory", "first without a sheet"];
     all.extend(outcomes.map(|a| ("Join", a.into())));
     all.extend(["refused  4", "refused  5", "refused  6", "refused  8", "refused 10"].map(|a| ("Read", format!("mixed {a}"))));
-    all.extend(reasons::expected());
-    all.extend(texts::expected());
     all.into_iter().filter(|(c, a)| !seen.contains_key(&(*c, a.clone()))).map(|(c, a)| format!("{c} {a}")).collect()
 }
 
@@ -1610,9 +1600,6 @@ fn main() {
         answers: Guarded::new(ANSWERS + 200),
         list: Guarded::new(2 * (RECORDS + 200)),
         making: Guarded::new(4 * (SECOND + 200)),
-        links: Guarded::new(4 * (LINKS + 200)),
-        text: Guarded::new(OUTLINE + 20_000),
-        outline: Guarded::new(OUTLINE + 200),
     };
     let mut run = Run { seed, number: 0, seen: Seen::new(), calls: 0, rooms, season: Vec::new() };
     for number in first..first + inputs {
@@ -1622,21 +1609,12 @@ fn main() {
         if number % 4_000 == 0 {
             run.last_frames(&mut rng);
         }
-        // What came later stands behind the join, so that every input that was is one still.
         if number % 2 == 0 {
-            let tabled = run.a_table(&mut rng);
-            run.a_join(&mut rng);
-            run.reasons(&mut rng, &tabled);
-            // Plans of too many levels or rows, which come to the steps too seldom otherwise.
-            let tall = make::too_tall(&mut rng);
-            if rng.once_in(50) && making::ask(&tall, 0, SCRATCH, SECOND, usize::MAX).is_err() {
-                run.making(&mut rng, &tall, 0);
-            }
+            run.a_table(&mut rng);
         } else {
-            let file = run.a_file(&mut rng);
-            run.a_join(&mut rng);
-            run.texts(&mut rng, &file);
+            run.a_file(&mut rng);
         }
+        run.a_join(&mut rng);
     }
     for ((call, answer), times) in &run.seen {
         println!("{call:7} {answer:28} {times:8}");

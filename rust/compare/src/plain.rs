@@ -3,9 +3,6 @@
 //! over the cells and one sweep over the rows, and only where something is broken takes each rule in turn
 //! over all pairs of cells, with places in preorder to tell who stands below whom.
 
-pub mod outline;
-pub mod why;
-
 use bindings::{Drill, Ends, Outcome, Plan, Record, Refusal, Sheet, Verdict};
 
 pub const CELLS: usize = 256;

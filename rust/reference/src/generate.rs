@@ -612,20 +612,3 @@ pub fn stems(chains: usize, depths: &[u8]) -> Vec<Cell> {
     cells.extend(runs.into_iter().map(|c| Cell { kind: 1, ..run(c, 1) }));
     cells
 }
-
-/// Two branches of which nothing but the allowance keeps the later one from passing under the earlier: the later one's children stand below all of the
-/// earlier, and reach far to the left. With a narrow box at the earlier's right edge, what S5 asks leads back to the left.
-pub fn overlapping(rng: &mut Rng) -> (Vec<Cell>, u32) {
-    let leaf = |rng: &mut Rng, parent: u16, most: i64| Cell { parent, kind: 1, width: rng.between(1, most) as u16, depth: rng.between(1, 2) as u8, ..Cell::default() };
-    let mut cells = vec![
-        Cell { kind: 2, ..leaf(rng, ROOT, 9) },
-        Cell { kind: rng.pick(&[2, 4]), ..leaf(rng, 0, 9) },
-        Cell { kind: 2, depth: rng.between(4, 9) as u8, ..leaf(rng, 0, 9) },
-    ];
-    for (parent, most) in [(1, 5), (2, 12)] {
-        for _ in 0..rng.between(2, 7) {
-            cells.push(leaf(rng, parent, most));
-        }
-    }
-    (cells, rng.between(2, 40) as u32)
-}

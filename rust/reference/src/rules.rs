@@ -101,13 +101,13 @@ pub fn faults(plan: &Plan, p: &Placement, allowance: i64) -> Vec<(u32, usize, us
 
 /// The faults of S4 and S5: for cells at or below one brother and at or below a later one.
 fn pair_faults(plan: &Plan, p: &Placement, allowance: i64, out: &mut Vec<(u32, usize, usize)>) {
-    // A row in which two cells meet lies between the first row and the last of each of them.
+    // A row in which two cells meet lies between the first row and the last of one of them.
     let feet: Vec<i64> = (0..plan.len()).map(|c| foot(plan, p, c)).collect();
     let under: Vec<Vec<usize>> = (0..plan.len()).map(|c| plan.sub_diagram(c)).collect();
     for (e, l) in plan.brothers() {
         for &a in &under[e] {
             for &b in &under[l] {
-                if (p[a].1.max(p[b].1)..=feet[a].min(feet[b])).any(|row| meet_in_row(plan, p, &feet, a, b, row)) {
+                if (p[a].1..=feet[a]).any(|row| meet_in_row(plan, p, &feet, a, b, row)) {
                     out.push((4, a, b));
                 }
                 if right(plan, p, a) - p[b].0 + 1 > allowance {

@@ -30,7 +30,6 @@ fn search(t: &[Cell], allowance: u32, window: i64) -> usize {
     let mut kept = 0;
     let mut ours_found = false;
     let mut narrowest = u32::MAX;
-    let mut links = vec![0; LINKS];
     loop {
         for c in (1..n).filter(|&c| appointed(c)) {
             p[2 * c] = p[2 * plan.father[c].unwrap()];
@@ -41,9 +40,6 @@ fn search(t: &[Cell], allowance: u32, window: i64) -> usize {
             ours_found |= pairs == ours;
             assert!(found.width >= m.width && found.rows == m.rows, "{t:?} {allowance} {p:?}");
             narrowest = narrowest.min(found.width);
-            // There is a reason exactly where nothing is narrower.
-            let narrow = matches!(judge(t, &p, allowance, &mut links), Ok(Judged::Least(_)));
-            assert_eq!(narrow, found.width == m.width, "{t:?} {allowance} {p:?}");
             for c in 0..n {
                 let r = reaches(&plan, &pairs, c);
                 assert!(r.0 >= least[c].0 && r.1 >= least[c].1, "{t:?} {allowance} {p:?}");

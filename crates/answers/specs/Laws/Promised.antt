@@ -1,5 +1,5 @@
 -- For Promised: a refusal with its number, and what is answered otherwise, each said by its struct. Nothing that a reader must believe stands here. Assumes nothing.
-use Rattle.std.specs.Prelude.{◌≡◌, refl, List, [], ◌∷◌, Bool, true, false, cond, ℕ, zero, suc, ◌≤◌, eqb, leb, ℤ, length, get_or}
+use Rattle.std.specs.Prelude.{◌≡◌, refl, List, Bool, true, false, cond, ℕ, zero, suc, ◌≤◌, eqb, leb, ℤ, length, get_or}
 use Rattle.std.proofs.Common.{sym, ap, ◌∙◌, subst, arith}
 use Rattle.std.proofs.Math.Option.{Option, some}
 use Rattle.std.proofs.Math.Dec.{eqb-suc-zero}
@@ -18,10 +18,6 @@ use Rattle.answers.specs.declared.FrameAnswer.{FrameAnswer}
 use Rattle.answers.specs.declared.MarkAnswer.{MarkAnswer}
 use Rattle.answers.specs.declared.CopyAnswer.{CopyAnswer}
 use Rattle.answers.specs.declared.MendAnswer.{MendAnswer}
-use Rattle.answers.specs.declared.OutlineAnswer.{OutlineAnswer}
-use Rattle.answers.specs.declared.ComposeAnswer.{ComposeAnswer}
-use Rattle.answers.specs.declared.WhyAnswer.{WhyAnswer}
-use Rattle.answers.specs.declared.JudgeAnswer.{JudgeAnswer}
 use Rattle.answers.specs.declared.StripAnswer.{StripAnswer}
 use Rattle.answers.specs.declared.JoinAnswer.{JoinAnswer}
 use Rattle.answers.specs.declared.DrillAnswer.{DrillAnswer}
@@ -57,19 +53,6 @@ use Rattle.copying.specs.Copied.{copied_of}
 use Rattle.copying.specs.declared.Copied.TheVariants.{Refused as Uncopied}
 use Rattle.mending.specs.Mending.{mended_of, mend_refusal}
 use Rattle.mending.specs.declared.Mended.TheVariants.{Refused as Unmended}
-use Rattle.planfile_spec.specs.Format.{file_given}
-use Rattle.outline.specs.Outlined.{outlined_of}
-use Rattle.outline.specs.declared.Outlined.TheVariants.{Refused as Unoutlined}
-use Rattle.outline_spec.specs.Understood.{Understood, fault, plan, understood}
-use Rattle.outline_spec.specs.Refused.{content_refusal}
-use Rattle.compose.specs.Composed.{composed_by, composed_of}
-use Rattle.compose.specs.declared.Composed.TheVariants.{Refused as Uncomposed}
-use Rattle.why_spec.specs.Measures.{across}
-use Rattle.why_spec.specs.Search as search
-use Rattle.why_answers.specs.Shows.{shown_of}
-use Rattle.why_answers.specs.declared.Shown.TheVariants.{Refused as Unshown}
-use Rattle.why_answers.specs.Judges.{by_reason, by_verdict, judged_of}
-use Rattle.why_answers.specs.declared.Judged.TheVariants.{Refused as Unjudged}
 use Rattle.pen.specs.declared.Stroke.{Stroke}
 use Rattle.pen.specs.declared.Stroke.TheVariants.{Move, Line, Lift}
 use Rattle.strokes.specs.declared.Stroked.TheVariants.{Drawn, Refused as Undrawn}
@@ -89,8 +72,8 @@ use Rattle.read_entry.specs.declared.ReadAnswer.TheVariants.{Refused as Unread}
 use Rattle.reporting.specs.Reporting.{reported_of, report_refusal}
 use Rattle.season.specs.Pool.{pool_refusal}
 use Rattle.season.specs.declared.Reported.TheVariants.{Refused as Unreported}
-use Rattle.answers.specs.Answers.{read_answer, laid_answer, check_answer, ends_answer, list_answer, frame_answer, mark_answer, copy_answer, mend_answer, outline_answer, compose_answer, why_answer, judge_answer, pen_answer, stroke_answer, strip_answer, join_answer, drill_answer, start_answer, step_answer, reach_answer, report_answer, Filling, Laying, ListFilling, Framing, Marking, CopyFilling, MendFilling, OutlineFilling, ComposeFilling, Showing, Judging, Stripping, Joining, Drilling, Starting, Stepping, Reaching, Reporting}
-use Rattle.answers.specs.Header.{numbered, coded, said_read, said_layout, said_check, said_ends, said_list, said_frame, said_mark, said_copy, said_mend, said_outline, said_compose, said_why, said_judge, said_stroke, said_strip, said_join, said_drill, said_start, said_step, said_reach, said_report}
+use Rattle.answers.specs.Answers.{read_answer, laid_answer, check_answer, ends_answer, list_answer, frame_answer, mark_answer, copy_answer, mend_answer, pen_answer, stroke_answer, strip_answer, join_answer, drill_answer, start_answer, step_answer, reach_answer, report_answer, Filling, Laying, ListFilling, Framing, Marking, CopyFilling, MendFilling, Stripping, Joining, Drilling, Starting, Stepping, Reaching, Reporting}
+use Rattle.answers.specs.Header.{numbered, coded, said_read, said_layout, said_check, said_ends, said_list, said_frame, said_mark, said_copy, said_mend, said_stroke, said_strip, said_join, said_drill, said_start, said_step, said_reach, said_report}
 
 -- a number that is not 0 says what it numbers
 by_number : {A : Type 0} (this : ℕ → ℕ → A) (k c : ℕ) (other : A) → 1 ≤ k → numbered this k c other ≡ this k c
@@ -109,13 +92,13 @@ answering : {A S : Type 0} (says : S → Option A) (tells : A → S) (refused : 
     → (r : Refusal) {s : S} {a : A} → s ≡ tells a → a ≡ cond (eqb r.number 0) g (refused r.number r.cell) → says s ≡ some a
 answering says tells refused h g e r u v = ap says u ∙ ap (λ x. says (tells x)) v ∙ by-refusal says tells refused h g e r.number r.cell ∙ ap some (sym v)
 
-pub read-says : {f : List ℕ} {t t' : List Record} {r : ReadAnswer} (c : Filling f t t' r) → said_read r ≡ some c.read
+pub read_says : {f : List ℕ} {t t' : List Record} {r : ReadAnswer} (c : Filling f t t' r) → said_read r ≡ some c.read
 unfolding read_answered read_answer numbered coded
-read-says {f} {t} c = answering said_read read_answer Unread (λ k x h. by_number (λ k x. some (Unread k x)) k x _ h) _ refl (read_refusal f (length t)) c.answers c.reads.answers
+read_says {f} {t} c = answering said_read read_answer Unread (λ k x h. by_number (λ k x. some (Unread k x)) k x _ h) _ refl (read_refusal f (length t)) c.answers c.reads.answers
 
-pub layout-says : {t : Table} {al : ℕ} {s s' : List ℕ} {ps ps' : List ℤ} {r : LayoutAnswer} (c : Laying t al s s' ps ps' r) → said_layout r ≡ some c.laid
+pub layout_says : {t : Table} {al : ℕ} {s s' : List ℕ} {ps ps' : List ℤ} {r : LayoutAnswer} (c : Laying t al s s' ps ps' r) → said_layout r ≡ some c.laid
 unfolding laid_of laid_answer numbered coded
-layout-says {t} {al} {s} {s'} {ps} c = answering said_layout laid_answer Unlaid (λ k x h. by_number (λ k x. some (Unlaid k x)) k x _ h) _ refl (q.refusal q.layout (q.layout_given t al (length s) (length ps))) c.answers c.lays.answers
+layout_says {t} {al} {s} {s'} {ps} c = answering said_layout laid_answer Unlaid (λ k x h. by_number (λ k x. some (Unlaid k x)) k x _ h) _ refl (q.refusal q.layout (q.layout_given t al (length s) (length ps))) c.answers c.lays.answers
 
 -- check: "kept", and "broken" with a rule's number
 abbrev Judged : Answer → Type 0
@@ -136,26 +119,26 @@ judged t p al = go (verdict t p al) refl
     go kept e = subst Judged (sym (fine-answer t p al e)) (told-fine (width t p) (rows t p))
     go (broken r a b) e = subst Judged (sym (faulty-answer t p al r a b e)) (told-faulty r a b (verdict-broken t p al r a b e).rule_low)
 
-pub check-says : (t : Table) (ps : List ℤ) (al : ℕ) → said_check (check_answer (checked_of t ps al)) ≡ some (checked_of t ps al)
+pub check_says : (t : Table) (ps : List ℤ) (al : ℕ) → said_check (check_answer (checked_of t ps al)) ≡ some (checked_of t ps al)
 unfolding checked_of check_answer numbered coded
-check-says t ps al = answering said_check check_answer Unchecked (λ k x h. by_number (λ k x. some (Unchecked k x)) k x _ h) _ (judged t (placed ps) al) (q.refusal q.check (q.check_given t al ps)) refl refl
+check_says t ps al = answering said_check check_answer Unchecked (λ k x h. by_number (λ k x. some (Unchecked k x)) k x _ h) _ (judged t (placed ps) al) (q.refusal q.check (q.check_given t al ps)) refl refl
 
-pub ends-says : (t : Table) (ps : List ℤ) (c : ℕ) → said_ends (ends_answer (ended_of t ps c)) ≡ some (ended_of t ps c)
+pub ends_says : (t : Table) (ps : List ℤ) (c : ℕ) → said_ends (ends_answer (ended_of t ps c)) ≡ some (ended_of t ps c)
 unfolding joined ended_of ends_answer numbered coded
-ends-says t ps c = answering said_ends ends_answer Unended (λ k x h. by_number (λ k x. some (Unended k x)) k x _ h) _ refl (q.refusal q.ends (q.ends_given t ps c)) refl refl
+ends_says t ps c = answering said_ends ends_answer Unended (λ k x h. by_number (λ k x. some (Unended k x)) k x _ h) _ refl (q.refusal q.ends (q.ends_given t ps c)) refl refl
 
-pub list-says : {f out out' : List ℕ} {r : ListAnswer} (c : ListFilling f out out' r) → said_list r ≡ some c.listed
+pub list_says : {f out out' : List ℕ} {r : ListAnswer} (c : ListFilling f out out' r) → said_list r ≡ some c.listed
 unfolding listed_of list_answer numbered coded
-list-says {f} {out} c = answering said_list list_answer Unlisted (λ k x h. by_number (λ k x. some (Unlisted k x)) k x _ h) _ refl (q.refusal q.list (q.list_given (length out))) c.answers c.lists.answers
+list_says {f} {out} c = answering said_list list_answer Unlisted (λ k x h. by_number (λ k x. some (Unlisted k x)) k x _ h) _ refl (q.refusal q.list (q.list_given (length out))) c.answers c.lists.answers
 
 fit_told : (d : Found) → said_frame (frame_answer (told d)) ≡ some (told d)
 unfolding told frame_answer numbered coded
 fit_told nowhere = refl
 fit_told (found a) = refl
 
-pub frame-says : {t : Table} {squares : ℕ} {s s' : List ℕ} {r : FrameAnswer} (c : Framing t squares s s' r) → said_frame r ≡ some c.fitted
+pub frame_says : {t : Table} {squares : ℕ} {s s' : List ℕ} {r : FrameAnswer} (c : Framing t squares s s' r) → said_frame r ≡ some c.fitted
 unfolding fitted_of frame_answer numbered coded
-frame-says {t} {squares} {s} c = answering said_frame frame_answer Unfitted (λ k x h. by_number (λ k x. some (Unfitted k x)) k x _ h) _ (fit_told (least_allowance t squares)) (q.refusal q.frame (q.frame_given t squares (length s))) c.answers c.frames.answers
+frame_says {t} {squares} {s} c = answering said_frame frame_answer Unfitted (λ k x h. by_number (λ k x. some (Unfitted k x)) k x _ h) _ (fit_told (least_allowance t squares)) (q.refusal q.frame (q.frame_given t squares (length s))) c.answers c.frames.answers
 
 width-told : (l w h : ℕ) (b : Bool) → said_mark (mark_answer (cond b (FullMarks w h) (Wide w l h))) ≡ some (cond b (FullMarks w h) (Wide w l h))
 unfolding mark_answer numbered coded
@@ -171,58 +154,17 @@ unfolding graded mark_answer numbered coded
 graded-told l (fine w h) = by_width-told l _ _
 graded-told l (faulty r a b) = refl
 
-pub mark-says : {t : Table} {ps : List ℤ} {al : ℕ} {s s' : List ℕ} {r : MarkAnswer} (c : Marking t ps al s s' r) → said_mark r ≡ some c.marked
+pub mark_says : {t : Table} {ps : List ℤ} {al : ℕ} {s s' : List ℕ} {r : MarkAnswer} (c : Marking t ps al s s' r) → said_mark r ≡ some c.marked
 unfolding marked_of mark_answer numbered coded
-mark-says {t} {ps} {al} {s} c = answering said_mark mark_answer Unmarked (λ k x h. by_number (λ k x. some (Unmarked k x)) k x _ h) _ (graded-told (our_width t al) (answer t (placed ps) al)) (q.refusal q.mark (q.mark_given t ps al (length s))) c.answers c.marks.answers
+mark_says {t} {ps} {al} {s} c = answering said_mark mark_answer Unmarked (λ k x h. by_number (λ k x. some (Unmarked k x)) k x _ h) _ (graded-told (our_width t al) (answer t (placed ps) al)) (q.refusal q.mark (q.mark_given t ps al (length s))) c.answers c.marks.answers
 
-pub copy-says : {rs : List Record} {letters : List ℕ} {al : ℕ} {out out' : List ℕ} {r : CopyAnswer} (c : CopyFilling rs letters al out out' r) → said_copy r ≡ some c.copied
+pub copy_says : {rs : List Record} {letters : List ℕ} {al : ℕ} {out out' : List ℕ} {r : CopyAnswer} (c : CopyFilling rs letters al out out' r) → said_copy r ≡ some c.copied
 unfolding copied_of copy_answer numbered coded
-copy-says {rs} {letters} {al} {out} c = answering said_copy copy_answer Uncopied (λ k x h. by_number (λ k x. some (Uncopied k x)) k x _ h) _ refl (copy_refusal rs letters al (length out)) c.answers c.copies.answers
+copy_says {rs} {letters} {al} {out} c = answering said_copy copy_answer Uncopied (λ k x h. by_number (λ k x. some (Uncopied k x)) k x _ h) _ refl (copy_refusal rs letters al (length out)) c.answers c.copies.answers
 
-pub mend-says : {f out out' lines lines' : List ℕ} {r : MendAnswer} (c : MendFilling f out out' lines lines' r) → said_mend r ≡ some c.mended
+pub mend_says : {f out out' lines lines' : List ℕ} {r : MendAnswer} (c : MendFilling f out out' lines lines' r) → said_mend r ≡ some c.mended
 unfolding mended_of mend_answer numbered coded
-mend-says {f} {out} {out'} {lines} c = answering said_mend mend_answer Unmended (λ k x h. by_number (λ k x. some (Unmended k x)) k x _ h) _ refl (mend_refusal f (length out) (length lines)) c.answers c.mends.answers
-
-pub outline-says : {f out out' : List ℕ} {r : OutlineAnswer} (c : OutlineFilling f out out' r) → said_outline r ≡ some c.outlined
-unfolding outlined_of outline_answer numbered coded
-outline-says {f} {out} c = answering said_outline outline_answer Unoutlined (λ k x h. by_number (λ k x. some (Unoutlined k x)) k x _ h) _ refl (q.refusal q.outline (file_given f (q.outline_output (length out) ∷ []) q.nothing)) c.answers c.outlines.answers
-
-composed_told : (u : Understood) (room : ℕ) → said_compose (compose_answer (composed_by u room)) ≡ some (composed_by u room)
-unfolding composed_by compose_answer numbered coded
-composed_told (fault n f) room = refl
-composed_told (plan c) room = by-refusal said_compose compose_answer Uncomposed (λ k x h. by_number (λ k x. some (Uncomposed k x)) k x _ h) _ refl (content_refusal c room).number (content_refusal c room).cell
-
--- question 1 is put before the text is read
-roomy-told : (u : Understood) (room : ℕ) (b : Bool) → said_compose (compose_answer (cond b (composed_by u room) (Uncomposed 1 0))) ≡ some (cond b (composed_by u room) (Uncomposed 1 0))
-unfolding compose_answer numbered coded
-roomy-told u room true = composed_told u room
-roomy-told u room false = refl
-
-pub compose-says : {text out out' : List ℕ} {r : ComposeAnswer} (c : ComposeFilling text out out' r) → said_compose r ≡ some c.composed
-unfolding composed_of
-compose-says {text} {out} c =
-    ap said_compose c.answers
-    ∙ ap (λ x. said_compose (compose_answer x)) c.composes.answers
-    ∙ roomy-told (understood text) (length out) (q.roomy (q.copy_output (length out)))
-    ∙ ap some (sym c.composes.answers)
-
-pub why-says : {t : Table} {al : ℕ} {s s' : List ℕ} {ps ps' ls ls' : List ℤ} {r : WhyAnswer} (c : Showing t al s s' ps ps' ls ls' r) → said_why r ≡ some c.shown
-unfolding shown_of why_answer numbered coded
-why-says {t} {al} {s} {s'} {ps} {ps'} {ls} c = answering said_why why_answer Unshown (λ k x h. by_number (λ k x. some (Unshown k x)) k x _ h) _ refl (q.refusal q.why (q.why_given t al (length s) (length ps) (length ls))) c.answers c.shows.answers
-
-reason-told : (w h : ℕ) (a : search.Answer) → said_judge (judge_answer (by_reason w h a)) ≡ some (by_reason w h a)
-unfolding by_reason judge_answer numbered coded
-reason-told w h (search.because r) = refl
-reason-told w h search.no_reason = refl
-
-verdict-told : (v : Answer) (a : search.Answer) → said_judge (judge_answer (by_verdict v a)) ≡ some (by_verdict v a)
-unfolding by_verdict judge_answer numbered coded
-verdict-told (fine w h) a = reason-told _ _ a
-verdict-told (faulty r a b) y = refl
-
-pub judge-says : {t : Table} {ps : List ℤ} {al : ℕ} {ls ls' : List ℤ} {r : JudgeAnswer} (c : Judging t ps al ls ls' r) → said_judge r ≡ some c.judged
-unfolding judged_of judge_answer numbered coded
-judge-says {t} {ps} {al} {ls} c = answering said_judge judge_answer Unjudged (λ k x h. by_number (λ k x. some (Unjudged k x)) k x _ h) _ (verdict-told (answer t (placed ps) al) (search.why t al (across t) (placed ps))) (q.refusal q.judge (q.judge_given t ps al (length ls))) c.answers c.judges.answers
+mend_says {f} {out} {out'} {lines} c = answering said_mend mend_answer Unmended (λ k x h. by_number (λ k x. some (Unmended k x)) k x _ h) _ refl (mend_refusal f (length out) (length lines)) c.answers c.mends.answers
 
 drawn : (d : Stroke) → said_stroke (stroke_answer (Drawn d)) ≡ some (Drawn d)
 unfolding stroke_answer pen_answer numbered coded
@@ -230,17 +172,17 @@ drawn (Move x y) = refl
 drawn (Line x y) = refl
 drawn Lift = refl
 
-pub stroke-says : (t : Table) (ps : List ℤ) (g : Page) (s : ℕ) → said_stroke (stroke_answer (stroked_of t ps g s)) ≡ some (stroked_of t ps g s)
+pub stroke_says : (t : Table) (ps : List ℤ) (g : Page) (s : ℕ) → said_stroke (stroke_answer (stroked_of t ps g s)) ≡ some (stroked_of t ps g s)
 unfolding stroked_of stroke_answer numbered coded
-stroke-says t ps g s = answering said_stroke stroke_answer Undrawn (λ k x h. by_number (λ k x. some (Undrawn k x)) k x _ h) _ (drawn (get_or (strokes t (placed ps) g) s Lift)) (q.refusal q.stroke (q.stroke_given t ps g s)) refl refl
+stroke_says t ps g s = answering said_stroke stroke_answer Undrawn (λ k x h. by_number (λ k x. some (Undrawn k x)) k x _ h) _ (drawn (get_or (strokes t (placed ps) g) s Lift)) (q.refusal q.stroke (q.stroke_given t ps g s)) refl refl
 
-pub strip-says : {t : Table} {ps : List ℤ} {row first : ℕ} {bs bs' : List ℕ} {r : StripAnswer} (c : Stripping t ps row first bs bs' r) → said_strip r ≡ some c.refused
+pub strip_says : {t : Table} {ps : List ℤ} {row first : ℕ} {bs bs' : List ℕ} {r : StripAnswer} (c : Stripping t ps row first bs bs' r) → said_strip r ≡ some c.refused
 unfolding strip_answer
-strip-says c = ap said_strip c.answers
+strip_says c = ap said_strip c.answers
 
-pub join-says : {t u : List Record} {k : ℕ} {o o' : List Record} {r : JoinAnswer} (c : Joining t u k o o' r) → said_join r ≡ some c.joined
+pub join_says : {t u : List Record} {k : ℕ} {o o' : List Record} {r : JoinAnswer} (c : Joining t u k o o' r) → said_join r ≡ some c.joined
 unfolding join_answered join_answer numbered coded
-join-says {t} {u} {k} {o} c = answering said_join join_answer Unjoined (λ k x h. by_number (λ k x. some (Unjoined k x)) k x _ h) _ refl (join_refusal (length o) (cells_of t) (cells_of u) k) c.answers c.joins.answers
+join_says {t} {u} {k} {o} c = answering said_join join_answer Unjoined (λ k x h. by_number (λ k x. some (Unjoined k x)) k x _ h) _ refl (join_refusal (length o) (cells_of t) (cells_of u) k) c.answers c.joins.answers
 
 drilled_told : (o : Outcome) (u n : ℕ) → said_drill (drill_answer (told_as o u n)) ≡ some (told_as o u n)
 unfolding drill_answer numbered coded
@@ -249,21 +191,21 @@ drilled_told spent u n = refl
 drilled_told wrong u n = refl
 drilled_told full u n = refl
 
-pub drill-says : {t : Table} {bs xs xs' : List ℕ} {r : DrillAnswer} (c : Drilling t bs xs xs' r) → said_drill r ≡ some c.drilled
+pub drill_says : {t : Table} {bs xs xs' : List ℕ} {r : DrillAnswer} (c : Drilling t bs xs xs' r) → said_drill r ≡ some c.drilled
 unfolding drilled_of drill_told drill_answer numbered coded
-drill-says {t} {bs} {xs} c = answering said_drill drill_answer Undrilled (λ k x h. by_number (λ k x. some (Undrilled k x)) k x _ h) _ (drilled_told (drill_of t bs).outcome _ _) (q.refusal q.drill (q.drill_given t (length bs) (length xs))) c.answers c.drills.answer
+drill_says {t} {bs} {xs} c = answering said_drill drill_answer Undrilled (λ k x h. by_number (λ k x. some (Undrilled k x)) k x _ h) _ (drilled_told (drill_of t bs).outcome _ _) (q.refusal q.drill (q.drill_given t (length bs) (length xs))) c.answers c.drills.answer
 
-pub start-says : {t : Table} {al : ℕ} {xs xs' ms ms' : List ℕ} {r : StartAnswer} (c : Starting t al xs xs' ms ms' r) → said_start r ≡ some c.started
+pub start_says : {t : Table} {al : ℕ} {xs xs' ms ms' : List ℕ} {r : StartAnswer} (c : Starting t al xs xs' ms ms' r) → said_start r ≡ some c.started
 unfolding started_of start_answer numbered coded
-start-says {t} {al} {xs} {xs'} {ms} c = answering said_start start_answer Unbegun (λ k x h. by_number (λ k x. some (Unbegun k x)) k x _ h) _ refl (start_no t al (length xs) (length ms)) c.answers c.starts.answers
+start_says {t} {al} {xs} {xs'} {ms} c = answering said_start start_answer Unbegun (λ k x h. by_number (λ k x. some (Unbegun k x)) k x _ h) _ refl (start_no t al (length xs) (length ms)) c.answers c.starts.answers
 
-pub report-says : {f : List ℕ} {t t' : List Record} {s s' : List ℕ} {ps ps' : List ℤ} {r : ReportAnswer} (c : Reporting f t t' s s' ps ps' r) → said_report r ≡ some c.reported
+pub report_says : {f : List ℕ} {t t' : List Record} {s s' : List ℕ} {ps ps' : List ℤ} {r : ReportAnswer} (c : Reporting f t t' s s' ps ps' r) → said_report r ≡ some c.reported
 unfolding reported_of report_answer numbered coded
-report-says {f} {t} {t'} {s} {s'} {ps} c = answering said_report report_answer Unreported (λ k x h. by_number (λ k x. some (Unreported k x)) k x _ h) _ refl (report_refusal f (length t) (length s) (length ps)) c.answers c.reports.answers
+report_says {f} {t} {t'} {s} {s'} {ps} c = answering said_report report_answer Unreported (λ k x h. by_number (λ k x. some (Unreported k x)) k x _ h) _ refl (report_refusal f (length t) (length s) (length ps)) c.answers c.reports.answers
 
-pub pool-says : (a b : Report) → said_report (report_answer (pool a b)) ≡ some (pool a b)
+pub pool_says : (a b : Report) → said_report (report_answer (pool a b)) ≡ some (pool a b)
 unfolding pool report_answer numbered coded
-pool-says a b = answering said_report report_answer Unreported (λ k x h. by_number (λ k x. some (Unreported k x)) k x _ h) _ refl (pool_refusal a b) refl refl
+pool_says a b = answering said_report report_answer Unreported (λ k x h. by_number (λ k x. some (Unreported k x)) k x _ h) _ refl (pool_refusal a b) refl refl
 
 step_real : (n m : ℕ) (a : Stepped) → (¬ (n ≡ 0) → a ≡ Unstepped n m) → (n ≡ 0 → (k x : ℕ) → ¬ (a ≡ Unstepped k x)) → said_step (step_answer a) ≡ some a
 unfolding step_answer numbered coded
@@ -272,8 +214,8 @@ step_real zero m Done h s = refl
 step_real zero m (Unstepped k x) h s = absurd (s refl k x refl)
 step_real (suc n) m a h s = subst (λ a. said_step (step_answer a) ≡ some a) (sym (h (λ e. omega arith))) refl
 
-pub step-says : {t : Table} {al : ℕ} {xs xs' ms ms' : List ℕ} {ps ps' : List ℤ} {r : StepAnswer} (c : Stepping t al xs xs' ms ms' ps ps' r) → said_step r ≡ some c.stepped
-step-says {t} {al} {xs} {xs'} {ms} {ms'} {ps} c =
+pub step_says : {t : Table} {al : ℕ} {xs xs' ms ms' : List ℕ} {ps ps' : List ℤ} {r : StepAnswer} (c : Stepping t al xs xs' ms ms' ps ps' r) → said_step r ≡ some c.stepped
+step_says {t} {al} {xs} {xs'} {ms} {ms'} {ps} c =
     let no : Refusal = step_no t al (length xs) (length ms) (length ps) in ap said_step c.answers ∙ step_real no.number no.cell c.stepped (λ z. (c.steps.refuses z).0) c.steps.says
 
 reach_real : (n m i : ℕ) (a : Reached) → (¬ (n ≡ 0) → a ≡ Unreached n m) → (n ≡ 0 → (k x : ℕ) → a ≡ Unreached k x → (k ≡ 20) × (x ≡ i)) → said_reach (reach_answer a) ≡ some a
@@ -282,6 +224,6 @@ reach_real zero m i (Sides u v) h s = refl
 reach_real zero m i (Unreached k x) h s = let e : k ≡ 20 = (s refl k x refl).0 in by_number (λ k x. some (Unreached k x)) k x _ (omega arith)
 reach_real (suc n) m i a h s = subst (λ a. said_reach (reach_answer a) ≡ some a) (sym (h (λ e. omega arith))) refl
 
-pub reach-says : {t : Table} {al : ℕ} {xs ms : List ℕ} {k : ℕ} {r : ReachAnswer} (c : Reaching t al xs ms k r) → said_reach r ≡ some c.reached
-reach-says {t} {al} {xs} {ms} {k} c =
+pub reach_says : {t : Table} {al : ℕ} {xs ms : List ℕ} {k : ℕ} {r : ReachAnswer} (c : Reaching t al xs ms k r) → said_reach r ≡ some c.reached
+reach_says {t} {al} {xs} {ms} {k} c =
     let no : Refusal = reach_no t al (length xs) (length ms) (cells t) k in ap said_reach c.answers ∙ reach_real no.number no.cell k c.reached c.reaches.refuses c.reaches.says

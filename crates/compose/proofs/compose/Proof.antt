@@ -1,7 +1,7 @@
 use lib.Seq.{length-take-le}
 use mathlib.Core.Path.{sym}
 use native.Mathlib.Omega.{arith}
-use Rattle.compose.specs.Laws.Composed.{compose_short, compose-wrong, compose-written, compose-refused}
+use Rattle.compose.specs.Laws.Composed.{compose_short, compose_wrong, compose_written, compose_refused}
 use borrow.Author.Rules.{rules}
 use Rattle.compose.proofs.compose.Statement.{statement}
 use Rattle.compose.proofs.compose.Tie as tie
@@ -16,7 +16,7 @@ understand-requires : tie.Need-understand-requires
 understand-requires c κs = search rules
 
 returns-2 : tie.Need-returns-2
-returns-2 c = compose-wrong c.before.before.before.before.before.before.before.before.args.text.now _ c.before.before.before.understand.result c.before.before.before.understand.ensures c.before.before.before.before.before.before.before.before.args.out.now c.before.before.before.before.before.if1.false c.if2.true
+returns-2 c = compose_wrong c.before.before.before.before.before.before.before.before.args.text.now _ c.before.before.before.understand.result c.before.before.before.understand.ensures c.before.before.before.before.before.before.before.before.args.out.now c.before.before.before.before.before.if1.false c.if2.true
 
 array-share-prefix-letters : tie.Need-array-share-prefix-letters
 array-share-prefix-letters c = search rules
@@ -40,13 +40,13 @@ same_length : tie.Need-same-length
 same_length c = search rules
 
 returns-3 : tie.Need-returns-3
-returns-3 c = compose-written c.before.before.before.before.before.before.before.before.before.before.before.before.before.before.before.before.before.before.args.text.now _ c.before.before.before.before.before.before.before.before.before.before.before.before.before.understand.result c.before.before.before.before.before.before.before.before.before.before.before.before.before.understand.ensures c.before.before.before.before.before.before.before.before.before.before.before.before.before.before.before.before.before.before.args.out.now c.before.before.before.before.before.before.before.before.before.before.before.before.before.before.before.if1.false c.before.before.before.before.before.before.before.before.before.before.if2.false _ _ c.before.before.before.before.before.copy.ensures _ c.before.n.given.1
+returns-3 c = compose_written c.before.before.before.before.before.before.before.before.before.before.before.before.before.before.before.before.before.before.args.text.now _ c.before.before.before.before.before.before.before.before.before.before.before.before.before.understand.result c.before.before.before.before.before.before.before.before.before.before.before.before.before.understand.ensures c.before.before.before.before.before.before.before.before.before.before.before.before.before.before.before.before.before.before.args.out.now c.before.before.before.before.before.before.before.before.before.before.before.before.before.before.before.if1.false c.before.before.before.before.before.before.before.before.before.before.if2.false _ _ c.before.before.before.before.before.copy.ensures _ c.before.n.given.1
 
 same-length-2 : tie.Need-same-length-2
 same-length-2 c = search rules
 
 returns-4 : tie.Need-returns-4
-returns-4 c = compose-refused c.before.before.before.before.before.before.before.before.before.before.before.before.before.before.before.before.before.before.args.text.now _ c.before.before.before.before.before.before.before.before.before.before.before.before.before.understand.result c.before.before.before.before.before.before.before.before.before.before.before.before.before.understand.ensures c.before.before.before.before.before.before.before.before.before.before.before.before.before.before.before.before.before.before.args.out.now c.before.before.before.before.before.before.before.before.before.before.before.before.before.before.before.if1.false c.before.before.before.before.before.before.before.before.before.before.if2.false _ _ c.before.before.before.before.before.copy.ensures _ _ c.before.number.given.1
+returns-4 c = compose_refused c.before.before.before.before.before.before.before.before.before.before.before.before.before.before.before.before.before.before.args.text.now _ c.before.before.before.before.before.before.before.before.before.before.before.before.before.understand.result c.before.before.before.before.before.before.before.before.before.before.before.before.before.understand.ensures c.before.before.before.before.before.before.before.before.before.before.before.before.before.before.before.before.before.before.args.out.now c.before.before.before.before.before.before.before.before.before.before.before.before.before.before.before.if1.false c.before.before.before.before.before.before.before.before.before.before.if2.false _ _ c.before.before.before.before.before.copy.ensures _ _ c.before.number.given.1
 
 pub compose-spec : {M : Type 1} → statement M
 compose-spec =

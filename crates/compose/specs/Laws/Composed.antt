@@ -8,7 +8,6 @@ use Rattle.std.proofs.Math.Decide.{ℕ_discrete}
 use Rattle.std.proofs.Math.ListN.{drop}
 use Rattle.std.proofs.lemmas.Bool.{lt-leb}
 use Rattle.plan.specs.Limits.{most_file}
-use Rattle.plan.specs.Questions.{roomy}
 use Rattle.plan.specs.declared.Record.{Record}
 use Rattle.records.specs.Apart.{records_in}
 use Rattle.content.specs.Content.{content}
@@ -21,7 +20,6 @@ use Rattle.copying.specs.declared.Copied.TheVariants as copied
 use Rattle.outline_spec.specs.Faults.{fault_of}
 use Rattle.outline_spec.specs.Refused.{content_refusal}
 use Rattle.outline_spec.specs.Laws.Faults.{number-back}
-use Rattle.outline_spec.specs.Laws.Refused.{content-copy}
 use Rattle.outline_spec.specs.Understood.{Understood, fault, plan, understood}
 use Rattle.compose.specs.Meaning.{items_in, meaning}
 use Rattle.compose.specs.State.{Understands}
@@ -37,12 +35,12 @@ as_composed (copied.Refused k c) = Refused k c
 
 -- an output that is too short
 pub compose_short : (text out : List ℕ) → length out < most_file → Composes text out out (Refused 1 0)
-unfolding roomy composed_of composed_after size
+unfolding composed_of composed_after size
 compose_short text out h = record { answers = rw (lt-leb most_file (length out) h) refl; output = refl; suffices = omega arith }
 
 module _ (text letters : List ℕ) (u : Understanding) (h : Understands text letters u) (out : List ℕ) (room : most_file ≤ length out) where
   composed_is : composed_of text (length out) ≡ composed_by (understood text) (length out)
-  unfolding roomy composed_of
+  unfolding composed_of
   composed_is = rw (le-leb most_file (length out) room) refl
 
   -- a fault
@@ -50,9 +48,9 @@ module _ (text letters : List ℕ) (u : Understanding) (h : Understands text let
   unfolding meaning
   meaning-wrong n = sym h.answers ∙ rw (ne_eqb u.fault 0 n) refl
 
-  pub compose-wrong : ¬ (u.fault ≡ 0) → Composes text out out (Wrong u.line u.fault)
+  pub compose_wrong : ¬ (u.fault ≡ 0) → Composes text out out (Wrong u.line u.fault)
   unfolding composed_by composed_after size
-  compose-wrong n =
+  compose_wrong n =
       record {
         answers = sym (composed_is ∙ ap (λ (x : Understood). composed_by x (length out)) (meaning-wrong n) ∙ ap (Wrong u.line) (number-back u.fault n h.known));
         output = refl;
@@ -75,10 +73,9 @@ module _ (text letters : List ℕ) (u : Understanding) (h : Understands text let
     says = sym h.answers ∙ rw (eq-eqb u.fault 0 n) refl
 
     refusal_is : content_refusal (content rs L al) (length out) ≡ copy_refusal rs L al (length out)
-    unfolding content items_in
+    unfolding content_refusal content items_in
     refusal_is =
-        content-copy (content rs L al) (length out)
-        ∙ ap (λ (x : List Record). copy_refusal x (labels (items_in letters u.used u.table)) al (length out)) (sym h.tight.rows)
+        ap (λ (x : List Record). copy_refusal x (labels (items_in letters u.used u.table)) al (length out)) (sym h.tight.rows)
         ∙ ap (λ (x : List ℕ). copy_refusal rs x al (length out)) (sym h.tight.bytes)
 
     as_written : as_composed (copied_of rs L al (copy_refusal rs L al (length out))) ≡ composed_by (plan (content rs L al)) (length out)
@@ -108,18 +105,18 @@ module _ (text letters : List ℕ) (u : Understanding) (h : Understands text let
       small_as : copying.size d ≤ most_file
       small_as = rw g.answers small
 
-      pub compose-written : (k : ℕ) → d ≡ copied.Written k → Composes text out out' (Written k)
+      pub compose_written : (k : ℕ) → d ≡ copied.Written k → Composes text out out' (Written k)
       unfolding as_composed composed_after file_by output_after size copying.size
-      compose-written k q =
+      compose_written k q =
           record {
             answers = ap as_composed (sym q) ∙ answer-is;
             output = g.output ∙ ap (λ (x : Copied). output_after x rs L al out) q ∙ ap (λ (x : Understood). file_by x ++ drop k out) (sym says);
             suffices = rw q at small_as;
           }
 
-      pub compose-refused : (k c : ℕ) → d ≡ copied.Refused k c → Composes text out out' (Refused k c)
+      pub compose_refused : (k c : ℕ) → d ≡ copied.Refused k c → Composes text out out' (Refused k c)
       unfolding as_composed composed_after output_after size
-      compose-refused k c q =
+      compose_refused k c q =
           record {
             answers = ap as_composed (sym q) ∙ answer-is;
             output = g.output ∙ ap (λ (x : Copied). output_after x rs L al out) q;

@@ -235,12 +235,12 @@ module _ (text letters : List ℕ) (s : State) (w : Well (length text) s) (h : s
         abbrev before : List Item
         before = so_far letters s
 
-        begins_at : 0 + length (labels before) ≡ s.used
-        begins_at = let n : length (labels before) ≡ length base = ap length (sym x.bytes) in omega (arith, n, base-long)
+        begins-at : 0 + length (labels before) ≡ s.used
+        begins-at = let n : length (labels before) ≡ length base = ap length (sym x.bytes) in omega (arith, n, base-long)
 
         record_is : record_of (item_in y t) (0 + length (labels before)) ≡ rec
         unfolding record_of item_in record_from
-        record_is = rw (begins_at, label-long) refl
+        record_is = rw (begins-at, label-long) refl
 
         rows_next : records_in (note s.table (count s) rec) ≡ entries 0 (before ++ (item_in y t ∷ []))
         rows_next =

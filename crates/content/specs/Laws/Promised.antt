@@ -80,9 +80,9 @@ module _ (rs : List Record) (letters : List ℕ) (al : ℕ) (e : (copy_steps rs 
   unfolding content
   items_are = refl
 
-  allowance-is : c.allowance ≡ al
+  allowance_is : c.allowance ≡ al
   unfolding content
-  allowance-is = refl
+  allowance_is = refl
 
   count_of : length is ≡ length rs
   count_of = length-map rs (item_of letters)
@@ -145,7 +145,7 @@ module _ (rs : List Record) (letters : List ℕ) (al : ℕ) (e : (copy_steps rs 
   body_passed =
       let r : _ = each_row (form g) (trailer_of g).begin (entry g) 0 (trailer_of g).count in
       let q : (rows_refusal (form g) (trailer_of g).begin 0 (map (entry g) (from 0 (trailer_of g).count))).number ≡ 0 = unfold records_of in records-passed in
-      let l : (trailer_of g).allowance ≡ al = ap (λ (x : Trailer). x.allowance) (clean_trailer c) ∙ allowance-is in
+      let l : (trailer_of g).allowance ≡ al = ap (λ (x : Trailer). x.allowance) (clean_trailer c) ∙ allowance_is in
       rw (table_is, l)
       (first-none _ _ (ap (λ (x : Refusal). x.number) r ∙ q)
       ∙ first-none (tree_refusal (cells_of rs)) _ answers.tree

@@ -63,9 +63,9 @@ module _ (f : List ℕ) where
   unfolding columns_of
   none-refused = refl
 
-  pub plan-allowance : plan.allowance ≡ (trailer_of f).allowance
+  pub plan_allowance : plan.allowance ≡ (trailer_of f).allowance
   unfolding columns_of
-  plan-allowance = refl
+  plan_allowance = refl
 
   refused-is : (r : Refusal) → r ≡ why → ¬ (why.number ≡ 0) → (out : List ℕ) → Cleans f out out (Refused r.number r.cell)
   unfolding cleaned_of cleaned_after size
@@ -145,11 +145,11 @@ module _ (f : List ℕ) where
       pub clean-table : table_of p.columns ≡ cells_of (records_of f)
       clean-table = ap (λ (x : Reading). table_of x.columns) plan-is ∙ same-table f (headed (passes z))
 
-      pub clean-allowance : p.allowance ≡ (trailer_of f).allowance
-      clean-allowance = ap (λ (x : Reading). x.allowance) plan-is ∙ plan-allowance
+      pub clean_allowance : p.allowance ≡ (trailer_of f).allowance
+      clean_allowance = ap (λ (x : Reading). x.allowance) plan-is ∙ plan_allowance
 
       pub clean_copied : (letters : List ℕ) (al : ℕ) → letters ≡ take (trailer_of f).begin f → al ≡ p.allowance → (out out' : List ℕ) (d : Copied) → most_file ≤ length out
           → Copies (records_in (lettered p)) letters al out out' d → Cleans f out out' d
       clean_copied letters al l a out out' d room g =
           let s : letters ≡ letters_of f = unfold letters_of in l in
-          copied_is (passes z) out out' d room (rw (clean-records, s, a ∙ clean-allowance) at g)
+          copied_is (passes z) out out' d room (rw (clean-records, s, a ∙ clean_allowance) at g)

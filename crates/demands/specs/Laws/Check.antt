@@ -90,8 +90,8 @@ module _ (t : Table) (al : ℕ) (ps : List ℤ) (z : refusal check (check_given 
   broken_not : (r a b k c : ℕ) → Broken r a b ≡ Refused k c → ⊥
   broken_not r a b k c e = let n : ◌≡◌ {A = ℕ} 0 1 = cc in omega arith
 
-  pub no_refusal : (k c : ℕ) → ¬ (checked_of t ps al ≡ Refused k c)
-  no_refusal k c e = go (verdict t (placed ps) al) refl
+  pub no-refusal : (k c : ℕ) → ¬ (checked_of t ps al ≡ Refused k c)
+  no-refusal k c e = go (verdict t (placed ps) al) refl
     where
       go : (v : Verdict) → verdict t (placed ps) al ≡ v → ⊥
       go kept q = kept_not _ _ k c (sym (on-kept q) ∙ e)

@@ -92,8 +92,8 @@ module _ (n : ℕ) (text : Bytes) (ps : List ℤ) where
     drawn_short h = record { answers = rw (le-leb n most_cells few, lt-leb (2 * n) (length ps) h); positions = rw (le-leb n most_cells few, lt-leb (2 * n) (length ps) h) }
 
     module _ (room : 2 * n ≤ length ps) where
-      pub drawn-long : most_text < length text → Draws n text ps ps (Wrong Long)
-      drawn-long h =
+      pub drawn_long : most_text < length text → Draws n text ps ps (Wrong Long)
+      drawn_long h =
           record {
             answers = rw (le-leb n most_cells few, le-leb (2 * n) (length ps) room, lt-leb (length text) most_text h);
             positions = rw (le-leb n most_cells few, le-leb (2 * n) (length ps) room, lt-leb (length text) most_text h);
@@ -116,9 +116,9 @@ module _ (n : ℕ) (text : Bytes) (ps : List ℤ) where
         unfolding read_said
         said-fault z = said-is ∙ rw (ne_eqb s.fault 0 z)
 
-        pub drawn-fault : ¬ (s.fault ≡ 0) → (f : Fault) → f ≡ fault_said s.fault s.line s.cell → Draws n text ps ps (Wrong f)
+        pub drawn_fault : ¬ (s.fault ≡ 0) → (f : Fault) → f ≡ fault_said s.fault s.line s.cell → Draws n text ps ps (Wrong f)
         unfolding drawn_of positions_after
-        drawn-fault z f e = let q = said-fault z in draws (Wrong f) ps (ap Wrong e ∙ sym (ap drawn_of q)) (sym (ap (λ x. positions_after n x ps) q))
+        drawn_fault z f e = let q = said-fault z in draws (Wrong f) ps (ap Wrong e ∙ sym (ap drawn_of q)) (sym (ap (λ x. positions_after n x ps) q))
 
         said-complete : s.fault ≡ 0 → said n text ≡ complete n (sketch g qs)
         unfolding read_said
@@ -136,15 +136,15 @@ module _ (n : ℕ) (text : Bytes) (ps : List ℤ) where
         unfolding complete
         said-placed z c e l = said-complete z ∙ rw (← e, le-ltb c n l)
 
-        pub drawn-placed : s.fault ≡ 0 → (c : ℕ) → c ≡ lowest g 0 n → n ≤ c → (ps' : List ℤ) → ps' ≡ written ps (moved (placed qs)) n → Draws n text ps ps' Placed
+        pub drawn_placed : s.fault ≡ 0 → (c : ℕ) → c ≡ lowest g 0 n → n ≤ c → (ps' : List ℤ) → ps' ≡ written ps (moved (placed qs)) n → Draws n text ps ps' Placed
         unfolding drawn_of positions_after written
-        drawn-placed z c e l ps' w = let q = said-placed z c e l in draws Placed ps' (sym (ap drawn_of q)) (w ∙ sym (ap (λ x. positions_after n x ps) q))
+        drawn_placed z c e l ps' w = let q = said-placed z c e l in draws Placed ps' (sym (ap drawn_of q)) (w ∙ sym (ap (λ x. positions_after n x ps) q))
 
 -- ---- nothing read yet
-pub zeros-held : (n : ℕ) → Held (replicate n (pos 0))
-zeros-held zero i = zero_near
-zeros-held (suc n) zero = zero_near
-zeros-held (suc n) (suc i) = zeros-held n i
+pub zeros_held : (n : ℕ) → Held (replicate n (pos 0))
+zeros_held zero i = zero_near
+zeros_held (suc n) zero = zero_near
+zeros_held (suc n) (suc i) = zeros_held n i
 
 pub zeros-sized : (n : ℕ) → n ≤ most_cells → Sized n (replicate most_cells 0) (replicate (2 * most_cells) (pos 0))
 zeros-sized n h = record { few = h; flags = length-replicate {A = ℕ} most_cells 0; room = length-replicate {A = ℤ} (2 * most_cells) (pos 0) }

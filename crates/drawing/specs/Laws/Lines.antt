@@ -118,8 +118,8 @@ pub told-near : (t : Told) (l : Line) → t ≡ line_told l → (t.x ≤ farthes
 told-near t l e = rw e (line-near l)
 
 -- ---- what a line does to the sketch
-held-set : (ps : List ℤ) (i : ℕ) (z : ℤ) → Held ps → InRange farthest z → Held (set ps i z)
-held-set ps i z h k j = go (ℕ_discrete j i) (dec_lt i (length ps))
+held_set : (ps : List ℤ) (i : ℕ) (z : ℤ) → Held ps → InRange farthest z → Held (set ps i z)
+held_set ps i z h k j = go (ℕ_discrete j i) (dec_lt i (length ps))
   where
     go : Dec (j ≡ i) → Dec (i < length ps) → InRange farthest (get_or (set ps i z) j (pos 0))
     go (yes e) (yes l) = rw (e, get_or-set_same ps i z (pos 0) l) k
@@ -127,7 +127,7 @@ held-set ps i z h k j = go (ℕ_discrete j i) (dec_lt i (length ps))
     go (no n) d = rw (get_or-set_other ps i j z (pos 0) n) (h j)
 
 pub held_corner : (ps : List ℤ) (c : ℕ) (x y : ℤ) → Held ps → InRange farthest x → InRange farthest y → Held (set (set ps (2 * c) x) (2 * c + 1) y)
-held_corner ps c x y h a b = held-set (set ps (2 * c) x) (2 * c + 1) y (held-set ps (2 * c) x h a) b
+held_corner ps c x y h a b = held_set (set ps (2 * c) x) (2 * c + 1) y (held_set ps (2 * c) x h a) b
 
 -- a number of a cell, as the code has it
 cell_small : (n c m : ℕ) → n ≤ most_cells → m ≡ capped c → m < n → c ≡ m

@@ -11,7 +11,7 @@ use Rattle.std.proofs.Math.Seq.{take_all}
 use Rattle.std.proofs.lemmas.Bool.{lt-leb}
 use Rattle.whole.specs.Range.{in_range, InRange}
 use Rattle.whole.specs.Bias.{bias}
-use Rattle.whole.specs.Laws.Range.{says-within}
+use Rattle.whole.specs.Laws.Range.{says_within}
 use Rattle.whole.specs.Laws.Says.{is_true, is_false, holds}
 use Rattle.whole.specs.Laws.Whole.{whole, diff}
 use Rattle.plan.specs.Limits.{farthest}
@@ -111,11 +111,11 @@ no_way e = let z : ◌≡◌ {A = ℕ} 0 1 = cc in absurd (omega arith)
 
 near-told : (z : ℤ) (a : ℕ) → InRange farthest z → a ≡ bias farthest z → record { number = true; near = true; value = a } ≡ integer_told (some z)
 unfolding integer_told near_up
-near-told z a h q = rw (is_true (says-within farthest z) h, q)
+near-told z a h q = rw (is_true (says_within farthest z) h, q)
 
 far-told : (z : ℤ) → ¬ (InRange farthest z) → record { number = true; near = false; value = 0 } ≡ integer_told (some z)
 unfolding integer_told near_up
-far-told z h = rw (is_false (says-within farthest z) h)
+far-told z h = rw (is_false (says_within farthest z) h)
 
 pub zero_near : InRange farthest (pos 0)
 zero_near = record { low = omega whole; high = omega whole }
@@ -126,7 +126,7 @@ unfolding near_up
 up_low z = go (in_range farthest z) refl
   where
     go : (b : Bool) → in_range farthest z ≡ b → cond b (bias farthest z) 0 ≤ farthest + farthest
-    go true e = let h = holds (says-within farthest z) e in omega (whole, h.low, h.high)
+    go true e = let h = holds (says_within farthest z) e in omega (whole, h.low, h.high)
     go false e = omega arith
 
 pub down-near : (a : ℕ) (z : ℤ) → a ≤ farthest + farthest → z ≡ pos a -ℤ pos farthest → InRange farthest z
@@ -135,7 +135,7 @@ down-near a z h e = rw e (record { low = omega (whole, diff (pos a) (pos farthes
 pub down-up : (z w : ℤ) (a : ℕ) → in_range farthest z ≡ true → a ≡ near_up z → w ≡ pos a -ℤ pos farthest → w ≡ z
 unfolding near_up
 down-up z w a e q f =
-    let h = holds (says-within farthest z) e in
+    let h = holds (says_within farthest z) e in
     let b : a ≡ bias farthest z = q ∙ rw e in
     f ∙ omega (whole, diff (pos a) (pos farthest), h.low, h.high)
 

@@ -11,7 +11,7 @@ use Rattle.std.proofs.Math.ListN.{length, replicate}
 use Rattle.std.proofs.lemmas.List.{length-replicate}
 use borrow.Author.Tests.{ne_eqb, lt-ltb, le-ltb}
 use Rattle.whole.specs.Range.{in_range}
-use Rattle.whole.specs.Laws.Range.{says-within}
+use Rattle.whole.specs.Laws.Range.{says_within}
 use Rattle.whole.specs.Laws.Says.{is_true}
 use Rattle.whole.specs.Laws.Whole.{whole, diff}
 use Rattle.plan.specs.Limits.{most_cells, farthest}
@@ -183,7 +183,7 @@ module _ (p : Reading) (f : Bytes) (h : Taken p f) where
   near : (c : ℕ) → c < n → in_range farthest (q.x c) && in_range farthest (q.y c) ≡ true
   near c i =
       let (a, b) = sheet-inside (read_table p) fits p.allowance c (is-cell c i) in
-      rw (is_true (says-within farthest (q.x c)) a, is_true (says-within farthest (q.y c)) b)
+      rw (is_true (says_within farthest (q.x c)) a, is_true (says_within farthest (q.y c)) b)
 
   sketch-more : (k : ℕ) → k < n → with_cell (sketch_at k) k (q.x k) (q.y k) ≡ sketch_at (suc k)
   unfolding with_cell

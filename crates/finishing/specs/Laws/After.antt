@@ -105,8 +105,8 @@ module _ (t : Table) (al : ℕ) where
       go (yes z) = absurd (g.says z n c refl)
       go (no z) = (g.refuses z).1
 
-  same-held : {k : ℕ} {xs xs' ms ms' : List ℕ} {ps ps' : List ℤ} → Unaltered xs xs' ms ms' ps ps' → Holds t al k xs ms → Holds t al k xs' ms'
-  same-held u h = rw (u.scratch, u.second) h
+  same_held : {k : ℕ} {xs xs' ms ms' : List ℕ} {ps ps' : List ℤ} → Unaltered xs xs' ms ms' ps ps' → Holds t al k xs ms → Holds t al k xs' ms'
+  same_held u h = rw (u.scratch, u.second) h
 
   -- the scratches hold what the steps made
   pub after_holds : {k : ℕ} {xs ms : List ℕ} → After t al k xs ms → Holds t al k xs ms
@@ -118,8 +118,8 @@ module _ (t : Table) (al : ℕ) where
       let ex = s.scratch in
       let em = s.second in
       holds-made t al (suc k) xs xs' ms ms' (omega arith) (rw (lt-ltb k (length t) l) at ex) (rw (lt-ltb k (length t) l) at em)
-  after_holds (After.refused a g) = same-held (refused_idle g) (after_holds a)
-  after_holds (After.done a g) = same-held (g.idle refl) (after_holds a)
+  after_holds (After.refused a g) = same_held (refused_idle g) (after_holds a)
+  after_holds (After.done a g) = same_held (g.idle refl) (after_holds a)
 
   -- the table keeps the questions
   pub after_fit : {k : ℕ} {xs ms : List ℕ} → After t al k xs ms → Fit t
@@ -161,9 +161,9 @@ module _ (t : Table) (fit : Fit t) (al k : ℕ) (m : Memory) (e : m ≡ made t a
   count_same : (j : ℕ) → m ≡ made t al j → j ≡ k
   count_same j q = sym (count-read t fit.sound al j) ∙ ap (λ (n : Memory). get_or n.rows count_at 0) (sym q ∙ e) ∙ count-read t fit.sound al k
 
-  made-says : (i j : ℕ) → ¬ (stepped_at t k ≡ Refused i j)
+  made_says : (i j : ℕ) → ¬ (stepped_at t k ≡ Refused i j)
   unfolding stepped_at
-  made-says i j w = go (dec_lt k (length t))
+  made_says i j w = go (dec_lt k (length t))
     where
       go : Dec (k < length t) → ⊥
       go (yes l) = cell_not _ i j (rw (lt-ltb k (length t) l) at w)
@@ -182,7 +182,7 @@ module _ (t : Table) (fit : Fit t) (al k : ℕ) (m : Memory) (e : m ≡ made t a
     answers = λ j le q. ap (stepped_at t) (sym (count_same j q));
     memory = λ j le q. ap (λ (i : ℕ). made t al (finished_after t i)) (sym (count_same j q));
     positions = λ j le q. ap (λ (i : ℕ). positions_after t al i ps) (sym (count_same j q));
-    says = made-says;
+    says = made_says;
     idle = made_idle;
   }
 

@@ -7,7 +7,7 @@ use Rattle.plan.specs.Laws.Lists.{at_get_or, at_mem, mem-at}
 use Rattle.plan.specs.Plan.{Table, Is, children, earlier}
 use Rattle.plan.specs.Laws.Plan.{child-read}
 use Rattle.plan.specs.Laws.Paths.{child_less, within-below}
-use Rattle.plan.specs.Laws.Siblings.{Earlier, says-earlier}
+use Rattle.plan.specs.Laws.Siblings.{Earlier, says_earlier}
 use Rattle.plan.specs.Fit.{Fit}
 use Rattle.folding.specs.Laws.Lists.{at_get}
 use Rattle.finishing_order.specs.Postorder.{postorder}
@@ -62,7 +62,7 @@ module _ (t : Table) (fit : Fit t) where
   -- a sibling's whole subtree before the next's
   pub siblings_first : (i j : ℕ) → i < length t → j < length t → T (earlier t (nth i) (nth j)) → i < j
   siblings_first i j a b h =
-      let e : Earlier t (nth i) (nth j) = (says-earlier t (nth i) (nth j)).read h in
+      let e : Earlier t (nth i) (nth j) = (says_earlier t (nth i) (nth j)).read h in
       let o = e.elder.order in
       let is : (k : ℕ) → k < length t → Is t (nth k) = (λ k l. order_is t fit.sound fit.some_cell (nth k) (at_mem (postorder t) k (nth k) (at_get_or (postorder t) k 0 (omega (arith, size))))) in
       siblings.siblings_first t fit.sound i j (omega (arith, size)) (omega (arith, size)) (record {

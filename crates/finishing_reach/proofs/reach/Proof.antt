@@ -3,7 +3,7 @@ use borrow.Author.Rules.{rules}
 use Rattle.plan.specs.Columns.{table_of}
 use Rattle.plan.specs.Laws.Tables.{length-is}
 use Rattle.finishing_asks.specs.Laws.Asks.{start-asks}
-use Rattle.finishing_reach.specs.Laws.Reaching.{reach-refused, reach-unnamed, reach-read}
+use Rattle.finishing_reach.specs.Laws.Reaching.{reach-refused, reach_unnamed, reach-read}
 use Rattle.finishing_reach.proofs.reach.Statement.{statement}
 use Rattle.finishing_reach.proofs.reach.Tie as tie
 
@@ -18,7 +18,7 @@ returns c =
 returns-2 : tie.Need-returns-2
 returns-2 c =
     let st = c.before.before.before.before.before.before.before in
-    reach-unnamed (table_of st.args.t) st.args.allowance st.args.scratch.now st.args.second.now st.args.cell c.before.before.before.before.start-refusal.ensures c.before.before.if1.false (omega (arith, c.if2.true, length-is st.args.t))
+    reach_unnamed (table_of st.args.t) st.args.allowance st.args.scratch.now st.args.second.now st.args.cell c.before.before.before.before.start-refusal.ensures c.before.before.if1.false (omega (arith, c.if2.true, length-is st.args.t))
 
 reading-requires : tie.Need-reading-requires
 reading-requires c κs =

@@ -62,9 +62,9 @@ module _ (t : Table) (al : ℕ) (xs ms : List ℕ) (c : ℕ) {r : Refusal} (e : 
   reach-refused z = refused_all r z (λ finished. no_of finished ∙ first_some r _ z)
 
   module _ (z : r.number ≡ 0) where
-    pub reach-unnamed : length t ≤ c → Reaches t al xs ms c (reached.Refused 16 0)
+    pub reach_unnamed : length t ≤ c → Reaches t al xs ms c (reached.Refused 16 0)
     unfolding asked
-    reach-unnamed l =
+    reach_unnamed l =
         refused_all (record { number = 16; cell = 0 }) (λ q. omega (arith, q)) (λ finished.
         no_of finished ∙ first-none r _ z ∙ rw (le-ltb c (length t) l) (first_some (record { number = 16; cell = 0 }) (asked 20 (mem c finished) c) (λ q. omega (arith, q))))
 
@@ -88,8 +88,8 @@ module _ (t : Table) (al : ℕ) (xs ms : List ℕ) (c : ℕ) {r : Refusal} (e : 
           ∙ get_or-append (made t al k).rows (drop scratch_size xs) 0 count_at (omega (arith, (made-long t al k).rows))
           ∙ count-read t fits.sound al k
 
-      mark-held : (k : ℕ) → Holds t al k xs ms → (i : ℕ) → i < 4 → mark ms c i ≡ mark (made t al k).marks c i
-      mark-held k h i il =
+      mark_held : (k : ℕ) → Holds t al k xs ms → (i : ℕ) → i < 4 → mark ms c i ≡ mark (made t al k).marks c i
+      mark_held k h i il =
           ap (λ (l : List ℕ). get_or l (4 * c + i) 0) h.second
           ∙ get_or-append (made t al k).marks (drop second_size ms) 0 (4 * c + i) (omega (arith, (made-long t al k).marks, fits.not_too_many))
 
@@ -99,21 +99,21 @@ module _ (t : Table) (al : ℕ) (xs ms : List ℕ) (c : ℕ) {r : Refusal} (e : 
       sides k h false q = refl
       sides k h true q =
           let f = reaches t (chart_of t al) (chart_suits t fits al) k c h.few (rw q tt) in
-          (λ i. reached.Sides ((mark-held k h 1 (omega arith) ∙ ap plus f.left) i) ((mark-held k h 2 (omega arith) ∙ ap plus f.right) i))
+          (λ i. reached.Sides ((mark_held k h 1 (omega arith) ∙ ap plus f.left) i) ((mark_held k h 2 (omega arith) ∙ ap plus f.right) i))
 
       read_is : (k : ℕ) → Holds t al k xs ms → read t xs ms c ≡ reached_of t al c (reach_no t al (length xs) (length ms) (take k (postorder t)) c)
       unfolding read
       read_is k h = rw (count_held k h, only_20 (take k (postorder t))) (sides k h (mem c (take k (postorder t))) refl)
 
       -- whatever was read: a refusal is 20 with the cell
-      read-says : (b : Bool) (m k : ℕ) (n a : ℕ) → cond b (reached.Sides m k) (reached.Refused 20 c) ≡ reached.Refused n a → (n ≡ 20) × (a ≡ c)
-      read-says true m k n a q = let w : ◌≡◌ {A = ℕ} 0 1 = cc in absurd (omega arith)
-      read-says false m k n a q = (cc, cc)
+      read_says : (b : Bool) (m k : ℕ) (n a : ℕ) → cond b (reached.Sides m k) (reached.Refused 20 c) ≡ reached.Refused n a → (n ≡ 20) × (a ≡ c)
+      read_says true m k n a q = let w : ◌≡◌ {A = ℕ} 0 1 = cc in absurd (omega arith)
+      read_says false m k n a q = (cc, cc)
 
       pub reach-read : {a : Reached} → a ≡ read t xs ms c → Reaches t al xs ms c a
       reach-read q =
           record {
             refuses = λ y. absurd (y (ap (λ (x : Refusal). x.number) (only_20 (cells t)) ∙ never (mem c (cells t)) (cells-mem t c l)));
             reads = λ k h. q ∙ read_is k h;
-            says = λ y n a w. unfold read in read-says (mem c (take (get_or xs count_at 0) (postorder t))) (mark ms c 1) (mark ms c 2) n a (sym q ∙ w);
+            says = λ y n a w. unfold read in read_says (mem c (take (get_or xs count_at 0) (postorder t))) (mark ms c 1) (mark ms c 2) n a (sym q ∙ w);
           }

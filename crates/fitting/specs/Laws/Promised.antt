@@ -86,8 +86,8 @@ module _ (t : Table) (f : ℕ) (s s' : List ℕ) (r : Fitted) (g : Frames t f s 
         record { b = m.b; answers = is zero ∙ sym (told-found _ m.b m.is); bound = m.bound }
 
 -- ---- of an answer alone: an allowance is the least
-pub allowance-least : (t : Table) (f : ℕ) (s s' : List ℕ) (a : ℕ) → Frames t f s s' (Allowance a) → Least t f a
-allowance-least t f s s' a g = go (ℕ_discrete (why t f s s' (Allowance a) g).number 0)
+pub allowance_least : (t : Table) (f : ℕ) (s s' : List ℕ) (a : ℕ) → Frames t f s s' (Allowance a) → Least t f a
+allowance_least t f s s' a g = go (ℕ_discrete (why t f s s' (Allowance a) g).number 0)
   where
     go : Dec ((refusal frame (frame_given t f (length s))).number ≡ 0) → Least t f a
     go (yes z) = (least_iff t f s s' (Allowance a) g z a).0 refl

@@ -100,9 +100,9 @@ pub record Fits (p : Contour) (n : ℕ) : Type 0 where
   pub wide : greatest p.left + greatest p.right + 1 ≤ n
   pub even : length p.right ≡ length p.left
 
-pub held-fresh : (m : ℕ) → Held m fresh 0
+pub held_fresh : (m : ℕ) → Held m fresh 0
 unfolding greatest near
-held-fresh m =
+held_fresh m =
     record { wide = omega arith; far = omega arith; behind = omega arith; flat = λ l. refl; right = λ j. omega arith; even = refl; none = λ e. refl; seen = refl }
 
 -- the distance of the next child lies between these
@@ -123,14 +123,14 @@ module _ (al m : ℕ) (a : Tally) (p : Contour) (n : ℕ) (h : Held m a n) where
 
   -- the row laws apply to what is held
   module _ (g : ℕ) (b : Between a p g) where
-    pub held-upto-right : a.done ≤ m → (j : ℕ) → get_or (upto a.merge p g).right j 0 ≡ get_or p.right j 0
-    held-upto-right l = let z = h.flat (omega arith) in upto-right a.merge p g (λ j. omega (arith, h.right j))
+    pub held_upto_right : a.done ≤ m → (j : ℕ) → get_or (upto a.merge p g).right j 0 ≡ get_or p.right j 0
+    held_upto_right l = let z = h.flat (omega arith) in upto-right a.merge p g (λ j. omega (arith, h.right j))
 
-    pub held-beyond-left : (j : ℕ) → get_or (beyond a.merge p g).left j 0 ≡ get_or a.merge.left j 0
-    held-beyond-left = beyond-left a.merge p g (λ j. omega (arith, get_greatest p.left j))
+    pub held_beyond_left : (j : ℕ) → get_or (beyond a.merge p g).left j 0 ≡ get_or a.merge.left j 0
+    held_beyond_left = beyond-left a.merge p g (λ j. omega (arith, get_greatest p.left j))
 
-    pub held-beyond-right : (j : ℕ) → get_or (beyond a.merge p g).right j 0 ≡ cond (ltb j (length p.right)) (a.merge.past + g + get_or p.right j 0) (get_or a.merge.right j 0)
-    held-beyond-right = beyond-right a.merge p g (λ j. omega (arith, h.right j))
+    pub held_beyond_right : (j : ℕ) → get_or (beyond a.merge p g).right j 0 ≡ cond (ltb j (length p.right)) (a.merge.past + g + get_or p.right j 0) (get_or a.merge.right j 0)
+    held_beyond_right = beyond-right a.merge p g (λ j. omega (arith, h.right j))
 
   module _ (w : ℕ) (f : Fits p w) where
     held_first : Held m (first p) (n + w)
@@ -147,8 +147,8 @@ module _ (al m : ℕ) (a : Tally) (p : Contour) (n : ℕ) (h : Held m a n) where
           seen = greatest-same p.right _ (λ j. sym (near_get (first p).merge j ∙ omega arith));
         }
 
-    held-upto : (g : ℕ) → Between a p g → a.done ≤ m → Held m (later a p g (upto a.merge p g)) (n + w)
-    held-upto g b l =
+    held_upto : (g : ℕ) → Between a p g → a.done ≤ m → Held m (later a p g (upto a.merge p g)) (n + w)
+    held_upto g b l =
         let z = upto_past a.merge p g in
         let top : greatest (upto a.merge p g).left ≤ max (greatest a.merge.left + g) (greatest p.left) =
         greatest-below _ _ (λ j. rw (upto_left a.merge p g j) (go j (ltb j (length a.merge.left)))) in
@@ -157,30 +157,30 @@ module _ (al m : ℕ) (a : Tally) (p : Contour) (n : ℕ) (h : Held m a n) where
           far = omega (arith, h.far, f.wide);
           behind = omega arith;
           flat = λ l. z;
-          right = λ j. rw (held-upto-right g b l j) (omega (arith, get_greatest p.right j));
+          right = λ j. rw (held_upto_right g b l j) (omega (arith, get_greatest p.right j));
           even = upto-even a.merge p g ∙ rw (f.even, h.even) (sym (upto_tall a.merge p g));
           none = λ e. absurd (omega (arith, e));
-          seen = greatest-same p.right _ (λ j. sym (near_get (upto a.merge p g) j ∙ rw (held-upto-right g b l j, z) (omega arith)));
+          seen = greatest-same p.right _ (λ j. sym (near_get (upto a.merge p g) j ∙ rw (held_upto_right g b l j, z) (omega arith)));
         }
       where
         go : (j : ℕ) (z : Bool) → cond z (max (get_or a.merge.left j 0 + g) (get_or p.left j 0)) (get_or p.left j 0) ≤ max (greatest a.merge.left + g) (greatest p.left)
         go j true = omega (arith, get_greatest a.merge.left j, get_greatest p.left j)
         go j false = omega (arith, get_greatest p.left j)
 
-    held-beyond : (g : ℕ) → Between a p g → m < a.done → Held m (later a p g (beyond a.merge p g)) (n + w)
-    held-beyond g b l =
+    held_beyond : (g : ℕ) → Between a p g → m < a.done → Held m (later a p g (beyond a.merge p g)) (n + w)
+    held_beyond g b l =
         let z = beyond_past a.merge p g in
         let top : greatest (beyond a.merge p g).left ≤ greatest a.merge.left =
-        greatest-below _ _ (λ j. rw (held-beyond-left g b j) (get_greatest a.merge.left j)) in
+        greatest-below _ _ (λ j. rw (held_beyond_left g b j) (get_greatest a.merge.left j)) in
         record {
           wide = omega (arith, h.wide, f.wide);
           far = omega (arith, h.far, f.wide);
           behind = omega (arith, h.behind);
           flat = λ k. absurd (omega (arith, k));
-          right = λ j. rw (held-beyond-right g b j, z) (go j (ltb j (length p.right)));
+          right = λ j. rw (held_beyond_right g b j, z) (go j (ltb j (length p.right)));
           even = beyond-even a.merge p g ∙ rw (f.even, h.even) (sym (beyond_tall a.merge p g));
           none = λ e. absurd (omega (arith, e));
-          seen = greatest-same p.right _ (λ j. sym (near_get (beyond a.merge p g) j ∙ rw (held-beyond-right g b j, z) (see j (ltb j (length p.right)) refl)));
+          seen = greatest-same p.right _ (λ j. sym (near_get (beyond a.merge p g) j ∙ rw (held_beyond_right g b j, z) (see j (ltb j (length p.right)) refl)));
         }
       where
         go : (j : ℕ) (z : Bool) → cond z (a.merge.past + g + get_or p.right j 0) (get_or a.merge.right j 0) ≤ a.merge.past + g + greatest p.right
@@ -191,13 +191,13 @@ module _ (al m : ℕ) (a : Tally) (p : Contour) (n : ℕ) (h : Held m a n) where
         see j true e = omega arith
         see j false e = omega (arith, h.right j, get_past p.right j (ltb-false j (length p.right) e))
 
-    pub held-add : Held m (add al m a p) (n + w)
+    pub held_add : Held m (add al m a p) (n + w)
     unfolding add
-    held-add = go a.done refl
+    held_add = go a.done refl
       where
         by : (d : ℕ) → a.done ≡ suc d → (z : Bool) → ltb m (suc d) ≡ z → Held m (later a p (separation_to al a.merge p) (side z a.merge p (separation_to al a.merge p))) (n + w)
-        by d e true q = held-beyond _ between (omega (arith, ltb-true m (suc d) q))
-        by d e false q = held-upto _ between (omega (arith, ltb-false m (suc d) q))
+        by d e true q = held_beyond _ between (omega (arith, ltb-true m (suc d) q))
+        by d e false q = held_upto _ between (omega (arith, ltb-false m (suc d) q))
 
         go : (d : ℕ) → a.done ≡ d → Held m (add_at al m d a p) (n + w)
         go zero e = held_first

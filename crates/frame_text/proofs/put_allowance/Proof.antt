@@ -1,5 +1,5 @@
 use native.Mathlib.Omega.{arith}
-use Rattle.frame_text.specs.Laws.FrameText.{allowance-put}
+use Rattle.frame_text.specs.Laws.FrameText.{allowance_put}
 use borrow.Author.Rules.{rules}
 use Rattle.frame_text.proofs.put_allowance.Statement.{statement}
 use Rattle.frame_text.proofs.put_allowance.Tie as tie
@@ -20,7 +20,7 @@ same_length : tie.Need-same-length
 same_length c = search rules
 
 returns : tie.Need-returns
-returns c = (allowance-put _ _ _ c.before.before.before.before.before.before.before.before.before.before.put-text.ensures c.before.before.before.before.before.before.put-decimal.ensures.0 c.before.before.put-sheet.ensures.0, omega (arith, c.before.before.before.before.before.before.before.before.before.before.put-text.ensures.place, c.before.before.before.before.before.before.put-decimal.ensures.1, c.before.before.put-sheet.ensures.1))
+returns c = (allowance_put _ _ _ c.before.before.before.before.before.before.before.before.before.before.put-text.ensures c.before.before.before.before.before.before.put-decimal.ensures.0 c.before.before.put-sheet.ensures.0, omega (arith, c.before.before.before.before.before.before.before.before.before.before.put-text.ensures.place, c.before.before.before.before.before.before.put-decimal.ensures.1, c.before.before.put-sheet.ensures.1))
 
 pub put-allowance-spec : {M : Type 1} → statement M
 put-allowance-spec =

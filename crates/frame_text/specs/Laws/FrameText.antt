@@ -26,9 +26,9 @@ pub sheet-put : (w h : ℕ) {a b c d e g : List ℕ} {i j k l m o : ℕ} → Put
 unfolding line sheet_fields
 sheet-put w h p q r s t = then p (then q (then r (then s t)))
 
-pub allowance-put : (al w h : ℕ) {a b c d : List ℕ} {i j k l : ℕ} → Put a i (97 ∷ 108 ∷ 108 ∷ 111 ∷ 119 ∷ 97 ∷ 110 ∷ 99 ∷ 101 ∷ 32 ∷ []) b j → Put b j (decimal al) c k → Put c k (space ∷ line (sheet_fields w h)) d l → Put a i (allowance_line al w h) d l
+pub allowance_put : (al w h : ℕ) {a b c d : List ℕ} {i j k l : ℕ} → Put a i (97 ∷ 108 ∷ 108 ∷ 111 ∷ 119 ∷ 97 ∷ 110 ∷ 99 ∷ 101 ∷ 32 ∷ []) b j → Put b j (decimal al) c k → Put c k (space ∷ line (sheet_fields w h)) d l → Put a i (allowance_line al w h) d l
 unfolding allowance_line line sheet_fields
-allowance-put al w h p q r = then p (then q r)
+allowance_put al w h p q r = then p (then q r)
 
 pub none-put : (w h : ℕ) {a b c : List ℕ} {i j k : ℕ} → Put a i (110 ∷ 111 ∷ 110 ∷ 101 ∷ []) b j → Put b j (space ∷ line (sheet_fields w h)) c k → Put a i (none_line w h) c k
 unfolding none_line line sheet_fields

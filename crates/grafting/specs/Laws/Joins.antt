@@ -56,28 +56,28 @@ module _ (t u : List Record) (c : ℕ) (o o' : List Record) (n : ℕ) (g : Joins
   abbrev J : Table
   J = cells_of (take n o')
 
-  no_refusal : (join_refusal (length o) T₁ U₁ c).number ≡ 0
-  no_refusal = go (ℕ_discrete (join_refusal (length o) T₁ U₁ c).number 0)
+  no-refusal : (join_refusal (length o) T₁ U₁ c).number ≡ 0
+  no-refusal = go (ℕ_discrete (join_refusal (length o) T₁ U₁ c).number 0)
     where
       go : Dec ((join_refusal (length o) T₁ U₁ c).number ≡ 0) → (join_refusal (length o) T₁ U₁ c).number ≡ 0
       go (yes z) = z
       go (no z) = absurd (let e = (unchanged t u c o o' (Plan n) g z).0 in let y : ◌≡◌ {A = ℕ} 0 1 = cc in omega arith)
 
   count : n ≡ length t + length u
-  count = let e = (gives t u c o o' (Plan n) g no_refusal).0 in cc
+  count = let e = (gives t u c o o' (Plan n) g no-refusal).0 in cc
 
   -- the first n records of the table are the joined ones
   pub written : take n o' ≡ joined_records t u c
   written =
       let e : n ≡ length (joined_records t u c) = count ∙ sym (records-length t u c) in
-      rw ((gives t u c o o' (Plan n) g no_refusal).1, e) (take-append_seam (joined_records t u c) _)
+      rw ((gives t u c o o' (Plan n) g no-refusal).1, e) (take-append_seam (joined_records t u c) _)
 
   -- and the table that Layout and Check see in them is THE joined one
   pub holds-joined : J ≡ joined T₁ U₁ c
   holds-joined = ap cells_of written ∙ joined-cells t u c
 
   fine : Accepted (length o) T₁ U₁ c
-  fine = accepted (length o) T₁ U₁ c no_refusal
+  fine = accepted (length o) T₁ U₁ c no-refusal
 
   pub second_extends : (al b : ℕ) → Is U₁ b
       → (left_extent J (sheet J al) (length t + b) ≡ left_extent U₁ (sheet U₁ al) b) × (right_extent J (sheet J al) (length t + b) ≡ right_extent U₁ (sheet U₁ al) b)
@@ -91,8 +91,8 @@ module _ (t u : List Record) (c : ℕ) (o o' : List Record) (n : ℕ) (g : Joins
 
   -- Layout refuses nothing of the second plan, nor of the joined one
   pub second_has_sheet : (al s p : ℕ) → al ≤ most_allowance → scratch_size ≤ s → 2 * length u ≤ p → refusal layout (layout_given U₁ al s p) ≡ none
-  second_has_sheet al s p x y z = second_laid (length o) T₁ U₁ c no_refusal al s p x y (rw (cells-length u) z)
+  second_has_sheet al s p x y z = second_laid (length o) T₁ U₁ c no-refusal al s p x y (rw (cells-length u) z)
 
   pub joined_has_sheet : (al s p : ℕ) → al ≤ most_allowance → scratch_size ≤ s → 2 * n ≤ p → refusal layout (layout_given J al s p) ≡ none
   joined_has_sheet al s p x y z =
-      rw holds-joined (joined_laid (length o) T₁ U₁ c no_refusal al s p x y (let q = length-joined T₁ U₁ c in let e = cells-length t in let f = cells-length u in let k = count in omega arith))
+      rw holds-joined (joined_laid (length o) T₁ U₁ c no-refusal al s p x y (let q = length-joined T₁ U₁ c in let e = cells-length t in let f = cells-length u in let k = count in omega arith))

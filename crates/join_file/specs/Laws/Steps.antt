@@ -30,7 +30,7 @@ use Rattle.content.specs.Clean.{copy, copy_refusal}
 use Rattle.copying.specs.Copied.{copied_of, output_after, Copies}
 use Rattle.copying.specs.declared.Copied.{Copied}
 use Rattle.copying.specs.declared.Copied.TheVariants as copied
-use Rattle.copying.specs.Laws.Cleaned.{clean-records, clean-table, clean-allowance}
+use Rattle.copying.specs.Laws.Cleaned.{clean-records, clean-table, clean_allowance}
 use Rattle.graft.specs.Joined.{joined_records}
 use Rattle.grafting.specs.Grafted.{grafted, refused, accepted, graft_of}
 use Rattle.grafting.specs.Laws.Made.{stop, graft_accepted, graft_refused, count-joined, made-records, row_in}
@@ -224,7 +224,7 @@ module _ (a : Reading) (f : List ℕ) (c : ℕ) (b : Reading) (g : List ℕ) (ra
         ∙ rw (records_are a f ra, shifted-records b g rb by)
 
     pub hang-written : (out out' : List ℕ) (al : ℕ) (letters : List ℕ) (r : Joined) → most_file ≤ length out → al ≡ a.allowance → letters ≡ letters_of f ++ letters_of g → Writes G.reading letters al out out' r → JoinsFiles f c g out out' r
-    hang-written out out' al letters r room q l w = given w.copied (rw (joined_are, l, q ∙ clean-allowance f a ra.is ra.passes) at w.copies) w.answers
+    hang-written out out' al letters r room q l w = given w.copied (rw (joined_are, l, q ∙ clean_allowance f a ra.is ra.passes) at w.copies) w.answers
       where
         given : (d : Copied) → Copies (joined_records (records_of f) (map (moved (length (letters_of f))) (records_of g)) c) (letters_of f ++ letters_of g) (trailer_of f).allowance out out' d → r ≡ told d → JoinsFiles f c g out out' r
         given d k s =

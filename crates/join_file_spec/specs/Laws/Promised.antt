@@ -72,12 +72,12 @@ module _ (f : List ℕ) (c : ℕ) (g : List ℕ) where
     abbrev U₁ : Table
     U₁ = cells_of (records_of g)
 
-    pub no_refusal : (join_refusal most_cells (cells_of (records_of f)) (cells_of (records_of g)) c).number ≡ 0
+    pub no-refusal : (join_refusal most_cells (cells_of (records_of f)) (cells_of (records_of g)) c).number ≡ 0
     unfolding tables_refusal
-    no_refusal = z
+    no-refusal = z
 
     fine : Accepted most_cells T₁ U₁ c
-    fine = accepted most_cells T₁ U₁ c no_refusal
+    fine = accepted most_cells T₁ U₁ c no-refusal
 
     pub second_reaches : (al i : ℕ) → Is (cells_of (records_of g)) i
         → (left_extent (cells_of (records_of (joined_file f c g))) (sheet (cells_of (records_of (joined_file f c g))) al) ((trailer_of f).count + i) ≡ left_extent (cells_of (records_of g)) (sheet (cells_of (records_of g)) al) i)
@@ -110,11 +110,11 @@ module _ (f : List ℕ) (c : ℕ) (g : List ℕ) (a : (reading_of f most_cells).
   pub file_copied : (room : ℕ) → most_file ≤ room
       → (copy_refusal (joined_records (records_of f) (map (moved (length (letters_of f))) (records_of g)) c) (letters_of f ++ letters_of g) (trailer_of f).allowance room).number ≡ 0
   file_copied =
-      joined_copied (records_of f) (records_of g) (letters_of f) (letters_of g) (trailer_of f).allowance (trailer_of g).allowance c (file-parts f (read-passes f a)) (file-parts g (read-passes g b)) (no_refusal f c g z)
+      joined_copied (records_of f) (records_of g) (letters_of f) (letters_of g) (trailer_of f).allowance (trailer_of g).allowance c (file-parts f (read-passes f a)) (file-parts g (read-passes g b)) (no-refusal f c g z)
 
   steps : (copy_steps (joined_records (records_of f) (map (moved (length (letters_of f))) (records_of g)) c) (letters_of f ++ letters_of g) (trailer_of f).allowance).number ≡ 0
   steps =
-      joined-steps (records_of f) (records_of g) (letters_of f) (letters_of g) (trailer_of f).allowance (trailer_of g).allowance c (file-parts f (read-passes f a)) (file-parts g (read-passes g b)) (no_refusal f c g z)
+      joined-steps (records_of f) (records_of g) (letters_of f) (letters_of g) (trailer_of f).allowance (trailer_of g).allowance c (file-parts f (read-passes f a)) (file-parts g (read-passes g b)) (no-refusal f c g z)
 
   pub file_small : length (joined_file f c g) ≤ most_file
   file_small = rw (← file-is) (copy_small J letters (trailer_of f).allowance steps)

@@ -9,7 +9,7 @@ use Rattle.rows.specs.Rows.{row_size, extent, Low, put_to}
 use Rattle.rows.specs.Laws.Rows.{put_to-length, put_to-above, put_to_else, put_to-left, put_to-right, put_to-left_off, put_to-right_off}
 use Rattle.folding.specs.Laws.Fold.{Tally, first, later, side, add_at, add, boxed}
 use Rattle.folding.specs.Laws.Lists.{get_past}
-use Rattle.folding.specs.Laws.Held.{Held, Fits, Between, between, upto_left, upto_past, beyond_past, upto_tall, beyond_tall, held-upto-right, held-beyond-left, held-beyond-right, held-add, box-fits}
+use Rattle.folding.specs.Laws.Held.{Held, Fits, Between, between, upto_left, upto_past, beyond_past, upto_tall, beyond_tall, held_upto_right, held_beyond_left, held_beyond_right, held_add, box-fits}
 use Rattle.joining.specs.Joining.{Memory, memory_of, mark, noted, height, completed, settled_apart, settled_first, settled_by, settled_at, settled, Settling, finished}
 use Rattle.joining_separation.specs.Laws.Separation.{apart_is}
 use Rattle.joining_cells.specs.Laws.Marks.{length-four, mark_zero, mark-one, mark-two, mark-three, mark-other, noted-three, noted_else}
@@ -183,19 +183,19 @@ module _ (al : ℕ) (xs ms : List ℕ) (at f c d w m k : ℕ) (a b : Tally) (s n
   joined-later g i true q =
       put-joined xs C.rows at _ _ hs (later a p g (beyond a.merge p g)) h.column hs-fits done.same x_else
       (λ j l. (
-        x-first j ∙ sym (held-beyond-left al m a p s h.held g i j),
-        rw (n_past, x-right j) (sym (held-beyond-right al m a p s h.held g i j ∙ rw (lt-ltb j (length p.right) (omega (arith, p-right))))),
+        x-first j ∙ sym (held_beyond_left al m a p s h.held g i j),
+        rw (n_past, x-right j) (sym (held_beyond_right al m a p s h.held g i j ∙ rw (lt-ltb j (length p.right) (omega (arith, p-right))))),
       ))
       (λ j l. (
-        x-first j ∙ sym (held-beyond-left al m a p s h.held g i j),
-        x-second j ∙ sym (held-beyond-right al m a p s h.held g i j ∙ rw (le-ltb j (length p.right) (omega (arith, p-right)))),
+        x-first j ∙ sym (held_beyond_left al m a p s h.held g i j),
+        x-second j ∙ sym (held_beyond_right al m a p s h.held g i j ∙ rw (le-ltb j (length p.right) (omega (arith, p-right)))),
         past_left j l,
         past_right j l,
       ))
   joined-later g i false q =
       let fits : row_size * max (mark C.marks f 0) hs ≤ length C.rows = omega (arith, hs-fits, n_tall, h.fit, done.same) in
       let len = upto_tall a.merge p g in
-      let right : (j : ℕ) → get_or (upto a.merge p g).right j 0 ≡ get_or p.right j 0 = held-upto-right al m a p s h.held g i (ltb-false m a.done q) in
+      let right : (j : ℕ) → get_or (upto a.merge p g).right j 0 ≡ get_or p.right j 0 = held_upto_right al m a p s h.held g i (ltb-false m a.done q) in
       put-joined xs C.rows at _ _ (max (mark C.marks f 0) hs) (later a p g (upto a.merge p g)) h.column fits done.same x_else
       (λ j l. (
         rw (n_tall, x-first j, done.left j) (sym (upto_left a.merge p g j)),
@@ -267,4 +267,4 @@ module _ (al : ℕ) (xs ms : List ℕ) (at f c d w m k : ℕ) (a b : Tally) (s n
   settle_adds = by_place a.done refl
 
   pub held_after : Held m (add al m a p) (s + ((w + 1) + n))
-  held_after = held-add al m a p s h.held ((w + 1) + n) p-fits
+  held_after = held_add al m a p s h.held ((w + 1) + n) p-fits

@@ -7,7 +7,7 @@ use Rattle.plan.specs.Laws.Lists.{at_less, at_get_or, at_same}
 use Rattle.plan.specs.Plan.{Table, Is, Sound, parent, kind, children, child, appointed, place, next}
 use Rattle.plan.specs.Laws.Plan.{child_show, appointed-at}
 use Rattle.plan.specs.Laws.Paths.{lower, from_parents}
-use Rattle.plan.specs.Laws.Siblings.{says-next}
+use Rattle.plan.specs.Laws.Siblings.{says_next}
 use Rattle.rules.specs.Placement.{Placement}
 use Rattle.rules.specs.Rules.{S1, S2}
 
@@ -23,7 +23,7 @@ module _ (t : Table) (sound : Sound t) (p q : Placement) (p1 : S1 t p) (q1 : S1 
       omega (
         whole,
         from_first f j u w h k,
-        same w v ((says-next t w v).show (record { c = f; order = record { i = j; first = k; second = g } })),
+        same w v ((says_next t w v).show (record { c = f; order = record { i = j; first = k; second = g } })),
         diff (p.x w) (p.x u),
         diff (q.x w) (q.x u),
         diff (p.x v) (p.x w),

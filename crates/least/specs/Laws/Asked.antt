@@ -3,7 +3,7 @@ use Rattle.std.specs.Prelude.{◌≡◌, refl, List, [], ◌∷◌, Bool, true, 
 use Rattle.std.proofs.Common.{arith, lt→ltb}
 use Rattle.whole.specs.Says.{Says}
 use Rattle.whole.specs.Laws.Says.{that_is, both, says_le, says_eq, itself}
-use Rattle.whole.specs.Laws.Range.{says-within}
+use Rattle.whole.specs.Laws.Range.{says_within}
 use Rattle.plan.specs.Lists.{mem, some}
 use Rattle.plan.specs.Limits.{between, most_cells, most_width, most_depth, scratch_size, farthest}
 use Rattle.plan.specs.Plan.{Table, Is, parent, kind, box_width, box_depth}
@@ -19,12 +19,12 @@ use Rattle.least.specs.Laws.Refusals.{refusal-none}
 use Rattle.least.specs.Demanded.{Asked, LayoutAsked, CheckAsked}
 
 -- ---- single questions
-says-between : (low high n : ℕ) → Says (between low high n) ((low ≤ n) × (n ≤ high))
-says-between low high n = both (says_le low n) (says_le n high)
+says_between : (low high n : ℕ) → Says (between low high n) ((low ≤ n) × (n ≤ high))
+says_between low high n = both (says_le low n) (says_le n high)
 
-pub says-near : (z : ℤ) → Says (near z) (Inside z)
+pub says_near : (z : ℤ) → Says (near z) (Inside z)
 unfolding near
-says-near z = says-within farthest z
+says_near z = says_within farthest z
 
 -- a kind that allows some number of children is known
 allows-known : (k n : ℕ) → T (allows k n) → T (known k)
@@ -49,17 +49,17 @@ module _ (g : Given) (l : g.source ≡ lent) where
   abbrev t : Table
   t = g.table
 
-  says-inside : (c : ℕ) → Says (asked.holds g coordinates_near c) (Inside (get_or g.coordinates (2 * c) (pos 0)) × Inside (get_or g.coordinates (2 * c + 1) (pos 0)))
+  says_inside : (c : ℕ) → Says (asked.holds g coordinates_near c) (Inside (get_or g.coordinates (2 * c) (pos 0)) × Inside (get_or g.coordinates (2 * c + 1) (pos 0)))
   unfolding asked.holds
-  says-inside c = both (says-near _) (says-near _)
+  says_inside c = both (says_near _) (says_near _)
 
-  says-counted : Says (asked.holds g cells_counted 0) ((1 ≤ length t) × (length t ≤ most_cells))
+  says_counted : Says (asked.holds g cells_counted 0) ((1 ≤ length t) × (length t ≤ most_cells))
   unfolding asked.holds in_file
-  says-counted = rw l (that_is (both (says-between 1 most_cells (length t)) (itself true)) (λ h. h.0) (λ h. (h, tt)))
+  says_counted = rw l (that_is (both (says_between 1 most_cells (length t)) (itself true)) (λ h. h.0) (λ h. (h, tt)))
 
-  says-sized : (c : ℕ) → Says (asked.holds g box_sized c) (((1 ≤ box_width t c) × (box_width t c ≤ most_width)) × ((1 ≤ box_depth t c) × (box_depth t c ≤ most_depth)))
+  says_sized : (c : ℕ) → Says (asked.holds g box_sized c) (((1 ≤ box_width t c) × (box_width t c ≤ most_width)) × ((1 ≤ box_depth t c) × (box_depth t c ≤ most_depth)))
   unfolding asked.holds asked.widest_in sized
-  says-sized c = rw l (both (says-between 1 most_width (box_width t c)) (says-between 1 most_depth (box_depth t c)))
+  says_sized c = rw l (both (says_between 1 most_width (box_width t c)) (says_between 1 most_depth (box_depth t c)))
 
   -- 4, 6 to 8 and 11 to 13, each answered yes
   record Fine : Type 0 where
@@ -72,14 +72,14 @@ module _ (g : Given) (l : g.source ≡ lent) where
   fine-read : Fine → Asked t
   unfolding asked.holds
   fine-read y =
-      let count = says-counted.read y.count in
+      let count = says_counted.read y.count in
       record {
         fit = record {
           some_cell = count.0;
           not_too_many = count.1;
           sound = λ c h i. lower-read c (parent t c) h (y.records c i).0;
-          wide = λ c i. ((says-sized c).read (y.records c i).1.1.0).0;
-          deep = λ c i. ((says-sized c).read (y.records c i).1.1.0).1;
+          wide = λ c i. ((says_sized c).read (y.records c i).1.1.0).0;
+          deep = λ c i. ((says_sized c).read (y.records c i).1.1.0).1;
           family = λ c i. (y.families c i).0;
           not_too_low = λ c i. (says_le _ _).read (y.levels c i).0;
           rows_few = λ c i. (says_le _ _).read (y.rows c i).0;
@@ -92,16 +92,16 @@ module _ (g : Given) (l : g.source ≡ lent) where
   fine_show a =
       let f = a.fit in
       record {
-        count = says-counted.show (f.some_cell, f.not_too_many);
-        records = λ c i. lower_show t a c i and allows-known (kind t c) _ (f.family c i) and (says-sized c).show (f.wide c i, f.deep c i) and tt;
+        count = says_counted.show (f.some_cell, f.not_too_many);
+        records = λ c i. lower_show t a c i and allows-known (kind t c) _ (f.family c i) and (says_sized c).show (f.wide c i, f.deep c i) and tt;
         families = λ c i. f.family c i and tt;
         levels = λ c i. (says_le _ _).show (f.not_too_low c i) and tt;
         rows = λ c i. (says_le _ _).show (f.rows_few c i) and tt;
       }
 
-says-roomy : (s : ℕ) → Says (all_roomy (scratch s ∷ [])) (scratch_size ≤ s)
+says_roomy : (s : ℕ) → Says (all_roomy (scratch s ∷ [])) (scratch_size ≤ s)
 unfolding all_roomy roomy
-says-roomy s = that_is (both (says_le scratch_size s) (itself true)) (λ h. h.0) (λ h. (h, tt))
+says_roomy s = that_is (both (says_le scratch_size s) (itself true)) (λ h. h.0) (λ h. (h, tt))
 
 pub layout-asks : (t : Table) (al s p : ℕ) → (refusal layout (layout_given t al s p) ≡ none) ↔ LayoutAsked t al s p
 unfolding layout_given kept put with_each sequence number puts mem some enough asked.holds
@@ -115,14 +115,14 @@ layout-asks t al s p = (λ e. there ((refusal-none layout g).0 e), λ a. (refusa
         record {
           table = fine-read g refl (record { count = count; records = records; families = families; levels = levels; rows = rows });
           allowance = (says_le _ _).read allowance;
-          scratch = (says-roomy s).read room;
+          scratch = (says_roomy s).read room;
           positions = (says_le _ _).read long;
         }
 
     back : LayoutAsked t al s p → YesSteps g (kept layout sequence)
     back a =
         let f = fine_show g refl a.table in
-        (says-roomy s).show a.scratch and f.count and (says_le _ _).show a.positions and f.records and f.families and f.levels and f.rows and (says_le _ _).show a.allowance and tt
+        (says_roomy s).show a.scratch and f.count and (says_le _ _).show a.positions and f.records and f.families and f.levels and f.rows and (says_le _ _).show a.allowance and tt
 
 pub check-asks : (t : Table) (al : ℕ) (ps : List ℤ) → (refusal check (check_given t al ps) ≡ none) ↔ CheckAsked t al ps
 unfolding check_given kept put with_each sequence number puts mem some all_roomy enough asked.holds
@@ -137,10 +137,10 @@ check-asks t al ps = (λ e. there ((refusal-none check g).0 e), λ a. (refusal-n
           table = fine-read g refl (record { count = count; records = records; families = families; levels = levels; rows = rows });
           allowance = (says_le _ _).read allowance;
           positions = (says_le _ _).read long;
-          near_all = λ c i. (says-inside g refl c).read (near_all c i).0;
+          near_all = λ c i. (says_inside g refl c).read (near_all c i).0;
         }
 
     back : CheckAsked t al ps → YesSteps g (kept check sequence)
     back a =
         let f = fine_show g refl a.table in
-        tt and f.count and (says_le _ _).show a.positions and f.records and f.families and f.levels and f.rows and (says_le _ _).show a.allowance and (λ c i. (says-inside g refl c).show (a.near_all c i) and tt) and tt
+        tt and f.count and (says_le _ _).show a.positions and f.records and f.families and f.levels and f.rows and (says_le _ _).show a.allowance and (λ c i. (says_inside g refl c).show (a.near_all c i) and tt) and tt

@@ -8,7 +8,7 @@ use Rattle.plan.specs.Laws.Lists.{at_same}
 use Rattle.plan.specs.Plan.{Table, Is, Sound, box_width, box_depth, parent, kind, children, child, appointed, next, earlier, row}
 use Rattle.plan.specs.Laws.Plan.{child-read, child_show}
 use Rattle.plan.specs.Laws.Paths.{Below, from_parents, lower, within-self, within-below, below-within, below_root, below_split, below-child, row-child}
-use Rattle.plan.specs.Laws.Siblings.{Earlier, says-earlier}
+use Rattle.plan.specs.Laws.Siblings.{Earlier, says_earlier}
 use Rattle.rules.specs.Placement.{Placement, right, base}
 use Rattle.rules.specs.Rules.{Keeps}
 use Rattle.rules.specs.Laws.Extents.{y-row, base-row}
@@ -25,7 +25,7 @@ module _ (t : Table) (sound : Sound t) where
   -- under children p and q of one cell, p first
   parted : (f i j p q a b : ℕ) → At (children t f) i p → At (children t f) j q → i < j → Below t a p → Below t b q → T (earlier t a b)
   parted f i j p q a b h k l u v =
-      (says-earlier t a b).show (record {
+      (says_earlier t a b).show (record {
         p = p;
         q = q;
         elder = record { c = f; order = record { i = i; j = j; less = l; first = h; second = k } };
@@ -36,13 +36,13 @@ module _ (t : Table) (sound : Sound t) where
   -- what is said of a and f holds of a and a child of f
   earlier-child : (a f i s : ℕ) → At (children t f) i s → T (earlier t a f) → Is t f → T (earlier t a s)
   earlier-child a f i s h e is =
-      let k : Earlier t a f = (says-earlier t a f).read e in
-      (says-earlier t a s).show (record { p = k.p; q = k.q; elder = k.elder; a_under = k.a_under; b_under = below-within t sound (below-child i s h (within-below t sound k.q f is k.b_under)) })
+      let k : Earlier t a f = (says_earlier t a f).read e in
+      (says_earlier t a s).show (record { p = k.p; q = k.q; elder = k.elder; a_under = k.a_under; b_under = below-within t sound (below-child i s h (within-below t sound k.q f is k.b_under)) })
 
   earlier-of-child : (f i s b : ℕ) → At (children t f) i s → T (earlier t f b) → Is t f → T (earlier t s b)
   earlier-of-child f i s b h e is =
-      let k : Earlier t f b = (says-earlier t f b).read e in
-      (says-earlier t s b).show (record { p = k.p; q = k.q; elder = k.elder; a_under = below-within t sound (below-child i s h (within-below t sound k.p f is k.a_under)); b_under = k.b_under })
+      let k : Earlier t f b = (says_earlier t f b).read e in
+      (says_earlier t s b).show (record { p = k.p; q = k.q; elder = k.elder; a_under = below-within t sound (below-child i s h (within-below t sound k.p f is k.a_under)); b_under = k.b_under })
 
   -- under one cell f: b its child, a at or below f
   beside : (a f j b : ℕ) → At (children t f) j b → Below t a f → Stand t a b

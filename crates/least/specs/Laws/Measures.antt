@@ -7,7 +7,7 @@ use Rattle.whole.specs.Laws.Bias.{bound}
 use Rattle.plan.specs.Plan as plan
 use Rattle.plan.specs.Plan.{Table, Is, Sound, box_width, next}
 use Rattle.plan.specs.Laws.Paths.{Below, below-within, within-below, below_root, below-is, child_less}
-use Rattle.plan.specs.Laws.Siblings.{Neighbours, says-next, next-is}
+use Rattle.plan.specs.Laws.Siblings.{Neighbours, says_next, next-is}
 use Rattle.rules.specs.Placement.{Placement, right, left_extent, right_extent, width, rows}
 use Rattle.rules.specs.Rules.{Keeps}
 use Rattle.rules.specs.Laws.Extents.{left_extent_le, left_extent_ge, right_extent_le, right_extent_ge, width_le, width_ge, rows-plan}
@@ -117,7 +117,7 @@ module _ (t : Table) (sound : Sound t) (al : ℕ) where
 
     pub any_apart : (u v : ℕ) → T (next t u v) → ((sheet t al).x v -ℤ (sheet t al).x u) ≤ℤ (p.x v -ℤ p.x u)
     any_apart u v h =
-        let e : Neighbours t u v = (says-next t u v).read h in
+        let e : Neighbours t u v = (says_next t u v).read h in
         let (i, j) = next-is t u v h in
         omega (
           whole,

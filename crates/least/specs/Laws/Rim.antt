@@ -14,7 +14,7 @@ use Rattle.plan.specs.Laws.Lists.{at_less, at_same}
 use Rattle.plan.specs.Plan.{Table, Is, Sound, box_width, box_depth, children, place, within, subtree, next, earlier, row}
 use Rattle.plan.specs.Laws.Plan.{child-read, appointed-at, subtree-read, subtree_show}
 use Rattle.plan.specs.Laws.Paths.{Below, below_split, below-within, within-below, below-is, child_less}
-use Rattle.plan.specs.Laws.Siblings.{Neighbours, Earlier, says-next, says-earlier, next-is}
+use Rattle.plan.specs.Laws.Siblings.{Neighbours, Earlier, says_next, says_earlier, next-is}
 use Rattle.rules.specs.Placement.{Placement, right, base, bottom, Box, Stem}
 use Rattle.rules.specs.Rules.{S1, Keeps}
 use Rattle.rules.specs.Laws.Extremes.{most-all, most-one}
@@ -63,11 +63,11 @@ module _ (t : Table) (sound : Sound t) (p : Placement) (B al : ℕ) (fits : (c :
   X c = bias B (p.x c)
 
   neighbours : (f i u v : ℕ) → At (children t f) i u → At (children t f) (suc i) v → T (next t u v)
-  neighbours f i u v h g = (says-next t u v).show (record { c = f; order = record { i = i; first = h; second = g } })
+  neighbours f i u v h g = (says_next t u v).show (record { c = f; order = record { i = i; first = h; second = g } })
 
   older : (f i j u v a b : ℕ) → At (children t f) i u → At (children t f) j v → i < j → Below t a u → Below t b v → T (earlier t a b)
   older f i j u v a b h g l wa wb =
-      (says-earlier t a b).show (record {
+      (says_earlier t a b).show (record {
         p = u;
         q = v;
         elder = record { c = f; order = record { i = i; j = j; less = l; first = h; second = g } };
@@ -128,25 +128,25 @@ module _ (t : Table) (sound : Sound t) (p : Placement) (B al : ℕ) (fits : (c :
     where
       ends : (u v : ℕ) → T (next t u v) → (a : ℕ) → Is t a → T (within t u a) → (p.x a +ℤ pos (box_width t a)) <ℤ p.x v
       ends u v h a i w =
-          let e : Neighbours t u v = (says-next t u v).read h in
+          let e : Neighbours t u v = (says_next t u v).read h in
           (bias_lt_add B (p.x a) (p.x v) (fits a i) (fits v (next-is t u v h).1) (box_width t a)).1
           (n.s3_ends e.c e.order.i u v a e.order.first e.order.second (within-below t sound u a i w))
 
       starts : (u v : ℕ) → T (next t u v) → (b : ℕ) → Is t b → T (within t v b) → p.x u <ℤ p.x b
       starts u v h b i w =
-          let e : Neighbours t u v = (says-next t u v).read h in
+          let e : Neighbours t u v = (says_next t u v).read h in
           (bias_lt B (p.x u) (p.x b) (fits u (next-is t u v h).0) (fits b i)).1
           (n.s3_starts e.c e.order.i u v b e.order.first e.order.second (within-below t sound v b i w))
 
       s4 : (a b : ℕ) → Is t a → Is t b → T (earlier t a b) → (ρ : ℤ) (d : ℕ) → Takes t a (plus ρ) d → (e : ℕ) × Takes t b (plus ρ) e → X a + d < X b
       s4 a b i j h ρ d ta (e, tb) =
-          let o : Earlier t a b = (says-earlier t a b).read h in
+          let o : Earlier t a b = (says_earlier t a b).read h in
           n.s4 o.elder.c o.elder.order.i o.elder.order.j o.p o.q a b (plus ρ) d e o.elder.order.first o.elder.order.second o.elder.order.less
           (within-below t sound o.p a i o.a_under) (within-below t sound o.q b j o.b_under) ta tb
 
       overlap : (a b : ℕ) → Is t a → Is t b → T (earlier t a b) → (p.x a +ℤ pos (box_width t a) -ℤ p.x b +ℤ pos 1) ≤ℤ pos al
       overlap a b i j h =
-          let o : Earlier t a b = (says-earlier t a b).read h in
+          let o : Earlier t a b = (says_earlier t a b).read h in
           (bias_allow B (p.x a) (p.x b) (fits a i) (fits b j) (box_width t a) al).1
           (n.s5 o.elder.c o.elder.order.i o.elder.order.j o.p o.q a b o.elder.order.first o.elder.order.second o.elder.order.less
           (within-below t sound o.p a i o.a_under) (within-below t sound o.q b j o.b_under))

@@ -87,9 +87,9 @@ module _ (t : Table) (p : Placement) (s : Sights) (sound : Sound t) (g : Sees t 
   base-down c = omega (whole, sum (p.y c) (pos (box_depth t c)))
 
   -- rows y to e meet b's box or stem: they meet the rows from its y to its bottom
-  says-rows : (y e : ℤ) (b : ℕ) → Is t b → Says (meets t p y e b) ((y ≤ℤ e) × (y ≤ℤ bottom t p b) × (p.y b ≤ℤ e))
+  says_rows : (y e : ℤ) (b : ℕ) → Is t b → Says (meets t p y e b) ((y ≤ℤ e) × (y ≤ℤ bottom t p b) × (p.y b ≤ℤ e))
   unfolding meets share
-  says-rows y e b i =
+  says_rows y e b i =
       that_is
       (either (both (both (says_le_z y e) (says_le_z (p.y b) (base t p b))) (both (says_le_z y (base t p b)) (says_le_z (p.y b) e)))
       (both (says_le 1 (length (children t b))) (both (both (says_le_z y e) (says_le_z (base t p b +ℤ pos 1) (bottom t p b))) (both (says_le_z y (bottom t p b)) (says_le_z (base t p b +ℤ pos 1) e)))))
@@ -142,7 +142,7 @@ module _ (t : Table) (p : Placement) (s : Sights) (sound : Sound t) (g : Sees t 
         (that_is (both (says_le (s a).y (s b).bottom) (says_le (s b).y (s a).base))
         (λ h. (base-down a, omega (whole, g.ys a i, bottom_lift b j, h.0), omega (whole, g.ys b j, base_lift a i, h.1)))
         (λ h. (omega (whole, g.ys a i, bottom_lift b j, h.1), omega (whole, g.ys b j, base_lift a i, h.2))))
-        (says-rows (p.y a) (base t p a) b j)
+        (says_rows (p.y a) (base t p a) b j)
 
     stem : (ltb (s a).base (s a).bottom && (ltb (s a).base (s b).bottom && leb (s b).y (s a).bottom))
         ≡ (leb 1 (length (children t a)) && meets t p (base t p a +ℤ pos 1) (bottom t p a) b)
@@ -156,7 +156,7 @@ module _ (t : Table) (p : Placement) (s : Sights) (sound : Sound t) (g : Sees t 
           omega (whole, base_lift a i, bottom_lift a i, h.1.0, sum (base t p a) (pos 1)),
           (omega (whole, base_lift a i, bottom_lift b j, h.1.1, sum (base t p a) (pos 1)), omega (whole, g.ys b j, bottom_lift a i, h.1.2)),
         )))
-        (both (says_le 1 (length (children t a))) (says-rows (base t p a +ℤ pos 1) (bottom t p a) b j))
+        (both (says_le 1 (length (children t a))) (says_rows (base t p a +ℤ pos 1) (bottom t p a) b j))
 
     -- ---- S5
     five : leb ((s a).right + 1) ((s b).x + al) ≡ le_z (right t p a -ℤ p.x b +ℤ pos 1) (pos al)

@@ -29,21 +29,21 @@ least_small (suc (suc (suc (suc (suc zero))))) n = omega arith
 least_small (suc (suc (suc (suc (suc (suc k)))))) n = omega arith
 
 -- question 10 answered yes
-pub least-held : (k n w : ℕ) → T (bordered k n w) → least_width k n ≤ w
+pub least_held : (k n w : ℕ) → T (bordered k n w) → least_width k n ≤ w
 unfolding least_width bordered
-least-held k n w h = go (about k) h
+least_held k n w h = go (about k) h
   where
     go : (l : Lookup) → T (elim l [ Known r ↦ leb (n + r.border) w | Unknown ↦ false ]) → elim l [ Known r ↦ n + r.border | Unknown ↦ 0 ] ≤ w
     go (Known r) h = leb→le _ w h
     go Unknown h = absurd h
 
-pub says-cramped : (k n w : ℕ) → Says (cramped k n w) (T (mendable k n) × (w < least_width k n))
+pub says_cramped : (k n w : ℕ) → Says (cramped k n w) (T (mendable k n) × (w < least_width k n))
 unfolding cramped
-says-cramped k n w = both (itself (mendable k n)) (says_lt w (least_width k n))
+says_cramped k n w = both (itself (mendable k n)) (says_lt w (least_width k n))
 
-pub says-shallow : (k n d : ℕ) → Says (shallow k n d) (T (mendable k n) × (d ≡ 0))
+pub says_shallow : (k n d : ℕ) → Says (shallow k n d) (T (mendable k n) × (d ≡ 0))
 unfolding shallow
-says-shallow k n d = both (itself (mendable k n)) (says_eq d 0)
+says_shallow k n d = both (itself (mendable k n)) (says_eq d 0)
 
 pub mendable_short : (k n : ℕ) → T (mendable k n) → n ≤ most_label
 unfolding mendable
@@ -66,10 +66,10 @@ passed-sound form begin c r e =
     let (a, b) = both-none (cell_refusal (widest form) c r.parent r.kind r.width r.depth) _ e in
     let (x, y) = both-none (asked 9 (inside begin r.label_length r.label_start) c) _ b in
     let deep = sized-deep (widest form) r.width r.depth (cell-passed (widest form) c _ _ _ _ a).is_sized in
-    let held = least-held r.kind r.label_length r.width (asked_yes 9 (bordered r.kind r.label_length r.width) c y) in
+    let held = least_held r.kind r.label_length r.width (asked_yes 9 (bordered r.kind r.label_length r.width) c y) in
     record {
-      wide = is_false (says-cramped r.kind r.label_length r.width) (λ p. omega (arith, p.1));
-      deep = is_false (says-shallow r.kind r.label_length r.depth) (λ p. omega (arith, p.1));
+      wide = is_false (says_cramped r.kind r.label_length r.width) (λ p. omega (arith, p.1));
+      deep = is_false (says_shallow r.kind r.label_length r.depth) (λ p. omega (arith, p.1));
     }
 
 -- ---- a record after mending: all else as it was
@@ -81,14 +81,14 @@ wide_enough : (k n w : ℕ) → cramped k n (cond (cramped k n w) (least_width k
 wide_enough k n w = go (cramped k n w) refl
   where
     go : (b : Bool) → cramped k n w ≡ b → cramped k n (cond b (least_width k n) w) ≡ false
-    go true e = is_false (says-cramped k n (least_width k n)) (λ p. omega (arith, p.1))
+    go true e = is_false (says_cramped k n (least_width k n)) (λ p. omega (arith, p.1))
     go false e = e
 
 deep-enough : (k n d : ℕ) → shallow k n (cond (shallow k n d) 1 d) ≡ false
 deep-enough k n d = go (shallow k n d) refl
   where
     go : (b : Bool) → shallow k n d ≡ b → shallow k n (cond b 1 d) ≡ false
-    go true e = is_false (says-shallow k n 1) (λ p. omega (arith, p.1))
+    go true e = is_false (says_shallow k n 1) (λ p. omega (arith, p.1))
     go false e = e
 
 -- it needs no more
@@ -101,14 +101,14 @@ width-differs : (k n w : ℕ) → eqb (cond (cramped k n w) (least_width k n) w)
 width-differs k n w = go (cramped k n w) refl
   where
     go : (b : Bool) → cramped k n w ≡ b → eqb (cond b (least_width k n) w) w ≡ not b
-    go true e = let p = holds (says-cramped k n w) e in is_false (says_eq (least_width k n) w) (λ q. omega (arith, p.1))
+    go true e = let p = holds (says_cramped k n w) e in is_false (says_eq (least_width k n) w) (λ q. omega (arith, p.1))
     go false e = is_true (says_eq w w) refl
 
 depth_differs : (k n d : ℕ) → eqb (cond (shallow k n d) 1 d) d ≡ not (shallow k n d)
 depth_differs k n d = go (shallow k n d) refl
   where
     go : (b : Bool) → shallow k n d ≡ b → eqb (cond b 1 d) d ≡ not b
-    go true e = let p = holds (says-shallow k n d) e in is_false (says_eq 1 d) (λ q. omega (arith, p.1))
+    go true e = let p = holds (says_shallow k n d) e in is_false (says_eq 1 d) (λ q. omega (arith, p.1))
     go false e = is_true (says_eq d d) refl
 
 pub changed-differs : (r : Record) → not (eqb (new_width r) r.width && eqb (new_depth r) r.depth) ≡ changed r

@@ -19,7 +19,7 @@ use Rattle.planfile_spec.specs.Fields.{set_number, width_place, depth_place}
 use Rattle.planfile_spec.specs.Format.{form, record_at}
 use Rattle.mending_boxes.specs.Boxes.{least_width, narrow, flat, new_width, new_depth}
 use Rattle.mending_boxes.specs.Raised.{raise_width, raise_depth, mend_record, mend_records}
-use Rattle.mending_boxes.specs.Laws.Boxes.{least_small, says-cramped, mendable_short}
+use Rattle.mending_boxes.specs.Laws.Boxes.{least_small, says_cramped, mendable_short}
 use Rattle.mending_boxes.specs.Laws.Bytes.{mends_length}
 
 -- ---- one box
@@ -47,7 +47,7 @@ module _ (r : Record) where
   -- the new width is a byte
   pub least-byte : {w : ℕ} → narrow r ≡ true → w ≡ least_width r.kind r.label_length → w < 256
   least-byte e q =
-      let p = holds (says-cramped r.kind r.label_length r.width) e in
+      let p = holds (says_cramped r.kind r.label_length r.width) e in
       omega (arith, q, least_small r.kind r.label_length, mendable_short r.kind r.label_length p.0)
 
   module _ (form : Form) (at : ℕ) (b : List ℕ) where

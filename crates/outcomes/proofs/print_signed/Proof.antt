@@ -1,4 +1,4 @@
-use Rattle.whole.specs.Laws.Range.{says-within}
+use Rattle.whole.specs.Laws.Range.{says_within}
 use Rattle.whole.specs.Laws.Says.{holds}
 use borrow.Author.Tests.{not-false}
 use mathlib.Core.Path.{sym, ◌∙◌}
@@ -20,7 +20,7 @@ returns : tie.Need-returns
 returns c = search rules
 
 raise-requires : tie.Need-raise-requires
-raise-requires c κs = (omega arith, holds (says-within 1000000 _) (sym c.before.within.ensures ∙ not-false _ c.if1.false))
+raise-requires c κs = (omega arith, holds (says_within 1000000 _) (sym c.before.within.ensures ∙ not-false _ c.if1.false))
 
 slice-aggregate-write-all-2 : tie.Need-slice-aggregate-write-all-2
 slice-aggregate-write-all-2 c = search rules

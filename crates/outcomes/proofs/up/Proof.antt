@@ -1,4 +1,4 @@
-use Rattle.whole.specs.Laws.Range.{says-within}
+use Rattle.whole.specs.Laws.Range.{says_within}
 use Rattle.whole.specs.Laws.Says.{holds}
 use mathlib.Core.Path.{sym, ◌∙◌}
 use native.Mathlib.Omega.{arith}
@@ -10,7 +10,7 @@ within-requires : tie.Need-within-requires
 within-requires c κs = search rules
 
 raise-requires : tie.Need-raise-requires
-raise-requires c κs = (omega arith, holds (says-within 1000000 _) (sym c.before.within.ensures ∙ c.if1.true))
+raise-requires c κs = (omega arith, holds (says_within 1000000 _) (sym c.before.within.ensures ∙ c.if1.true))
 
 returns : tie.Need-returns
 returns c = search rules

@@ -1,23 +1,20 @@
 -- The outline of a plan file, as the code comes to it. Assumes nothing.
-use Rattle.std.specs.Prelude.{◌≡◌, leb, length, get_or, take, drop}
+use Rattle.std.specs.Prelude.{◌≡◌, length, get_or, take, drop}
 use Rattle.std.proofs.Math.Path.{refl, ap}
-use Rattle.std.proofs.Common.{sym, ◌∙◌, le→leb, length-append}
+use Rattle.std.proofs.Common.{sym, ◌∙◌, length-append}
 use mathlib.Core.List.{List, [], ◌∷◌, ◌++◌, map, append_assoc}
 use Prim.Native.Nat.{ℕ, zero, suc, ◌+◌, ◌*◌, ◌≤◌, ◌<◌}
 use native.Mathlib.Omega.{arith}
 use Rattle.std.proofs.Math.Decide.{ℕ_discrete}
-use borrow.Author.Tests.{eq-eqb, ne_eqb, lt-leb}
+use borrow.Author.Tests.{eq-eqb, ne_eqb, le-leb, lt-leb}
 use Rattle.std.proofs.lemmas.List.Edits.{sets-eq}
-use Rattle.plan.specs.Limits.{most_cells, most_file, outline_size, trailer_size}
-use Rattle.plan.specs.Questions.{to_fill, nothing, read, refusal, asked, or_else}
-use Rattle.plan.specs.Laws.Questions.{first-none}
+use Rattle.plan.specs.Limits.{most_cells, most_file, trailer_size}
 use Rattle.plan.specs.Lists.{from}
 use Rattle.plan.specs.Records.{bare}
 use Rattle.plan.specs.declared.Refusal.{Refusal}
 use Rattle.planfile_spec.specs.declared.Reading.{Reading}
-use Rattle.planfile_spec.specs.Format.{trailer_of, records_of, file_given}
+use Rattle.planfile_spec.specs.Format.{trailer_of, records_of}
 use Rattle.planfile_spec.specs.Reading.{reading_of}
-use Rattle.planfile_spec.specs.Laws.File as file
 use Rattle.records.specs.Apart.{row_at, records_in}
 use Rattle.listing.specs.Printed.{Bytes, line_feed}
 use Rattle.listing.specs.Put.{Put}
@@ -25,9 +22,8 @@ use Rattle.listing.specs.Laws.Put.{then}
 use Rattle.content.specs.Content.{Item, text_of, item_of, content, letters_of, file_content}
 use Rattle.content.specs.Clean.{copy_refusal}
 use Rattle.content.specs.Promised.{read_copied}
-use Rattle.content.specs.Laws.Fine.{asked_zero}
 use Rattle.content.specs.Laws.Promised.{copy_passed}
-use Rattle.copying.specs.Laws.Cleaned.{lettered, why, refused_reading, passed_reading, none-refused, plan-allowance, plan-records, passes, headed}
+use Rattle.copying.specs.Laws.Cleaned.{lettered, why, refused_reading, passed_reading, none-refused, plan_allowance, plan-records, passes, headed}
 use Rattle.copying.specs.Laws.Written.{map_last, map-map, steps_are, steps_ready}
 use Rattle.outline_spec.specs.Outline.{level_under, indent, cell_line, cell_lines, first_line, ended, outline_lines, outline}
 use Rattle.outline_spec.specs.Understood.{most_byte}
@@ -35,8 +31,8 @@ use Rattle.outline_spec.specs.Laws.Back.{Writable, AllWritable}
 use Rattle.outline_spec.specs.Laws.Accepted.{table_writable, file_ranks}
 use Rattle.outline.specs.declared.Outlined.TheVariants.{Written, Refused}
 use Rattle.outline.specs.declared.Outlined.{Outlined}
-use Rattle.outline.specs.Outlined.{outline_refusal, outlined_of, outlined_after, size, Outlines}
-use Rattle.outline.specs.Steps.{item_from, levels_of, lines_of, Ready, outlined_by, Outlining}
+use Rattle.outline.specs.Outlined.{outline_size, outlined_by, outlined_of, outlined_after, size, Outlines}
+use Rattle.outline.specs.Steps.{item_from, levels_of, lines_of, Ready, Outlining}
 use Rattle.outline.specs.Laws.Cells.{lines_short}
 
 -- ---- lists that grow at the end
@@ -160,8 +156,8 @@ module _ (f : List ℕ) (p : Reading) (e : p ≡ reading_of f most_cells) where
         append_assoc (first_line al) (line_feed ∷ []) (lines_of item p.columns.count)
         ∙ rw (items_are, ended, lines_are item p.columns.count) refl
 
-    allowance-is : p.allowance ≡ al
-    allowance-is = ap (λ (x : Reading). x.allowance) (e ∙ passed_reading f (passes f p e z)) ∙ plan-allowance f
+    allowance_is : p.allowance ≡ al
+    allowance_is = ap (λ (x : Reading). x.allowance) (e ∙ passed_reading f (passes f p e z)) ∙ plan_allowance f
 
     written_is : (out out' : List ℕ) (k : ℕ) → Put out 0 (outline (file_content f)) out' k → length (outline (file_content f)) ≤ outline_size → outline_size ≤ length out → Outlining f out out' (Written k)
     unfolding outlined_by outlined_after size
@@ -180,7 +176,7 @@ module _ (f : List ℕ) (p : Reading) (e : p ≡ reading_of f most_cells) where
         → Outlining f out out' (Written k)
     unfolding letters_of item_of text_of bare
     outline-written letters' out mid out' a i k q r h one low two =
-        let first : Put out 0 (first_line al ++ (line_feed ∷ [])) mid i = rw (r ∙ allowance-is) at one in
+        let first : Put out 0 (first_line al ++ (line_feed ∷ [])) mid i = rw (r ∙ allowance_is) at one in
         let rest : Put mid i (lines_of item p.columns.count) out' k = rw q at two in
         let whole : Put out 0 (outline (file_content f)) out' k = rw text-is at (then first rest) in
         let n = lines_short item p.label_length p.label_start p.columns.count (length letters) ready p.columns.count (omega arith) in
@@ -195,21 +191,11 @@ module _ (f : List ℕ) (p : Reading) (e : p ≡ reading_of f most_cells) where
     pub outline-begin : (trailer_of f).begin ≤ length f
     outline-begin = omega (arith, (headed f (passes f p e z)).full.exact)
 
--- ---- question 1, then Read's
-too_short : (f : List ℕ) (room : ℕ) → room < outline_size → ◌≡◌ {A = Refusal} (outline_refusal f room) (record { number = 1; cell = 0 })
-unfolding asked or_else
-too_short f room h = file.outline_refusal f room ∙ rw (lt-leb outline_size room h) refl
-
-pub as_read : (f : List ℕ) (room table : ℕ) → outline_size ≤ room → most_cells ≤ table → outline_refusal f room ≡ refusal read (file_given f (to_fill table ∷ []) nothing)
-as_read f room table h l =
-    file.outline_refusal f room
-    ∙ first-none _ _ (asked_zero 0 (leb outline_size room) 0 (le→leb outline_size room h))
-    ∙ sym (file.read_refusal f table ∙ first-none _ _ (asked_zero 0 (leb most_cells table) 0 (le→leb most_cells table l)))
-
+-- ---- question 1
 pub outline_short : (f out : List ℕ) → length out < outline_size → Outlines f out out (Refused 1 0)
 unfolding outlined_of outlined_after size
-outline_short f out h = record { answers = rw (too_short f (length out) h) refl; output = refl; suffices = omega arith }
+outline_short f out h = record { answers = rw (lt-leb outline_size (length out) h) refl; output = refl; suffices = omega arith }
 
 pub outline-roomy : (f out out' : List ℕ) (d : Outlined) → outline_size ≤ length out → Outlining f out out' d → Outlines f out out' d
-unfolding outlined_by outlined_of
-outline-roomy f out out' d h r = record { answers = r.answers ∙ rw (as_read f (length out) most_cells h (omega arith)) refl; output = r.output; suffices = r.suffices }
+unfolding outlined_of
+outline-roomy f out out' d h r = record { answers = r.answers ∙ rw (le-leb outline_size (length out) h) refl; output = r.output; suffices = r.suffices }

@@ -3,8 +3,7 @@ use Prim.Native.Nat.{ℕ, ◌-◌, ◌≤◌}
 use native.Mathlib.Omega.{arith}
 use lib.ListN.{length, replicate, length-append, length-replicate}
 use lib.Seq.{length-take-le}
-use Rattle.plan.specs.Limits.{outline_size}
-use Rattle.outline.specs.Outlined.{size}
+use Rattle.outline.specs.Outlined.{outline_size, size}
 use Rattle.outline.specs.declared.Outlined.{Outlined}
 use Rattle.outline.specs.declared.Outlined.TheVariants.{Written}
 use Rattle.listing.specs.Printed.{Bytes}

@@ -1,7 +1,7 @@
 -- What can be refused of what a text says, and that it is what Read would refuse. Assumes nothing.
 use Rattle.std.specs.Prelude.{◌≡◌, Bool, true, false, cond, ℕ, zero, suc, ◌+◌, ◌*◌, ◌≤◌, T, eqb, leb, length, take}
-use Rattle.std.proofs.Math.Path.{refl, ap}
-use Rattle.std.proofs.Common.{sym, subst, ◌∙◌, arith, le→leb}
+use Rattle.std.proofs.Math.Path.{refl, sym, ap}
+use Rattle.std.proofs.Common.{subst, ◌∙◌, arith, le→leb}
 use mathlib.Core.List.{List, [], ◌∷◌, ◌++◌, map}
 use Rattle.std.proofs.Math.Dec.{eqb_refl}
 use borrow.Author.Tests.{le-leb}
@@ -14,18 +14,17 @@ use Rattle.plan.specs.Questions.{lower, sized, asked, or_else, at_each, every, r
 use Rattle.plan.specs.Steps.{cell_refusal, tree_refusal, children_refusal, levels_refusal, rows_refusal}
 use Rattle.plan.specs.Kinds.{known, bordered}
 use Rattle.plan.specs.Laws.Questions.{first-none}
-use Rattle.plan.specs.Laws.Calls.{compose-refusal}
 use Rattle.plan.specs.Laws.Kept.{or_assoc, and_true}
 use Rattle.plan.specs.declared.Record.{Record}
 use Rattle.plan.specs.declared.Refusal.{Refusal}
 use Rattle.plan.specs.declared.forms.Form.{Form}
 use Rattle.plan.specs.declared.forms.Form.TheVariants.{Old, Wide}
 use Rattle.planfile_spec.specs.declared.Trailer.{Trailer}
-use Rattle.planfile_spec.specs.Format.{trailer_of, form, entry, records_of, label_in, file_given}
+use Rattle.planfile_spec.specs.Format.{trailer_of, form, entry, records_of, file_given}
 use Rattle.planfile_spec.specs.FileSteps.{inside, record_refusal, entry_refusal, counted, formed_refusal, header_refusal, body_refusal, file_refusal}
 use Rattle.planfile_spec.specs.Laws.File.{read_refusal}
 use Rattle.content.specs.Content.{Item, Content, letters_of}
-use Rattle.content.specs.Clean.{form_for, mark_of, labels, record_of, entries, clean, copy_refusal}
+use Rattle.content.specs.Clean.{form_for, mark_of, labels, record_of, entries, clean}
 use Rattle.content.specs.Laws.Clean.{clean_trailer, clean-length, clean-form, clean-records, clean-letters, entries-length}
 use Rattle.content.specs.Laws.Asked.{copy_steps, copy-asks, each_row}
 use Rattle.content.specs.Laws.Asked as rows
@@ -36,11 +35,6 @@ use Rattle.outline_spec.specs.Understood.{plan, understood}
 use Rattle.outline_spec.specs.Refused.{content_refusal}
 use Rattle.outline_spec.specs.Laws.Back.{AllWritable}
 use Rattle.outline_spec.specs.Laws.Told.{understood-told}
-
--- ---- as Copy of the table that its clean copy has
-pub content-copy : (c : Content) (room : ℕ) → content_refusal c room ≡ copy_refusal (entries 0 c.items) (labels c.items) c.allowance room
-unfolding content_refusal copy_refusal
-content-copy c room = compose-refusal (cells_of (entries 0 c.items)) (map label_in (entries 0 c.items)) (labels c.items) c.allowance room
 
 -- ---- a refusal that is for none of 5, 6, 7 and 14
 abbrev Other : ℕ → Type 0
@@ -104,10 +98,10 @@ labels-fine c seen (i ∷ is) h = every_append letter i.text (labels is) h.0.pri
 
 pub said-other : (t : List ℕ) (c : Content) (room : ℕ) → understood t ≡ plan c
     → ¬ ((content_refusal c room).number ≡ 5) × ¬ ((content_refusal c room).number ≡ 6) × ¬ ((content_refusal c room).number ≡ 7) × ¬ ((content_refusal c room).number ≡ 14)
-unfolding copy_steps
+unfolding content_refusal copy_steps
 said-other t c room e =
     let h = understood-told t c e in
-    let q = content-copy c room ∙ copy-asks (entries 0 c.items) (labels c.items) c.allowance room in
+    let q = copy-asks (entries 0 c.items) (labels c.items) c.allowance room in
     subst (λ (x : Refusal). Other x.number) (sym q)
     (other_or _ _ (other-asked 1 (leb most_file room) 0 (other 1 (λ e. omega arith) (λ e. omega arith) (λ e. omega arith) (λ e. omega arith)))
     (other_or _ _ (other-asked 4 (between 1 most_cells (length (entries 0 c.items))) 0 (other 4 (λ e. omega arith) (λ e. omega arith) (λ e. omega arith) (λ e. omega arith)))
@@ -147,8 +141,8 @@ module _ (c : Content) where
   count-is : (trailer_of g).count ≡ length is
   count-is = ap (λ (x : Trailer). x.count) (clean_trailer c)
 
-  allowance-is : (trailer_of g).allowance ≡ c.allowance
-  allowance-is = ap (λ (x : Trailer). x.allowance) (clean_trailer c)
+  allowance_is : (trailer_of g).allowance ≡ c.allowance
+  allowance_is = ap (λ (x : Trailer). x.allowance) (clean_trailer c)
 
   mark-is : (trailer_of g).mark ≡ mark_of (form_for is)
   mark-is = ap (λ (x : Trailer). x.mark) (clean_trailer c)
@@ -183,7 +177,7 @@ module _ (c : Content) where
     body_is =
         ap (λ (x : Refusal). or_else x (or_else (tree_refusal (cells_of (records_of g))) (asked 14 (leb (trailer_of g).allowance most_allowance) 0))) rows_are
         ∙ ap (λ (x : List Record). or_else (rows.rows_refusal Wide (length (labels is)) 0 (entries 0 is)) (or_else (tree_refusal (cells_of x)) (asked 14 (leb (trailer_of g).allowance most_allowance) 0))) (clean-records c)
-        ∙ ap (λ (n : ℕ). or_else (rows.rows_refusal Wide (length (labels is)) 0 (entries 0 is)) (or_else (tree_refusal (cells_of (entries 0 is))) (asked 14 (leb n most_allowance) 0))) allowance-is
+        ∙ ap (λ (n : ℕ). or_else (rows.rows_refusal Wide (length (labels is)) 0 (entries 0 is)) (or_else (tree_refusal (cells_of (entries 0 is))) (asked 14 (leb n most_allowance) 0))) allowance_is
       where
         rows_are : at_each (entry_refusal g) 0 (trailer_of g).count ≡ rows.rows_refusal Wide (length (labels is)) 0 (entries 0 is)
         rows_are =
@@ -206,8 +200,8 @@ module _ (c : Content) where
         ∙ ap (λ (n : ℕ). or_else (asked 4 (between 1 most_cells n) 0) (or_else (asked 5 (every letter (labels is)) 0) (or_else (rows.rows_refusal Wide (length (labels is)) 0 (entries 0 is)) (or_else (tree_refusal (cells_of (entries 0 is))) (asked 14 (leb c.allowance most_allowance) 0))))) (sym (entries-length 0 is))
 
     pub refused-read : content_refusal c most_file ≡ refusal read (file_given (clean c) (to_fill most_cells ∷ []) nothing)
+    unfolding content_refusal
     refused-read =
-        content-copy c most_file
-        ∙ copy-asks (entries 0 is) (labels is) c.allowance most_file
+        copy-asks (entries 0 is) (labels is) c.allowance most_file
         ∙ first-none (asked 1 (leb most_file most_file) 0) _ (asked_zero 0 (leb most_file most_file) 0 tt)
         ∙ sym (read_refusal g most_cells ∙ first-none (asked 1 (leb most_cells most_cells) 0) _ (asked_zero 0 (leb most_cells most_cells) 0 tt) ∙ file-is)

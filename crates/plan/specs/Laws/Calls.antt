@@ -5,12 +5,12 @@ use Rattle.std.proofs.Common.{ap, ◌∙◌, arith, eq-eqb, ne_eqb, ltb-true}
 use Rattle.plan.specs.declared.Refusal.{Refusal}
 use Rattle.plan.specs.Laws.Questions.{first_some, each-one}
 use Rattle.std.proofs.Math.Dec.{ltb}
-use Rattle.plan.specs.Limits.{scratch_size, second_size, listing_size, links_size, most_allowance, most_steps, most_answers}
+use Rattle.plan.specs.Limits.{scratch_size, second_size, listing_size, most_allowance, most_steps, most_answers}
 use Rattle.plan.specs.Lists.{some, mem}
 use Rattle.plan.specs.Plan.{Table}
 use Rattle.plan.specs.Pages.{fair}
 use Rattle.plan.specs.declared.Page.{Page}
-use Rattle.plan.specs.Questions.{roomy, all_roomy, enough, in_table, in_file, sequence, puts, put, with_each, kept, number, holds, ask, none, asked, or_else, framed, on_page, strokes_of, numbered, refusal, layout, check, ends, list, frame, stroke, strip, layout_given, check_given, ends_given, list_given, frame_given, stroke_given, strip_given, answerable, drill, drill_given, reach_of, finished_at, at_each, start, step, reach, start_given, step_given, reach_given, mark, mark_given, why, why_given, judge, judge_given, Label, copy, copy_given, compose}
+use Rattle.plan.specs.Questions.{roomy, all_roomy, enough, in_table, in_file, sequence, puts, put, with_each, kept, number, holds, ask, none, asked, or_else, framed, on_page, strokes_of, numbered, refusal, layout, check, ends, list, frame, stroke, strip, layout_given, check_given, ends_given, list_given, frame_given, stroke_given, strip_given, answerable, drill, drill_given, reach_of, finished_at, at_each, start, step, reach, start_given, step_given, reach_given, mark, mark_given}
 use Rattle.plan.specs.Laws.Kept.{asked_last, asked_true, and_true, or_assoc, none_first, each_last, refusal-kept, turn_ends, turn_once, turn_table, turn_near, turn_finished}
 use Rattle.plan.specs.Steps.{counted_refusal, lent_refusal, near_refusal}
 
@@ -142,23 +142,3 @@ unfolding kept put with_each sequence number puts mem some ask holds roomy all_r
 mark-refusal t ps al s =
     let g = mark_given t ps al s in
     refusal-kept mark g ∙ simp (turn_once g, turn_table g refl, turn_near g, turn_ends g, and_true, or_assoc, check-refusal t al ps, near_last ps (length t))
-
--- the reason for our sheet's width: as Layout, behind the links
-pub why-refusal : (t : Table) (al s p l : ℕ) → refusal why (why_given t al s p l) ≡ or_else (asked 1 (leb links_size l) 0) (refusal layout (layout_given t al s p))
-unfolding kept put with_each sequence number puts mem some ask holds roomy all_roomy enough in_file lent_refusal why_given
-why-refusal t al s p l =
-    let g = why_given t al s p l in
-    refusal-kept why g
-    ∙ simp (turn_once g, turn_table g refl, turn_ends g, and_true, both-roomy, or_assoc, layout-refusal t al s p, asked_last 13 (leb al most_allowance) 0)
-
--- for anyone's: as Check, behind the links
-pub judge-refusal : (t : Table) (ps : List ℤ) (al l : ℕ) → refusal judge (judge_given t ps al l) ≡ or_else (asked 1 (leb links_size l) 0) (refusal check (check_given t al ps))
-unfolding kept put with_each sequence number puts mem some ask holds roomy all_roomy enough in_file lent_refusal judge_given
-judge-refusal t ps al l =
-    let g = judge_given t ps al l in
-    refusal-kept judge g ∙ simp (turn_once g, turn_table g refl, turn_near g, turn_ends g, and_true, or_assoc, check-refusal t al ps, near_last ps (length t))
-
--- the plan file of a text: as Copy, whose questions it puts to what the text says
-pub compose-refusal : (t : Table) (ls : List Label) (letters : List ℕ) (al o : ℕ) → refusal compose (copy_given t ls letters al o) ≡ refusal copy (copy_given t ls letters al o)
-unfolding refusal kept put puts sequence
-compose-refusal t ls letters al o = refl

@@ -153,11 +153,11 @@ pub record Next (l : List ℕ) (p q : ℕ) : Type 0 where
   pub first : At l i p
   pub second : At l (suc i) q
 
-pub says-ahead_in : (l : List ℕ) (p q : ℕ) → Says (ahead_in p q l) (Ahead l p q)
+pub says_ahead_in : (l : List ℕ) (p q : ℕ) → Says (ahead_in p q l) (Ahead l p q)
 unfolding ahead_in
-says-ahead_in [] p q = record { read = λ h. absurd h; show = λ s. s.first }
-says-ahead_in (r ∷ l) p q =
-    that_is (either (both (says_eq p r) (record { read = mem-at l q; show = λ (s : (i : ℕ) × At l i q). at_mem l s.0 q s.1 })) (says-ahead_in l p q))
+says_ahead_in [] p q = record { read = λ h. absurd h; show = λ s. s.first }
+says_ahead_in (r ∷ l) p q =
+    that_is (either (both (says_eq p r) (record { read = mem-at l q; show = λ (s : (i : ℕ) × At l i q). at_mem l s.0 q s.1 })) (says_ahead_in l p q))
     there (λ a. back a.i a.j a.less a.first a.second)
   where
     there : ((p ≡ r) × ((i : ℕ) × At l i q)) ⊎ Ahead l p q → Ahead (r ∷ l) p q
@@ -169,15 +169,15 @@ says-ahead_in (r ∷ l) p q =
     back zero (suc j) h f s = inl (f, (j, s))
     back (suc i) (suc j) h f s = inr (record { i = i; j = j; less = omega arith; first = f; second = s })
 
-says-heads : (l : List ℕ) (q : ℕ) → Says (heads q l) (At l 0 q)
+says_heads : (l : List ℕ) (q : ℕ) → Says (heads q l) (At l 0 q)
 unfolding heads
-says-heads [] q = record { read = λ h. h; show = λ s. s }
-says-heads (r ∷ l) q = says_eq q r
+says_heads [] q = record { read = λ h. h; show = λ s. s }
+says_heads (r ∷ l) q = says_eq q r
 
-pub says-next_in : (l : List ℕ) (p q : ℕ) → Says (next_in p q l) (Next l p q)
+pub says_next_in : (l : List ℕ) (p q : ℕ) → Says (next_in p q l) (Next l p q)
 unfolding next_in
-says-next_in [] p q = record { read = λ h. absurd h; show = λ s. s.first }
-says-next_in (r ∷ l) p q = that_is (either (both (says_eq p r) (says-heads l q)) (says-next_in l p q)) there (λ a. back a.i a.first a.second)
+says_next_in [] p q = record { read = λ h. absurd h; show = λ s. s.first }
+says_next_in (r ∷ l) p q = that_is (either (both (says_eq p r) (says_heads l q)) (says_next_in l p q)) there (λ a. back a.i a.first a.second)
   where
     there : ((p ≡ r) × At l 0 q) ⊎ Next l p q → Next (r ∷ l) p q
     there (inl h) = record { i = 0; first = h.0; second = h.1 }

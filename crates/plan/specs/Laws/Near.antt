@@ -2,7 +2,7 @@
 use Rattle.std.specs.Prelude.{◌≡◌, List, ℕ, ◌+◌, ◌*◌, ◌≤◌, ◌<◌, length, get_or, ℤ, pos}
 use Rattle.whole.specs.Laws.Says.{both}
 use Rattle.whole.specs.Range.{InRange}
-use Rattle.whole.specs.Laws.Range.{says-within}
+use Rattle.whole.specs.Laws.Range.{says_within}
 use Rattle.plan.specs.Limits.{farthest}
 use Rattle.plan.specs.Questions.{near}
 use Rattle.plan.specs.Laws.Questions.{asked_yes, each_none}
@@ -14,4 +14,4 @@ unfolding near_refusal near
 near-accepted ps n room e = record { room = room; x = λ c i. (at c i).0; y = λ c i. (at c i).1 }
   where
     at : (c : ℕ) → c < n → InRange farthest (get_or ps (2 * c) (pos 0)) × InRange farthest (get_or ps (2 * c + 1) (pos 0))
-    at c i = (both (says-within farthest (get_or ps (2 * c) (pos 0))) (says-within farthest (get_or ps (2 * c + 1) (pos 0)))).read (asked_yes 14 _ c (each_none (near_at ps) n e c i))
+    at c i = (both (says_within farthest (get_or ps (2 * c) (pos 0))) (says_within farthest (get_or ps (2 * c + 1) (pos 0)))).read (asked_yes 14 _ c (each_none (near_at ps) n e c i))

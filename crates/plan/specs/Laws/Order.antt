@@ -8,13 +8,13 @@ use Rattle.std.proofs.Math.Decide.{ℕ_discrete}
 use Rattle.std.proofs.Math.Dec.{T}
 use Rattle.plan.specs.declared.Refusal.{Refusal}
 use Rattle.plan.specs.Lists.{from, some, mem}
-use Rattle.plan.specs.Questions.{Buffer, Lent, absent, Given, Question, buffers_long, positions_long, number, Step, once, each, sequence, Call, puts, put, with_each, kept, all_roomy, enough, holds, none, asked, or_else, at_each, ask, ask_all, take_step, take_steps, refusal, layout_given, check_given, ends_given, list_given, frame_given, copy_given, stroke_given, strip_given, drill_given, start_given, step_given, reach_given, mark_given, why_given, judge_given}
+use Rattle.plan.specs.Questions.{Buffer, Lent, absent, Given, Question, buffers_long, positions_long, number, Step, once, each, sequence, Call, puts, put, with_each, kept, all_roomy, enough, holds, none, asked, or_else, at_each, ask, ask_all, take_step, take_steps, refusal, layout_given, check_given, ends_given, list_given, frame_given, copy_given, stroke_given, strip_given, drill_given, start_given, step_given, reach_given, mark_given}
 use Rattle.plan.specs.Order.{some_buffer, has_positions, concerns, number_in, numbers, in_order, asks, cell_by_cell, Rows}
 use Rattle.plan.specs.Laws.Questions.{first-none, first_some}
 use Rattle.plan.specs.Laws.Lists.{mem-here, mem-none, mem_there, mem_cases}
 
 pub rows : Rows
-unfolding asks in_order numbers number_in concerns some_buffer has_positions cell_by_cell kept put with_each sequence number puts mem some from layout_given check_given ends_given list_given frame_given copy_given stroke_given strip_given drill_given start_given step_given reach_given mark_given why_given judge_given
+unfolding asks in_order numbers number_in concerns some_buffer has_positions cell_by_cell kept put with_each sequence number puts mem some from layout_given check_given ends_given list_given frame_given copy_given stroke_given strip_given drill_given start_given step_given reach_given mark_given
 rows =
     record {
       of_read = λ g m b p. rw (b, p);
@@ -34,10 +34,6 @@ rows =
       of_reach = λ t al s m finished c. refl;
       of_report = λ g m s p b e. rw (b, e);
       of_mark = λ t ps al s. refl;
-      of_why = λ t al s p l. refl;
-      of_judge = λ t ps al l. refl;
-      of_outline = λ g m b p. rw (b, p);
-      of_compose = λ t ls letters al o. refl;
       by_cell = λ g. refl;
       by_cell_lent = λ g. refl;
     }

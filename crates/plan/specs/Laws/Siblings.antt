@@ -4,7 +4,7 @@ use Rattle.std.proofs.Math.Dec.{T}
 use Rattle.whole.specs.Says.{Says}
 use Rattle.whole.specs.Laws.Says.{that_is}
 use Rattle.plan.specs.Lists.{some}
-use Rattle.plan.specs.Laws.Lists.{Some, some_read, some_show, Ahead, Next, says-ahead_in, says-next_in}
+use Rattle.plan.specs.Laws.Lists.{Some, some_read, some_show, Ahead, Next, says_ahead_in, says_next_in}
 use Rattle.plan.specs.Plan.{Table, Is, parent, children, path, within, ahead, next, earlier}
 use Rattle.plan.specs.Laws.Plan.{child-read}
 
@@ -17,21 +17,21 @@ module _ (t : Table) where
     pub c : ℕ
     pub order : Next (children t c) u v
 
-  pub says-ahead : (p q : ℕ) → Says (ahead t p q) (Elder p q)
+  pub says_ahead : (p q : ℕ) → Says (ahead t p q) (Elder p q)
   unfolding ahead
-  says-ahead p q =
-      that_is (says-ahead_in (children t (parent t p)) p q) (λ h. record { c = parent t p; order = h })
+  says_ahead p q =
+      that_is (says_ahead_in (children t (parent t p)) p q) (λ h. record { c = parent t p; order = h })
       (λ e. rw (child-read t e.c e.order.i p e.order.first).of e.order)
 
-  pub says-next : (u v : ℕ) → Says (next t u v) (Neighbours u v)
+  pub says_next : (u v : ℕ) → Says (next t u v) (Neighbours u v)
   unfolding next
-  says-next u v =
-      that_is (says-next_in (children t (parent t u)) u v) (λ h. record { c = parent t u; order = h })
+  says_next u v =
+      that_is (says_next_in (children t (parent t u)) u v) (λ h. record { c = parent t u; order = h })
       (λ e. rw (child-read t e.c e.order.i u e.order.first).of e.order)
 
   pub next-is : (u v : ℕ) → T (next t u v) → Is t u × Is t v
   next-is u v h =
-      let e : Neighbours u v = (says-next u v).read h in
+      let e : Neighbours u v = (says_next u v).read h in
       ((child-read t e.c e.order.i u e.order.first).is, (child-read t e.c (suc e.order.i) v e.order.second).is)
 
   -- a at or below one sibling, b at or below a later one
@@ -42,12 +42,12 @@ module _ (t : Table) where
     pub a_under : T (within t p a)
     pub b_under : T (within t q b)
 
-  pub says-earlier : (a b : ℕ) → Says (earlier t a b) (Earlier a b)
+  pub says_earlier : (a b : ℕ) → Says (earlier t a b) (Earlier a b)
   unfolding earlier within
-  says-earlier a b = record { read = there; show = back }
+  says_earlier a b = record { read = there; show = back }
     where
       inner : (p : ℕ) → T (within t p a) → Some (λ q. ahead t p q) (path t b) → Earlier a b
-      inner p h s = record { p = p; q = s.at; elder = (says-ahead p s.at).read s.passes; a_under = h; b_under = s.there }
+      inner p h s = record { p = p; q = s.at; elder = (says_ahead p s.at).read s.passes; a_under = h; b_under = s.there }
 
       there : T (some (λ p. some (λ q. ahead t p q) (path t b)) (path t a)) → Earlier a b
       there h =
@@ -55,4 +55,4 @@ module _ (t : Table) where
           inner s.at s.there (some_read _ (path t b) s.passes)
 
       back : Earlier a b → T (some (λ p. some (λ q. ahead t p q) (path t b)) (path t a))
-      back e = some_show _ (path t a) e.p e.a_under (some_show _ (path t b) e.q e.b_under ((says-ahead e.p e.q).show e.elder))
+      back e = some_show _ (path t a) e.p e.a_under (some_show _ (path t b) e.q e.b_under ((says_ahead e.p e.q).show e.elder))

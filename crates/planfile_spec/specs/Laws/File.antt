@@ -5,11 +5,11 @@ use Rattle.std.proofs.Common.{◌∙◌}
 use mathlib.Core.List.{List, [], ◌∷◌, map}
 use Rattle.std.proofs.Math.Nat.{zero-add}
 use Rattle.std.proofs.Math.ListN.{length-map, get_or-map}
-use Rattle.plan.specs.Limits.{most_cells, most_file, lines_size, outline_size, most_allowance}
+use Rattle.plan.specs.Limits.{most_cells, most_file, lines_size, most_allowance}
 use Rattle.plan.specs.Lists.{from, some, mem}
 use Rattle.plan.specs.Plan.{Cell, Table, blank, parent, kind, box_width, box_depth}
 use Rattle.plan.specs.Records.{bare, cells_of}
-use Rattle.plan.specs.Questions.{Buffer, to_fill, copy_output, lines_output, outline_output, Subject, nothing, named, Given, Step, read, label, mend, outline, no_label, parent_lower, kind_known, box_sized, label_inside, label_fits, children_allowed, level_low, rows_few, each, sequence, puts, put, with_each, kept, number, enough, roomy, all_roomy, in_table, in_file, on_labels, widest_in, holds, asked, or_else, at_each, ask, ask_all, take_step, take_steps, refusal}
+use Rattle.plan.specs.Questions.{Buffer, to_fill, copy_output, lines_output, Subject, nothing, named, Given, Step, read, label, mend, no_label, parent_lower, kind_known, box_sized, label_inside, label_fits, children_allowed, level_low, rows_few, each, sequence, puts, put, with_each, kept, number, enough, roomy, all_roomy, in_table, in_file, on_labels, widest_in, holds, asked, or_else, at_each, ask, ask_all, take_step, take_steps, refusal}
 use Rattle.plan.specs.Laws.Columns.{length_from, get_or_from}
 use Rattle.plan.specs.Laws.Questions.{each_same}
 use Rattle.plan.specs.Laws.Kept.{asked_last, asked_true, none_first, and_true, or_assoc, refusal-kept, turn_ends, turn_once, turn_tree}
@@ -99,15 +99,6 @@ module _ (f : List ℕ) where
       let bs = copy_output o ∷ lines_output l ∷ [] in
       let g = file_given f bs nothing in
       refusal-kept mend g
-      ∙ simp (turn_once g, turn_body bs nothing, turn_ends g, cells-length, asked_true 0 0, none_first, and_true, or_assoc, asked_last 13 (leb (trailer_of f).allowance most_allowance) 0)
-
-  -- ---- a plan file as text, as Read's but for the buffer
-  pub outline_refusal : (room : ℕ) → refusal outline (file_given f (outline_output room ∷ []) nothing) ≡ or_else (asked 1 (leb outline_size room) 0) (file_refusal f)
-  unfolding kept put with_each sequence number puts mem some from ask holds roomy all_roomy enough in_file on_labels file_given file_refusal formed_refusal header_refusal body_refusal
-  outline_refusal room =
-      let bs = outline_output room ∷ [] in
-      let g = file_given f bs nothing in
-      refusal-kept outline g
       ∙ simp (turn_once g, turn_body bs nothing, turn_ends g, cells-length, asked_true 0 0, none_first, and_true, or_assoc, asked_last 13 (leb (trailer_of f).allowance most_allowance) 0)
 
   -- ---- Label

@@ -1,5 +1,5 @@
 use native.Mathlib.Omega.{arith}
-use Rattle.printing.specs.Laws.Printing.{drawn_measured, drawn-placed}
+use Rattle.printing.specs.Laws.Printing.{drawn_measured, drawn_placed}
 use Rattle.printing.specs.Laws.Taken.{taken_few, taken_drawable, put_short, sheet-done}
 use borrow.Author.Rules.{rules}
 use Rattle.printing.proofs.write_sheet.Statement.{statement}
@@ -31,7 +31,7 @@ put-cells-requires c κs =
     let h = c.before.before.before.before.before.before.before.before.before.before.before.before.before.before.before.before.requires in
     let n = taken_few _ _ h.0 in
     let k = put_short _ c.before.before.before.before.put-line.ensures c.before.before.before.before.before.before.first_line.ensures.1 in
-    (h.0, drawn-placed _ n c.before.before.before.before.before.before.before.before.before.draw-over-zeros.ensures (omega (arith, c.before.before.before.before.before.before.before.before.before.draw-over-zeros.auto)), omega (arith, h.1, n, k))
+    (h.0, drawn_placed _ n c.before.before.before.before.before.before.before.before.before.draw-over-zeros.ensures (omega (arith, c.before.before.before.before.before.before.before.before.before.draw-over-zeros.auto)), omega (arith, h.1, n, k))
 
 same_length : tie.Need-same-length
 same_length c = search rules

@@ -64,8 +64,8 @@ cell_is p f ps c h d =
 
 -- ---- our sheet, from what is drawn
 module _ (p : Reading) (few : p.columns.count ≤ most_cells) {s' : List ℕ} {ps ps' : List ℤ} {r : Measures} (d : Drawn (read_table p) p.allowance s' ps ps' r) where
-  pub drawn-placed : 2 * most_cells ≤ length ps' → Placed p ps'
-  drawn-placed room = record { few = few; room = omega arith; agree = rw d.positions (written_agree (ours p) (read_table p) ps) }
+  pub drawn_placed : 2 * most_cells ≤ length ps' → Placed p ps'
+  drawn_placed room = record { few = few; room = omega arith; agree = rw d.positions (written_agree (ours p) (read_table p) ps) }
 
   pub drawn_measured : Measured p r.width r.rows
   drawn_measured = record { small = few; wide = ap (λ (m : Measures). m.width) d.answers; deep = ap (λ (m : Measures). m.rows) d.answers }

@@ -94,13 +94,13 @@ module _ (p : Reading) (f : Bytes) (h : Taken p f) where
   cells_are : read_table p ≡ cells_of (records_of f)
   cells_are = ap (λ (x : Reading). read_table x) told.1 ∙ same-table f headed
 
-  allowance-is : p.allowance ≡ (trailer_of f).allowance
+  allowance_is : p.allowance ≡ (trailer_of f).allowance
   unfolding columns_of
-  allowance-is = ap (λ (x : Reading). x.allowance) told.1
+  allowance_is = ap (λ (x : Reading). x.allowance) told.1
 
   -- Layout does not refuse it
   pub taken-layout : (s n : ℕ) → scratch_size ≤ s → 2 * p.columns.count ≤ n → refusal layout (layout_given (read_table p) p.allowance s n) ≡ none
-  taken-layout s n a b = rw (cells_are, allowance-is) (file-layout f passes s n a (omega (arith, count-is)))
+  taken-layout s n a b = rw (cells_are, allowance_is) (file-layout f passes s n a (omega (arith, count-is)))
 
   pub fit : Fit (read_table p)
   fit = ((layout-asks (read_table p) p.allowance scratch_size (2 * p.columns.count)).0 (taken-layout _ _ (omega arith) (omega arith))).table.fit

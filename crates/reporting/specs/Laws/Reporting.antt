@@ -162,9 +162,9 @@ module _ (f : List ℕ) (room s p : ℕ) where
       unfolding columns_of
       count-is = ap (λ (x : Reading). x.columns.count) plan-is
 
-      allowance-is : q.allowance ≡ (trailer_of f).allowance
+      allowance_is : q.allowance ≡ (trailer_of f).allowance
       unfolding columns_of
-      allowance-is = ap (λ (x : Reading). x.allowance) plan-is
+      allowance_is = ap (λ (x : Reading). x.allowance) plan-is
 
       pub plan_few : q.columns.count ≤ most_cells
       plan_few = omega (arith, count-is, count_few)
@@ -174,7 +174,7 @@ module _ (f : List ℕ) (room s p : ℕ) where
 
       module _ (s' : List ℕ) (ps ps' : List ℤ) (m : Measures) (d : Drawn (table_of q.columns) q.allowance s' ps ps' m) where
         given : Drawn (file_table f) (trailer_of f).allowance s' ps ps' m
-        given = rw (table_is, allowance-is) at d
+        given = rw (table_is, allowance_is) at d
 
         pub measures_small : (m.width ≤ width_each) × (m.rows ≤ rows_each)
         measures_small = rw given.answers (sheet_bounds (file_table f) fit (trailer_of f).allowance)

@@ -26,8 +26,8 @@ pub record Found (f : ℕ → Verdict) (k d : ℕ) (v : Verdict) : Type 0 where
   pub here : f at ≡ v
   pub before : (i : ℕ) → k ≤ i → i < at → f i ≡ kept
 
-no_broken {ℓ} : {r a b : ℕ} {X : Type ℓ} → kept ≡ broken r a b → X
-no_broken {r} {a} {b} e = absurd (let z : ◌≡◌ {A = ℕ} 0 1 = cc in omega arith)
+no-broken {ℓ} : {r a b : ℕ} {X : Type ℓ} → kept ≡ broken r a b → X
+no-broken {r} {a} {b} e = absurd (let z : ◌≡◌ {A = ℕ} 0 1 = cc in omega arith)
 
 -- at k, or later
 split : (f : ℕ → Verdict) (k j : ℕ) → k ≤ j → f k ≡ kept → ((i : ℕ) → suc k ≤ i → i ≤ j → f i ≡ kept) → f j ≡ kept
@@ -43,11 +43,11 @@ all-kept f k (suc d) e j p q = go (f k) refl (all-kept f (suc k) d)
   where
     go : (v : Verdict) → f k ≡ v → (scan f (suc k) d ≡ kept → (j : ℕ) → suc k ≤ j → j < suc k + d → f j ≡ kept) → f j ≡ kept
     go kept h g = split f k j p h (λ i a b. g (sym (go_on f k d h) ∙ e) i a (omega arith))
-    go (broken r a b) h g = no_broken (sym e ∙ stop f k d h)
+    go (broken r a b) h g = no-broken (sym e ∙ stop f k d h)
 
 scan-broken : (f : ℕ → Verdict) (k d r a b : ℕ) → scan f k d ≡ broken r a b → Found f k d (broken r a b)
 unfolding scan
-scan-broken f k zero r a b e = no_broken e
+scan-broken f k zero r a b e = no-broken e
 scan-broken f k (suc d) r a b e = go (f k) refl (scan-broken f (suc k) d r a b)
   where
     more : f k ≡ kept → Found f (suc k) d (broken r a b) → Found f k (suc d) (broken r a b)
@@ -77,7 +77,7 @@ scan-next f k d e h = scan-kept f k (suc d) (λ j p q. go j p q (ℕ_discrete j 
 judged : (t : Bool) (r a b : ℕ) → judge t r a b ≡ kept → T t
 unfolding judge
 judged true r a b e = tt
-judged false r a b e = no_broken (sym e)
+judged false r a b e = no-broken (sym e)
 
 judge-kept : (t : Bool) (r a b : ℕ) → T t → judge t r a b ≡ kept
 unfolding judge
@@ -92,7 +92,7 @@ record Same (t : Bool) (r a b r' a' b' : ℕ) : Type 0 where
 
 judge-broken : (t : Bool) (r a b r' a' b' : ℕ) → judge t r a b ≡ broken r' a' b' → Same t r a b r' a' b'
 unfolding judge
-judge-broken true r a b r' a' b' e = no_broken e
+judge-broken true r a b r' a' b' e = no-broken e
 judge-broken false r a b r' a' b' e = record { fails = λ h. h; rule = cc; first = cc; second = cc }
 
 module _ (test : ℕ → ℕ → ℕ → Bool) (n : ℕ) where

@@ -28,9 +28,9 @@ record Shared (s e s' e' : ℤ) : Type 0 where
   c : s' ≤ℤ row
   d : row ≤ℤ e'
 
-says-share : (s e s' e' : ℤ) → Says (share s e s' e') (Shared s e s' e')
+says_share : (s e s' e' : ℤ) → Says (share s e s' e') (Shared s e s' e')
 unfolding share
-says-share s e s' e' =
+says_share s e s' e' =
     that_is (both (both (says_le_z s e) (says_le_z s' e')) (both (says_le_z s e') (says_le_z s' e)))
     (λ h. elim (lt_or_le s s') [
       | inl l ↦ record { row = s'; a = omega whole; b = omega whole; c = omega whole; d = omega whole }
@@ -54,7 +54,7 @@ module _ (t : Table) (p : Placement) where
   says_meets : (s e : ℤ) (b : ℕ) → Says (meets t p s e b) (Meets s e b)
   unfolding meets
   says_meets s e b =
-      that_is (either (says-share s e (p.y b) (base t p b)) (both (says_le 1 (length (children t b))) (says-share s e (base t p b +ℤ pos 1) (bottom t p b))))
+      that_is (either (says_share s e (p.y b) (base t p b)) (both (says_le 1 (length (children t b))) (says_share s e (base t p b +ℤ pos 1) (bottom t p b))))
       there back
     where
       there : Shared s e (p.y b) (base t p b) ⊎ ((1 ≤ length (children t b)) × Shared s e (base t p b +ℤ pos 1) (bottom t p b)) → Meets s e b
@@ -68,16 +68,16 @@ module _ (t : Table) (p : Placement) where
       back : Meets s e b → Shared s e (p.y b) (base t p b) ⊎ ((1 ≤ length (children t b)) × Shared s e (base t p b +ℤ pos 1) (bottom t p b))
       back m = turn m.row m.low m.high m.on
 
-  says-box : (a b : ℕ) → Says (box4 t p a b) ((ρ : ℤ) → Box t p b ρ ⊎ Stem t p b ρ → Box t p a ρ → right t p a <ℤ p.x b)
+  says_box : (a b : ℕ) → Says (box4 t p a b) ((ρ : ℤ) → Box t p b ρ ⊎ Stem t p b ρ → Box t p a ρ → right t p a <ℤ p.x b)
   unfolding box4
-  says-box a b =
+  says_box a b =
       that_is (whenever (says_meets (p.y a) (base t p a) b) (says_lt_z (right t p a) (p.x b)))
       (λ h ρ k q. h (record { row = ρ; low = q.top; high = q.low; on = k }))
       (λ h m. h m.row m.on (record { top = m.low; low = m.high }))
 
-  says-stem : (a b : ℕ) → Says (stem4 t p a b) ((ρ : ℤ) → Box t p b ρ ⊎ Stem t p b ρ → Stem t p a ρ → p.x a <ℤ p.x b)
+  says_stem : (a b : ℕ) → Says (stem4 t p a b) ((ρ : ℤ) → Box t p b ρ ⊎ Stem t p b ρ → Stem t p a ρ → p.x a <ℤ p.x b)
   unfolding stem4
-  says-stem a b =
+  says_stem a b =
       that_is (whenever (both (says_le 1 (length (children t a))) (says_meets (base t p a +ℤ pos 1) (bottom t p a) b)) (says_lt_z (p.x a) (p.x b)))
       (λ h ρ k q. h (q.bears, record { row = ρ; low = q.top; high = q.low; on = k }))
       (λ h m. h m.1.row m.1.on (record { bears = m.0; top = m.1.low; low = m.1.high }))
@@ -96,7 +96,7 @@ module _ (t : Table) (p : Placement) where
       (λ h. (λ u k w. h.0 (record { at = u; there = w; passes = k }), λ v k w. h.1 (record { at = v; there = w; passes = k })))
       (λ h. (λ k. h.0 k.at k.passes k.there, λ k. h.1 k.at k.passes k.there))
   says al (suc (suc (suc (suc zero)))) a b =
-      that_is (whenever (itself (earlier t a b)) (both (says-box a b) (says-stem a b)))
+      that_is (whenever (itself (earlier t a b)) (both (says_box a b) (says_stem a b)))
       (λ h k ρ q. ((h k).0 ρ q, (h k).1 ρ q)) (λ h k. (λ ρ q. (h k ρ q).0, λ ρ q. (h k ρ q).1))
   says al (suc (suc (suc (suc (suc zero))))) a b = whenever (itself (earlier t a b)) (says_le_z _ _)
   says al (suc (suc (suc (suc (suc (suc r)))))) a b = itself true

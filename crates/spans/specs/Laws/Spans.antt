@@ -11,7 +11,7 @@ use Rattle.plan.specs.Laws.Lists.{at_less, at_get_or, Some, says_some}
 use Rattle.plan.specs.Plan.{Table, Is, Sound, parent, children, path, within, next, earlier}
 use Rattle.plan.specs.Laws.Plan.{child-read, child_show}
 use Rattle.plan.specs.Laws.Paths.{Below, within-below}
-use Rattle.plan.specs.Laws.Siblings.{Earlier, says-earlier, Neighbours, says-next}
+use Rattle.plan.specs.Laws.Siblings.{Earlier, says_earlier, Neighbours, says_next}
 use Rattle.rules.specs.Tests.{after_one, before_one}
 use Rattle.spans.specs.Laws.Kin.{Kin, kin}
 use Rattle.spans.specs.Spans.{Spans}
@@ -49,8 +49,8 @@ module _ (t : Table) (sound : Sound t) {first end from to : ℕ → ℕ} (sp : S
       omega (arith, (inside e.p a i e.a_under).high, (inside e.q b j e.b_under).low, apart e.elder.c o.i o.j e.p e.q o.less o.first o.second)
 
   -- ---- at or below
-  pub says-within : (c a : ℕ) → Is t c → Is t a → Says (leb (first c) (first a) && ltb (first a) (end c)) (T (within t c a))
-  says-within c a i j = that_is (both (says_le (first c) (first a)) (says_lt (first a) (end c))) (λ h. go h.0 h.1 (kin t sound c a i j)) back
+  pub says_within : (c a : ℕ) → Is t c → Is t a → Says (leb (first c) (first a) && ltb (first a) (end c)) (T (within t c a))
+  says_within c a i j = that_is (both (says_le (first c) (first a)) (says_lt (first a) (end c))) (λ h. go h.0 h.1 (kin t sound c a i j)) back
     where
       go : first c ≤ first a → first a < end c → Kin t c a → T (within t c a)
       go l h (Kin.above k) = k
@@ -67,12 +67,12 @@ module _ (t : Table) (sound : Sound t) {first end from to : ℕ → ℕ} (sp : S
   -- no two cells begin at one number
   pub first-once : (a b : ℕ) → Is t a → Is t b → first a ≡ first b → a ≡ b
   first-once a b i j e =
-      let w : T (within t a b) = (says-within a b i j).read ((both (says_le (first a) (first b)) (says_lt (first b) (end a))).show (omega arith, omega (arith, sp.some a i))) in
+      let w : T (within t a b) = (says_within a b i j).read ((both (says_le (first a) (first b)) (says_lt (first b) (end a))).show (omega arith, omega (arith, sp.some a i))) in
       elim (inside a b j w).strict [ inl q ↦ sym q | inr m ↦ absurd (omega arith) ]
 
   -- ---- earlier
   pub earlier-is : (a b : ℕ) → Is t a → Is t b → leb (end a) (first b) ≡ earlier t a b
-  earlier-is a b i j = same_test (that_is (says_le (end a) (first b)) (λ h. go h (kin t sound a b i j)) (earlier_apart a b i j)) (says-earlier t a b)
+  earlier-is a b i j = same_test (that_is (says_le (end a) (first b)) (λ h. go h (kin t sound a b i j)) (earlier_apart a b i j)) (says_earlier t a b)
     where
       go : end a ≤ first b → Kin t a b → Earlier t a b
       go h (Kin.above k) = absurd (omega (arith, (inside a b j k).high, sp.some b j))
@@ -84,15 +84,15 @@ module _ (t : Table) (sound : Sound t) {first end from to : ℕ → ℕ} (sp : S
   pub after_one-is : (a b : ℕ) → Is t a → Is t b → (leb (from b) (first a) && ltb (first a) (first b)) ≡ after_one t a b
   unfolding after_one within
   after_one-is a b i j =
-      same_test (that_is (both (says_le (from b) (first a)) (says_lt (first a) (first b))) (λ h. there b j h.0 h.1) (λ s. back s.at s.there ((says-next t s.at b).read s.passes)))
+      same_test (that_is (both (says_le (from b) (first a)) (says_lt (first a) (first b))) (λ h. there b j h.0 h.1) (λ s. back s.at s.there ((says_next t s.at b).read s.passes)))
       (says_some (λ u. next t u b) (path t a))
     where
       found : (c k u b : ℕ) → At (children t c) k u → At (children t c) (suc k) b → from b ≤ first a → first a < first b → Some (λ u. next t u b) (path t a)
       found c k u b h g l m =
           let e = sp.elder c k u b h g in
           let f = sp.beside c k u b h g in
-          let w : T (within t u a) = (says-within u a (child-read t c k u h).is i).read ((both (says_le (first u) (first a)) (says_lt (first a) (end u))).show (omega arith, omega arith)) in
-          record { at = u; there = w; passes = (says-next t u b).show (record { c = c; order = record { i = k; first = h; second = g } }) }
+          let w : T (within t u a) = (says_within u a (child-read t c k u h).is i).read ((both (says_le (first u) (first a)) (says_lt (first a) (end u))).show (omega arith, omega arith)) in
+          record { at = u; there = w; passes = (says_next t u b).show (record { c = c; order = record { i = k; first = h; second = g } }) }
 
       placed : (c k b : ℕ) → At (children t c) k b → from b ≤ first a → first a < first b → Some (λ u. next t u b) (path t a)
       placed c zero b h l m = absurd (omega (arith, sp.eldest c b h))
@@ -116,15 +116,15 @@ module _ (t : Table) (sound : Sound t) {first end from to : ℕ → ℕ} (sp : S
   pub before_one-is : (a b : ℕ) → Is t a → Is t b → (leb (end a) (first b) && ltb (first b) (to a)) ≡ before_one t a b
   unfolding before_one within
   before_one-is a b i j =
-      same_test (that_is (both (says_le (end a) (first b)) (says_lt (first b) (to a))) (λ h. there a i h.0 h.1) (λ s. back s.at s.there ((says-next t a s.at).read s.passes)))
+      same_test (that_is (both (says_le (end a) (first b)) (says_lt (first b) (to a))) (λ h. there a i h.0 h.1) (λ s. back s.at s.there ((says_next t a s.at).read s.passes)))
       (says_some (λ v. next t a v) (path t b))
     where
       found : (c k a v : ℕ) → At (children t c) k a → At (children t c) (suc k) v → end a ≤ first b → first b < to a → Some (λ v. next t a v) (path t b)
       found c k a v h g l m =
           let e = sp.younger c k a v h g in
           let f = sp.beside c k a v h g in
-          let w : T (within t v b) = (says-within v b (child-read t c (suc k) v g).is j).read ((both (says_le (first v) (first b)) (says_lt (first b) (end v))).show (omega arith, omega arith)) in
-          record { at = v; there = w; passes = (says-next t a v).show (record { c = c; order = record { i = k; first = h; second = g } }) }
+          let w : T (within t v b) = (says_within v b (child-read t c (suc k) v g).is j).read ((both (says_le (first v) (first b)) (says_lt (first b) (end v))).show (omega arith, omega arith)) in
+          record { at = v; there = w; passes = (says_next t a v).show (record { c = c; order = record { i = k; first = h; second = g } }) }
 
       placed : (c k a : ℕ) → At (children t c) k a → Dec (suc k < length (children t c)) → end a ≤ first b → first b < to a → Some (λ v. next t a v) (path t b)
       placed c k a h (yes d) l m = found c k a (get_or (children t c) (suc k) 0) h (at_get_or (children t c) (suc k) 0 d) l m

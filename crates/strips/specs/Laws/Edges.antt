@@ -8,8 +8,8 @@ use Rattle.plan.specs.Limits.{between}
 use Rattle.plan.specs.Lists.{some, from}
 use Rattle.strips.specs.Picture.{column, edge}
 
-pub says-between : (a b c : ℕ) → Says (between a b c) ((a ≤ c) × (c ≤ b))
-says-between a b c = both (says_le a c) (says_le c b)
+pub says_between : (a b c : ℕ) → Says (between a b c) ((a ≤ c) × (c ≤ b))
+says_between a b c = both (says_le a c) (says_le c b)
 
 -- ---- one column
 pub one_place : (k i j : ℕ) → j < 8 → (eqb i (k / 8) && eqb j (k % 8)) ≡ eqb (column i j) k
@@ -26,7 +26,7 @@ module _ (lo hi i j : ℕ) (h : j < 8) where
   pub run_inside : lo / 8 ≡ hi / 8 → (eqb i (lo / 8) && (leb (lo % 8) j && leb j (hi % 8))) ≡ between lo hi (column i j)
   run_inside e =
       same_test (both (says_eq i (lo / 8)) (both (says_le (lo % 8) j) (says_le j (hi % 8))))
-      (that_is (says-between lo hi (column i j)) (λ q. (omega (arith, q.0, q.1), (omega (arith, q.0, q.1), omega (arith, q.0, q.1)))) (λ q. (omega (arith, q.0, q.1.0), omega (arith, q.0, q.1.1))))
+      (that_is (says_between lo hi (column i j)) (λ q. (omega (arith, q.0, q.1), (omega (arith, q.0, q.1), omega (arith, q.0, q.1)))) (λ q. (omega (arith, q.0, q.1.0), omega (arith, q.0, q.1.1))))
 
   -- over more than one byte: the first, those between, and the last
   pub run-across : lo / 8 < hi / 8
@@ -34,7 +34,7 @@ module _ (lo hi i j : ℕ) (h : j < 8) where
   run-across l =
       same_test
       (either (either (both (says_eq i (lo / 8)) (says_le (lo % 8) j)) (both (says_le (lo / 8 + 1) i) (says_lt i (hi / 8)))) (both (says_eq i (hi / 8)) (says_le j (hi % 8))))
-      (that_is (says-between lo hi (column i j)) onto back)
+      (that_is (says_between lo hi (column i j)) onto back)
     where
       back : Parts lo hi i j → (lo ≤ column i j) × (column i j ≤ hi)
       back (inl (inl q)) = (omega (arith, q.0, q.1), omega (arith, q.0, q.1))
@@ -53,16 +53,16 @@ module _ (lo hi i j : ℕ) (h : j < 8) where
 module _ (first a b c : ℕ) where
   pub shift-inside : first ≤ a → first ≤ b → between (a - first) (b - first) c ≡ between a b (first + c)
   shift-inside h k =
-      same_test (says-between (a - first) (b - first) c)
-      (that_is (says-between a b (first + c)) (λ q. (omega (arith, q.0, q.1), omega (arith, q.0, q.1))) (λ q. (omega (arith, q.0, q.1), omega (arith, q.0, q.1))))
+      same_test (says_between (a - first) (b - first) c)
+      (that_is (says_between a b (first + c)) (λ q. (omega (arith, q.0, q.1), omega (arith, q.0, q.1))) (λ q. (omega (arith, q.0, q.1), omega (arith, q.0, q.1))))
 
   pub shift_cut : a < first → first ≤ b → between 0 (b - first) c ≡ between a b (first + c)
   shift_cut h k =
-      same_test (says-between 0 (b - first) c)
-      (that_is (says-between a b (first + c)) (λ q. (omega (arith, q.0, q.1), omega (arith, q.0, q.1))) (λ q. (omega (arith, q.0, q.1), omega (arith, q.0, q.1))))
+      same_test (says_between 0 (b - first) c)
+      (that_is (says_between a b (first + c)) (λ q. (omega (arith, q.0, q.1), omega (arith, q.0, q.1))) (λ q. (omega (arith, q.0, q.1), omega (arith, q.0, q.1))))
 
   pub shift_out : b < first → false ≡ between a b (first + c)
-  shift_out h = sym (is_false (says-between a b (first + c)) (λ q. omega (arith, q.0, q.1)))
+  shift_out h = sym (is_false (says_between a b (first + c)) (λ q. omega (arith, q.0, q.1)))
 
 pub one_shift : (first a c : ℕ) → first ≤ a → eqb c (a - first) ≡ eqb (first + c) a
 one_shift first a c h = same_test (says_eq c (a - first)) (that_is (says_eq (first + c) a) (λ e. omega arith) (λ e. omega arith))
@@ -77,9 +77,9 @@ Edge x y w d c r =
     ⊎ (((r ≡ y) ⊎ (r ≡ y + d)) × ((x ≤ c) × (c ≤ x + w)))
 
 module _ (x y w d c r : ℕ) where
-  pub says-edge : Says (edge x y w d c r) (Edge x y w d c r)
+  pub says_edge : Says (edge x y w d c r) (Edge x y w d c r)
   unfolding edge
-  says-edge =
+  says_edge =
       either (both (either (says_eq c x) (says_eq c (x + w))) (both (says_le y r) (says_le r (y + d))))
       (both (either (says_eq r y) (says_eq r (y + d))) (both (says_le x c) (says_le c (x + w))))
 
@@ -94,19 +94,19 @@ module _ (x y w d c r : ℕ) where
   columns_of (inl (inr e, q)) = (omega arith, omega arith)
 
   pub edge-above : r < y → false ≡ edge x y w d c r
-  edge-above h = sym (is_false says-edge (λ q. omega (arith, (rows_of q).0)))
+  edge-above h = sym (is_false says_edge (λ q. omega (arith, (rows_of q).0)))
 
   pub edge-below : y + d < r → false ≡ edge x y w d c r
-  edge-below h = sym (is_false says-edge (λ q. omega (arith, (rows_of q).1)))
+  edge-below h = sym (is_false says_edge (λ q. omega (arith, (rows_of q).1)))
 
   pub edge-top : r ≡ y → between x (x + w) c ≡ edge x y w d c r
-  edge-top h = same_test (says-between x (x + w) c) (that_is says-edge columns_of (λ q. inr (inl h, q)))
+  edge-top h = same_test (says_between x (x + w) c) (that_is says_edge columns_of (λ q. inr (inl h, q)))
 
   pub edge-base : r ≡ y + d → between x (x + w) c ≡ edge x y w d c r
-  edge-base h = same_test (says-between x (x + w) c) (that_is says-edge columns_of (λ q. inr (inr h, q)))
+  edge-base h = same_test (says_between x (x + w) c) (that_is says_edge columns_of (λ q. inr (inr h, q)))
 
   pub edge_sides : y ≤ r → r ≤ y + d → ¬ (r ≡ y) → ¬ (r ≡ y + d) → (eqb c x || eqb c (x + w)) ≡ edge x y w d c r
-  edge_sides h k m n = same_test (either (says_eq c x) (says_eq c (x + w))) (that_is says-edge onto (λ q. inl (q, (h, k))))
+  edge_sides h k m n = same_test (either (says_eq c x) (says_eq c (x + w))) (that_is says_edge onto (λ q. inl (q, (h, k))))
     where
       onto : Edge x y w d c r → (c ≡ x) ⊎ (c ≡ x + w)
       onto (inl q) = q.0

@@ -15,19 +15,19 @@ use Rattle.raster.specs.Points.{on_box, printed, dot}
 use Rattle.raster.specs.Boundary.{On, OnSome}
 
 module _ (t : Table) (p : Placement) (χ ρ : ℤ) where
-  says-on_box : (a : ℕ) → Says (on_box t p χ ρ a) (On t p χ ρ a)
+  says_on_box : (a : ℕ) → Says (on_box t p χ ρ a) (On t p χ ρ a)
   unfolding on_box
-  says-on_box a =
+  says_on_box a =
       either (both (either (says_eq_z χ (p.x a)) (says_eq_z χ (right t p a))) (both (says_le_z (p.y a) ρ) (says_le_z ρ (base t p a))))
       (both (either (says_eq_z ρ (p.y a)) (says_eq_z ρ (base t p a))) (both (says_le_z (p.x a) χ) (says_le_z χ (right t p a))))
 
   -- "exactly if that lattice point is on the boundary of some box"
-  pub says-printed : Says (printed t p χ ρ) (OnSome t p χ ρ)
+  pub says_printed : Says (printed t p χ ρ) (OnSome t p χ ρ)
   unfolding printed
-  says-printed =
+  says_printed =
       that_is (says_some (on_box t p χ ρ) (cells t))
-      (λ s. record { cell = s.at; is = cells-read t s.at s.there; on = (says-on_box s.at).read s.passes })
-      (λ o. record { at = o.cell; there = cells_show t o.cell o.is; passes = (says-on_box o.cell).show o.on })
+      (λ s. record { cell = s.at; is = cells-read t s.at s.there; on = (says_on_box s.at).read s.passes })
+      (λ o. record { at = o.cell; there = cells_show t o.cell o.is; passes = (says_on_box o.cell).show o.on })
 
   -- a box's boundary lies in its columns and in its rows
   on-column : (a : ℕ) → On t p χ ρ a → χ ≤ℤ right t p a
@@ -46,7 +46,7 @@ module _ (t : Table) (p : Placement) (χ ρ : ℤ) where
 pub dot-beyond : (t : Table) (p : Placement) (row c : ℕ) → width t p <ℤ pos c → dot t p row c ≡ false
 unfolding dot width left
 dot-beyond t p row c h =
-    is_false (says-printed t p _ _)
+    is_false (says_printed t p _ _)
     (λ s.
     let k = on-column t p _ _ s.cell s.on in
     let m = most-all (right t p) (right t p 0) (cells t) s.cell (cells_show t s.cell s.is) in
@@ -56,7 +56,7 @@ dot-beyond t p row c h =
 pub dot-below : (t : Table) (p : Placement) → Sound t → (row c : ℕ) → rows t p ≤ℤ pos row → dot t p row c ≡ false
 unfolding dot rows bottom
 dot-below t p sound row c h =
-    is_false (says-printed t p _ _)
+    is_false (says_printed t p _ _)
     (λ s.
     let k = on_row t p _ _ s.cell s.on in
     let m = most-all (base t p) (base t p 0) (subtree t 0) s.cell (subtree_show t 0 s.cell s.is (below-within t sound (below_root t sound s.cell s.is))) in

@@ -17,12 +17,12 @@ use Rattle.raster.specs.Boundary.{OnSome}
 use Rattle.raster.specs.Strip.{digit, strip_of}
 use Rattle.raster.specs.Laws.Bytes.{strip_bit, strip_cut}
 use Rattle.strips.specs.Stripped.{bytes_after, Strips}
-use Rattle.strips.specs.Laws.Points.{says-printed, dot-beyond, dot-below}
+use Rattle.strips.specs.Laws.Points.{says_printed, dot-beyond, dot-below}
 
 -- a digit that is 1
-digit-says : {b : Bool} {P : Type 0} → Says b P → (digit b ≡ 1) ↔ P
-digit-says {b = true} s = (λ e. s.read tt, λ h. refl)
-digit-says {b = false} s = (λ e. absurd (omega arith), λ h. absurd (s.show h))
+digit_says : {b : Bool} {P : Type 0} → Says b P → (digit b ≡ 1) ↔ P
+digit_says {b = true} s = (λ e. s.read tt, λ h. refl)
+digit_says {b = false} s = (λ e. absurd (omega arith), λ h. absurd (s.show h))
 
 module _ (t : Table) (ps : List ℤ) (row first : ℕ) (bs bs' : List ℕ) (r : Refusal) (g : Strips t ps row first bs bs' r) where
   abbrev why : Refusal
@@ -52,7 +52,7 @@ module _ (t : Table) (ps : List ℤ) (row first : ℕ) (bs bs' : List ℕ) (r : 
       -- "A bit is set exactly if that lattice point is on the boundary of some box"
       pub sets : (get_or bs' i 0 / 2 ^ (7 - j) % 2 ≡ 1) ↔ OnSome t (placed ps) (left t (placed ps) +ℤ pos (first + (8 * i + j))) (pos row)
       unfolding dot
-      sets = rw bit (digit-says (says-printed t (placed ps) _ _))
+      sets = rw bit (digit_says (says_printed t (placed ps) _ _))
 
       -- "Points outside the sheet give 0"
       pub beyond : width t (placed ps) <ℤ pos (first + (8 * i + j)) → get_or bs' i 0 / 2 ^ (7 - j) % 2 ≡ 0

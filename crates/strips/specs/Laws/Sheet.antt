@@ -22,7 +22,7 @@ use Rattle.raster.specs.Points.{on_box, printed, dot}
 use Rattle.raster.specs.Strip.{strip_of}
 use Rattle.strips.specs.Laws.Paint.{painted_same, painted_bytes}
 use Rattle.strips.specs.Picture.{Picture, Painted, Paints, cell_in}
-use Rattle.strips.specs.Laws.Edges.{says-edge, some_more}
+use Rattle.strips.specs.Laws.Edges.{says_edge, some_more}
 
 -- ---- the boundary of one box: each test over whole numbers says what the test over natural numbers says
 module _ (X : ℤ) (wx : InRange farthest X) (l : ℕ) (low : l ≤ bias farthest X) (L : ℤ) (is : L ≡ pos l -ℤ pos farthest) (w c : ℕ) where
@@ -94,7 +94,7 @@ module _ (t : Columns) (ps : List ℤ) (near : Near ps t.count) (l : ℕ) (lm : 
       let low = left_low ps t.count near l lm a h in
       let lis = left_is t ps l lm in
       rw (width_is t a h, depth_is t a h)
-      (same_test (says-edge (x_up ps a - l) (y_up ps a) (get_or t.width a 0) (get_or t.depth a 0) c (row + farthest))
+      (same_test (says_edge (x_up ps a - l) (y_up ps a) (get_or t.width a 0) (get_or t.depth a 0) c (row + farthest))
       (either
       (both (either (at_x X wx l low L lis (get_or t.width a 0) c) (at_right X wx l low L lis (get_or t.width a 0) c)) (both (from-y Y wy (get_or t.depth a 0) row) (to_base Y wy (get_or t.depth a 0) row)))
       (both (either (at_y Y wy (get_or t.depth a 0) row) (at_base Y wy (get_or t.depth a 0) row)) (both (from-x X wx l low L lis (get_or t.width a 0) c) (to_right X wx l low L lis (get_or t.width a 0) c)))))

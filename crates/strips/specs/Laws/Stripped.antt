@@ -25,10 +25,10 @@ accepted t ps q e z =
     (h.fit, subst (λ (n : ℕ). Near ps n) (length-is t) (near-accepted ps (length (table_of t)) h.room near))
 
 module _ (t : Table) (ps : List ℤ) (row first : ℕ) (q : Refusal) (e : q ≡ refusal strip (strip_given t ps)) where
-  pub refused-leaves : (bs : List ℕ) → ¬ (q.number ≡ 0) → Strips t ps row first bs bs q
+  pub refused_leaves : (bs : List ℕ) → ¬ (q.number ≡ 0) → Strips t ps row first bs bs q
   unfolding bytes_after
-  refused-leaves bs h = record { answers = e; bytes = rw (ne_eqb q.number 0 h) }
+  refused_leaves bs h = record { answers = e; bytes = rw (ne_eqb q.number 0 h) }
 
-  pub drawn-leaves : (bs cs : List ℕ) → q.number ≡ 0 → cs ≡ strip_of t (placed ps) row first (length bs) → Strips t ps row first bs cs q
+  pub drawn_leaves : (bs cs : List ℕ) → q.number ≡ 0 → cs ≡ strip_of t (placed ps) row first (length bs) → Strips t ps row first bs cs q
   unfolding bytes_after
-  drawn-leaves bs cs h d = record { answers = e; bytes = rw (eq-eqb q.number 0 h) d }
+  drawn_leaves bs cs h d = record { answers = e; bytes = rw (eq-eqb q.number 0 h) d }

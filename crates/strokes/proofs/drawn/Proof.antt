@@ -1,4 +1,4 @@
-use Rattle.strokes.specs.Laws.Raised.{boxed, box-drawn, connector_drawn, connector_cell}
+use Rattle.strokes.specs.Laws.Raised.{boxed, box_drawn, connector_drawn, connector_cell}
 use Rattle.corners.specs.Laws.Corners.{spot}
 use Rattle.plan.specs.Laws.Tables.{count-some, count_few, parent_lower}
 use native.Mathlib.Omega.{arith}
@@ -20,7 +20,7 @@ box-of-requires c κs =
     (lm.low, spot _ _ c.before.before.before.before.before.requires.1 _ (count_few _ c.before.before.before.before.before.requires.0) (omega arith), boxed _ c.before.before.before.before.before.requires.0 _ (omega arith))
 
 returns : tie.Need-returns
-returns c = c.box_of.ensures ∙ box-drawn _ _ _ c.before.before.before.before.before.before.requires.1 _ c.before.before.before.before.before.least_x.ensures _ c.before.before.before.before.if1.true
+returns c = c.box_of.ensures ∙ box_drawn _ _ _ c.before.before.before.before.before.before.requires.1 _ c.before.before.before.before.before.least_x.ensures _ c.before.before.before.before.if1.true
 
 mul-r : tie.Need-overflow-mul-r
 mul-r c = search rules

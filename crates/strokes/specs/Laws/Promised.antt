@@ -16,14 +16,14 @@ use Rattle.strokes.specs.declared.Stroked.TheVariants.{Drawn, Refused}
 use Rattle.strokes.specs.Stroked.{unless, stroked_of}
 use Rattle.strokes.specs.Laws.Stroked.{passed, unless-none}
 
-drawn-is : {a b : Stroke} → Drawn a ≡ Drawn b → a ≡ b
-drawn-is e = cc
+drawn_is : {a b : Stroke} → Drawn a ≡ Drawn b → a ≡ b
+drawn_is e = cc
 
-drawn-refused : {a : Stroke} {k c : ℕ} → ¬ (Drawn a ≡ Refused k c)
-drawn-refused e = let z : ◌≡◌ {A = ℕ} 0 1 = cc in omega arith
+drawn_refused : {a : Stroke} {k c : ℕ} → ¬ (Drawn a ≡ Refused k c)
+drawn_refused e = let z : ◌≡◌ {A = ℕ} 0 1 = cc in omega arith
 
-unless-drawn : (r : Refusal) (a d : Stroke) → r.number ≡ 0 → unless r a ≡ Drawn d → d ≡ a
-unless-drawn r a d z e = sym (drawn-is (unless-none r r a a refl z refl ∙ e))
+unless_drawn : (r : Refusal) (a d : Stroke) → r.number ≡ 0 → unless r a ≡ Drawn d → d ≡ a
+unless_drawn r a d z e = sym (drawn_is (unless-none r r a a refl z refl ∙ e))
 
 module _ (t : Table) (ps : List ℤ) (g : Page) (s : ℕ) where
   pub refuses : ¬ ((refusal stroke (stroke_given t ps g s)).number ≡ 0)
@@ -42,6 +42,6 @@ module _ (t : Table) (ps : List ℤ) (g : Page) (s : ℕ) where
       go : Dec ((refusal stroke (stroke_given t ps g s)).number ≡ 0) → T (finite_stroke d)
       go (yes z) =
           let h = passed t ps g s z in
-          let k = unless-drawn (refusal stroke (stroke_given t ps g s)) (get_or (strokes t (placed ps) g) s Lift) d z (unfold stroked_of in e) in
+          let k = unless_drawn (refusal stroke (stroke_given t ps g s)) (get_or (strokes t (placed ps) g) s Lift) d z (unfold stroked_of in e) in
           rw k (strokes_finite t (placed ps) g h.fit (unfold placed in h.near.x) (unfold placed in h.near.y) h.page s)
-      go (no z) = absurd (drawn-refused (sym e ∙ refuses z))
+      go (no z) = absurd (drawn_refused (sym e ∙ refuses z))

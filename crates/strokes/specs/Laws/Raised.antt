@@ -73,9 +73,9 @@ module _ (t : Columns) (ps : List ℤ) (g : Page) (near : Near ps t.count) (l : 
       )
 
   -- number s, as the code finds it
-  pub box-drawn : (s : ℕ) → s < 6 * t.count
+  pub box_drawn : (s : ℕ) → s < 6 * t.count
       → get_or (box_of g l t.width t.depth ps (s / 6)) (s % 6) Lift ≡ get_or (strokes (table_of t) (placed ps) g) s Lift
-  box-drawn s h =
+  box_drawn s h =
       let k : s < 6 * length (table_of t) = omega (arith, length-is t) in
       rw (box-same (s / 6) (omega arith)) (sym (box-number (table_of t) (placed ps) g Lift s k))
 

@@ -13,7 +13,7 @@ use Rattle.plan.specs.Laws.Lists.{at_less, at_get_or, Some, says_some, Ahead}
 use Rattle.plan.specs.Plan.{Table, Is, Sound, kind, children, child, appointed, path, within, next, earlier, Child}
 use Rattle.plan.specs.Laws.Plan.{child-read, appointed-at, appointed-within}
 use Rattle.plan.specs.Laws.Paths.{below_split, within-below, within-self, child_less}
-use Rattle.plan.specs.Laws.Siblings.{Earlier, says-earlier, Neighbours, says-next}
+use Rattle.plan.specs.Laws.Siblings.{Earlier, says_earlier, Neighbours, says_next}
 use Rattle.rules.specs.Placement.{Placement}
 use Rattle.rules.specs.Tests.{after_one, before_one}
 use Rattle.spans.specs.Laws.Spans.{earlier-is, after_one-is, before_one-is}
@@ -93,7 +93,7 @@ module _ (t : Table) (p : Placement) (s : Sights) (sound : Sound t) (g : Sees t 
         (λ q. omega (arith, g.spans.beside c i u v k m, g.spans.some u iu, ap (λ (z : ℕ). (s z).first) q))
 
     neighbours : (u v : ℕ) → T (next t u v) → Parted s al high low u v
-    neighbours u v k = let e : Neighbours t u v = (says-next t u v).read k in beside e.c e.order.i u v e.order.first e.order.second
+    neighbours u v k = let e : Neighbours t u v = (says_next t u v).read k in beside e.c e.order.i u v e.order.first e.order.second
 
     ends : (a b : ℕ) → Is t a → Is t b → Ends (s a) (s b)
     unfolding after_one within
@@ -130,7 +130,7 @@ module _ (t : Table) (p : Placement) (s : Sights) (sound : Sound t) (g : Sees t 
     five : (a b : ℕ) → Is t a → Is t b → (s a).end ≤ (s b).first → (s a).right + 1 ≤ (s b).x + al
     five a b i j l =
         let k : T (earlier t a b) = subst (λ (z : Bool). T z) (earlier-is t sound g.spans a b i j) ((says_le (s a).end (s b).first).show l) in
-        go ((says-earlier t a b).read k)
+        go ((says_earlier t a b).read k)
       where
         go : Earlier t a b → (s a).right + 1 ≤ (s b).x + al
         go e = step (dec_lt (suc o.i) o.j)

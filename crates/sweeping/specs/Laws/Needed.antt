@@ -8,11 +8,11 @@ use Rattle.plan.specs.Laws.Lists.{at_less, at_get_or, at_same}
 use Rattle.plan.specs.Plan.{Table, Is, Sound, parent, children, within}
 use Rattle.plan.specs.Laws.Plan.{child-read, child_show}
 use Rattle.plan.specs.Laws.Paths.{Below, below_split, below-within, within-below, within-self, within-child, within_suc}
-use Rattle.plan.specs.Laws.Siblings.{Earlier, says-earlier}
+use Rattle.plan.specs.Laws.Siblings.{Earlier, says_earlier}
 use Rattle.rules.specs.Placement.{Placement}
 use Rattle.spans.specs.Spans.{Reaches}
 use Rattle.spans.specs.Laws.Kin.{Kin, kin, within_trans}
-use Rattle.spans.specs.Laws.Spans.{says-within, earlier-is, first-once}
+use Rattle.spans.specs.Laws.Spans.{says_within, earlier-is, first-once}
 use Rattle.looking_sights.specs.Sights.{Sights}
 use Rattle.looking.specs.Passes.{pass1, pass2, passes}
 use Rattle.looking_sights.specs.Sees.{Sees}
@@ -22,10 +22,10 @@ use Rattle.sweeping.specs.Laws.Kept.{says1, says2, says3, says4, says5, Ends, St
 module _ (t : Table) (p : Placement) (s : Sights) (sound : Sound t) (g : Sees t p s) where
   -- ---- where two cells stand
   inside : (c a : ℕ) → Is t c → Is t a → T (within t c a) → ((s c).first ≤ (s a).first) × ((s a).first < (s c).end)
-  inside c a i j w = (both (says_le (s c).first (s a).first) (says_lt (s a).first (s c).end)).read ((says-within t sound g.spans c a i j).show w)
+  inside c a i j w = (both (says_le (s c).first (s a).first) (says_lt (s a).first (s c).end)).read ((says_within t sound g.spans c a i j).show w)
 
   apart : (a b : ℕ) → Is t a → Is t b → Earlier t a b → (s a).end ≤ (s b).first
-  apart a b i j e = (says_le (s a).end (s b).first).read (subst (λ (z : Bool). T z) (sym (earlier-is t sound g.spans a b i j)) ((says-earlier t a b).show e))
+  apart a b i j e = (says_le (s a).end (s b).first).read (subst (λ (z : Bool). T z) (sym (earlier-is t sound g.spans a b i j)) ((says_earlier t a b).show e))
 
   siblings : (f i j u v a b : ℕ) → i < j → At (children t f) i u → At (children t f) j v → Is t a → Is t b → T (within t u a) → T (within t v b) → (s a).end ≤ (s b).first
   siblings f i j u v a b l h k m n w z =

@@ -12,7 +12,7 @@ use Rattle.plan.specs.Laws.Plan.{child-read, child_show}
 use Rattle.plan.specs.Fit.{Fit}
 use Rattle.rules.specs.Placement.{Placement}
 use Rattle.spans.specs.Spans.{at, Numbered, Reaches, Deepest}
-use Rattle.spans.specs.Laws.Spans.{says-within, first-once}
+use Rattle.spans.specs.Laws.Spans.{says_within, first-once}
 use Rattle.looking_sights.specs.Sights.{Sights, Sighted}
 use Rattle.looking_sights.specs.Sees.{Sees, Looked}
 use Rattle.sweeping.specs.Swept.{Has, Ready, Alone, top, Extremes, Small, Rows}
@@ -35,7 +35,7 @@ module _ (t : Table) (p : Placement) (s : Sights) (sound : Sound t) (some : Is t
       placed (parent t (suc m)) k (suc m) h
 
   first_less : (c : ℕ) → Is t c → (s c).first < (s 0).end
-  first_less c i = ((both (says_le (s 0).first (s c).first) (says_lt (s c).first (s 0).end)).read ((says-within t sound g.spans 0 c some i).show (below-within t sound (below_root t sound c i)))).1
+  first_less c i = ((both (says_le (s 0).first (s c).first) (says_lt (s c).first (s 0).end)).read ((says_within t sound g.spans 0 c some i).show (below-within t sound (below_root t sound c i)))).1
 
 pub ready : (t : Table) (p : Placement) (s : Sights) → Fit t → Looked t p s → Sighted s (length t) → Ready s (length t)
 ready t p s fit l h = record {

@@ -10,7 +10,7 @@ use Rattle.rows.specs.Rows.{row_size, extent, Low}
 use Rattle.rows.specs.Laws.Rows.{Column, column, left, right, left_off, right_off, other}
 use Rattle.folding.specs.Laws.Fold.{Tally, fresh, add, boxed}
 use Rattle.folding.specs.Laws.Lists.{get_greatest, get_past, length-box}
-use Rattle.folding.specs.Laws.Held.{Held, held-fresh, add_tall, box-fits}
+use Rattle.folding.specs.Laws.Held.{Held, held_fresh, add_tall, box-fits}
 use Rattle.joining.specs.Joining.{Memory, memory_of, mark, finished}
 use Rattle.joining_cells.specs.Laws.Numbers.{low_rows}
 use Rattle.joining_cells.specs.Laws.Marks.{low_marks, low_four}
@@ -84,7 +84,7 @@ open_shows b xs ms f v u m a n i c k h fine z =
     record {
       size = h.size;
       many = h.many;
-      held = held-fresh k;
+      held = held_fresh k;
       room = omega (arith, fine.low);
       left = λ j. nil j (2 * suc v) (omega arith) (omega (arith, fine.shallow));
       right = λ j. nil j (2 * suc v + 1) (omega arith) (omega (arith, fine.shallow));

@@ -18,7 +18,7 @@ use Rattle.rows.specs.Laws.Rows.{box_to-length, box-left, box-right, box-above, 
 use Rattle.folding.specs.Laws.Fold.{Tally, fresh, boxed, partial}
 use Rattle.folding.specs.Laws.Folded.{partial-none, partial-box, partial-middle}
 use Rattle.folding.specs.Laws.Lists.{get_past}
-use Rattle.folding.specs.Laws.Held.{held-fresh, box-fits}
+use Rattle.folding.specs.Laws.Held.{held_fresh, box-fits}
 use Rattle.joining.specs.Joining.{Memory, memory_of, mark, height, completed}
 use Rattle.joining_cells.specs.Laws.Marks.{low_marks, low_four}
 use Rattle.joining_cells.specs.Laws.Complete.{Under, Complete, complete, completing, height-is, left_tall, right_tall}
@@ -159,7 +159,7 @@ module _ (t : Table) (b : Chart) (su : Suits t b) (xs ms : List ℕ) (lx : scrat
       record {
         size = lx;
         many = lm;
-        held = held-fresh appointed;
+        held = held_fresh appointed;
         room = omega (arith, su.deep_of 0 root_is, su.fit.rows_few 0 root_is);
         left = λ j. clear _;
         right = λ j. clear _;

@@ -4,6 +4,6 @@ use Rattle.whole.specs.Says.{Says}
 use Rattle.whole.specs.Laws.Says.{that_is, both, says_le_z}
 use Rattle.whole.specs.Range.{in_range, InRange}
 
-pub says-within : (far : ℕ) (z : ℤ) → Says (in_range far z) (InRange far z)
+pub says_within : (far : ℕ) (z : ℤ) → Says (in_range far z) (InRange far z)
 unfolding in_range
-says-within far z = that_is (both (says_le_z (neg_ℤ (pos far)) z) (says_le_z z (pos far))) (λ h. record { low = h.0; high = h.1 }) (λ h. (h.low, h.high))
+says_within far z = that_is (both (says_le_z (neg_ℤ (pos far)) z) (says_le_z z (pos far))) (λ h. record { low = h.0; high = h.1 }) (λ h. (h.low, h.high))

@@ -1,6 +1,6 @@
 -- What is asked of positions that hold our sheet, and what is found of them. Assumes nothing.
 use Rattle.std.specs.Prelude.{◌≡◌, refl, Bool, true, false, List, ℕ, ◌≤◌, length, ℤ, ◌≤ℤ◌}
-use Rattle.std.proofs.Common.{sym, ap, ◌∙◌, arith}
+use Rattle.std.proofs.Common.{sym, ◌∙◌, arith}
 use Rattle.whole.specs.Laws.Whole.{whole}
 use Rattle.plan.specs.Limits.{most_allowance}
 use Rattle.plan.specs.Plan.{Table}
@@ -16,10 +16,10 @@ use Rattle.least.specs.Asked.{check-asks}
 use Rattle.least.specs.Demanded.{CheckAsked}
 use Rattle.least.specs.Theorems.{sheet_keeps}
 use Rattle.why_spec.specs.Measures.{extent, across, Demanded}
-use Rattle.why_spec.specs.Search.{because, reason, why}
+use Rattle.why_spec.specs.Links.{Reason}
+use Rattle.why_spec.specs.Search.{because, reason}
 use Rattle.why_spec.specs.Theorems.{width_is, why-found, reason-same}
 use Rattle.why_search.specs.Explains.{told, Chained, Explains}
-use Rattle.why_answers.specs.Laws.Reason.{because-one}
 
 -- where no question of Check's refuses
 module _ (t : Table) (al : ℕ) (ps : List ℤ) (z : refusal check (check_given t al ps) ≡ none) where
@@ -46,17 +46,17 @@ module _ (t : Table) (al : ℕ) (ps : List ℤ) (z : refusal check (check_given 
     narrow : extent (across t) (placed ps) ≤ℤ extent (across t) (sheet t al)
     narrow = rw (width_is t (placed ps), width_is t (sheet t al)) (omega (whole, width_same t (placed ps) (sheet t al) same fit.some_cell))
 
-    -- the search answers with it
-    pub answered : why t al (across t) (placed ps) ≡ because (reason t al (across t) (sheet t al))
-    answered =
-        let f = fit in
-        why-found t f.some_cell f.sound al (across t) Demanded.the_width (placed ps) keeps narrow
-        ∙ ap because (reason-same t f.some_cell f.sound al (across t) Demanded.the_width (placed ps) (sheet t al) (λ c i. (same c i).0))
+    because-one : {r q : Reason} → because r ≡ because q → r ≡ q
+    because-one e = cc
 
     -- the search finds THE reason of our sheet
     pub explained : (found : Bool) (count : ℕ) (cells rules : List ℕ) → Explains t al (placed ps) found count cells rules
         → (found ≡ true) × (reason t al (across t) (sheet t al) ≡ told t al (placed ps) count cells) × Chained t al (placed ps) count cells rules
     explained true count cells rules e =
+        let f = fit in
         let (q, c) = e.yes refl in
-        (refl, because-one (sym answered ∙ q), c)
-    explained false count cells rules e = absurd (let z : ◌≡◌ {A = ℕ} 0 1 = cc (e.no refl, answered) in omega arith)
+        let r = because-one (sym (why-found t f.some_cell f.sound al (across t) Demanded.the_width (placed ps) keeps narrow) ∙ q) in
+        (refl, sym (reason-same t f.some_cell f.sound al (across t) Demanded.the_width (placed ps) (sheet t al) (λ c i. (same c i).0)) ∙ r, c)
+    explained false count cells rules e =
+        let f = fit in
+        absurd (let z : ◌≡◌ {A = ℕ} 0 1 = cc (e.no refl, why-found t f.some_cell f.sound al (across t) Demanded.the_width (placed ps) keeps narrow) in omega arith)

@@ -1,7 +1,7 @@
--- From what Layout writes and the search finds to what Why shows. Nothing that a reader must believe stands here. Assumes nothing.
-use Rattle.std.specs.Prelude.{◌≡◌, List, ℕ, ◌≤◌, length, ℤ}
-use Rattle.std.proofs.Common.{ap, subst}
-use Rattle.plan.specs.Limits.{most_allowance, links_size}
+-- Laws of the definitions in specs/Shows.antt. Assumes nothing.
+use Rattle.std.specs.Prelude.{◌≡◌, refl, Bool, false, List, ℕ, ◌≤◌, length, replicate, ℤ}
+use Rattle.std.proofs.Common.{sym, subst, arith}
+use Rattle.plan.specs.Limits.{most_cells, most_allowance}
 use Rattle.plan.specs.Plan.{Table}
 use Rattle.plan.specs.Fit.{Fit}
 use Rattle.plan.specs.Columns.{table_of}
@@ -14,53 +14,48 @@ use Rattle.rules.specs.Rules.{S1}
 use Rattle.contours.specs.Sheet.{sheet}
 use Rattle.positions.specs.Written.{written}
 use Rattle.positions.specs.Laws.Written.{written_agree}
-use Rattle.why_spec.specs.Measures.{across}
-use Rattle.why_spec.specs.Links.{Reason}
-use Rattle.why_spec.specs.Search.{Answer, because, why}
+use Rattle.why_search.specs.Explains.{Explains}
 use Rattle.layout.specs.Laid.{Lays, positions_after}
 use Rattle.layout.specs.declared.Laid.{Laid}
-use Rattle.layout.specs.declared.Laid.TheVariants as laid
+use Rattle.layout.specs.declared.Laid.TheVariants.{Sheet, Refused}
 use Rattle.layout.specs.Laws.Promised.{promised}
-use Rattle.why_answers.specs.Numbered.{links_written}
-use Rattle.why_answers.specs.Shows.{our_reason, Shows}
-use Rattle.why_answers.specs.declared.Shown.TheVariants.{Because, Refused}
-use Rattle.why_answers.specs.Laws.Shows as shows
-use Rattle.why.specs.declared.Ending.{Ending}
-use Rattle.why.specs.Ending.{ending_of, links_by}
+use Rattle.why.specs.Shows.{Shows}
 use Rattle.why.specs.Laws.Ours as ours
 
 -- where Layout answers with a sheet
-module _ (t : Table) (al : ℕ) (s s' : List ℕ) (ps ps' : List ℤ) (w h : ℕ) (l : Lays t al s s' ps ps' (laid.Sheet w h)) where
-  unrefused : refusal check (check_given t al ps') ≡ none
+module _ (t : Table) (al : ℕ) (s s' : List ℕ) (ps ps' : List ℤ) (w h : ℕ) (l : Lays t al s s' ps ps' (Sheet w h)) where
+  pub unrefused : refusal check (check_given t al ps') ≡ none
   unrefused = (promised t al s s' ps ps' w h l).unrefused
 
-  agrees : Agree t (placed ps') (sheet t al)
+  pub agrees : Agree t (placed ps') (sheet t al)
   unfolding positions_after
   agrees = let e : ps' ≡ written ps (sheet t al) (length t) = l.positions in rw e (written_agree (sheet t al) t ps)
 
-  answered : why t al (across t) (placed ps') ≡ because (our_reason t al)
-  answered = ours.answered t al ps' unrefused agrees
+  pub shows : (found : Bool) (count : ℕ) (cells rules : List ℕ) → Explains t al (placed ps') found count cells rules → Shows t al s s' ps ps' (Sheet w h) found count cells rules
+  shows found count cells rules e =
+      record {
+        lays = l;
+        drawn = λ u v z. ours.explained t al ps' unrefused agrees found count cells rules e;
+        refused = λ k c z. absurd (let z : ◌≡◌ {A = ℕ} 0 1 = cc in omega arith);
+      }
 
-ended : (a : Answer) (r : Reason) (e : Ending) (ls ls' : List ℤ) → a ≡ because r → e ≡ ending_of a → ls' ≡ links_by a ls → (e.links ≡ length r.links) × (e.last ≡ r.last) × (ls' ≡ links_written ls r)
-unfolding ending_of links_by
-ended a r e ls ls' y p q = let d = rw y at p in (ap (λ (x : Ending). x.links) d, ap (λ (x : Ending). x.last) d, rw y at q)
+pub shows_refused : (t : Table) (al : ℕ) (s s' : List ℕ) (ps ps' : List ℤ) (k c : ℕ) → Lays t al s s' ps ps' (Refused k c) → Shows t al s s' ps ps' (Refused k c) false 0 (replicate most_cells 0) (replicate most_cells 0)
+shows_refused t al s s' ps ps' k c l =
+    record { lays = l; drawn = λ w h z. absurd (let z : ◌≡◌ {A = ℕ} 0 1 = cc in omega arith); refused = λ j d z. (refl, refl, refl, refl) }
 
 -- ---- over columns
 module _ (t : Columns) (al : ℕ) {s s' : List ℕ} {ps ps' : List ℤ} {r : Laid} (l : Lays (table_of t) al s s' ps ps' r) where
-  pub is-asked : {w h : ℕ} → r ≡ laid.Sheet w h → Fit (table_of t) × Near ps' t.count × (al ≤ most_allowance) × S1 (table_of t) (placed ps')
+  pub is-refused : {k c : ℕ} → r ≡ Refused k c → Shows (table_of t) al s s' ps ps' (Refused k c) false 0 (replicate most_cells 0) (replicate most_cells 0)
+  is-refused e = shows_refused (table_of t) al s s' ps ps' _ _ (subst (λ (z : Laid). Lays (table_of t) al s s' ps ps' z) e l)
+
+  pub is-asked : {w h : ℕ} → r ≡ Sheet w h → Fit (table_of t) × Near ps' t.count × (al ≤ most_allowance) × S1 (table_of t) (placed ps')
   is-asked e =
       let k = subst (λ (z : Laid). Lays (table_of t) al s s' ps ps' z) e l in
       let u = unrefused (table_of t) al s s' ps ps' _ _ k in
       let a = agrees (table_of t) al s s' ps ps' _ _ k in
       (ours.fit (table_of t) al ps' u, subst (λ (n : ℕ). Near ps' n) (length-is t) (ours.near (table_of t) al ps' u), ours.small (table_of t) al ps' u, (ours.keeps (table_of t) al ps' u a).s1)
 
-  module _ (ls : List ℤ) (n : links_size ≤ length ls) where
-    pub is-refused : {k c : ℕ} → r ≡ laid.Refused k c → Shows (table_of t) al s s' ps ps' ls ls (Refused k c)
-    is-refused {k} {c} e = shows.refused (table_of t) al s ps ls n k c (subst (λ (z : Laid). Lays (table_of t) al s s' ps ps' z) e l)
-
-    pub is-shown : {w h : ℕ} → r ≡ laid.Sheet w h → {ls' : List ℤ} (d : Ending) → d ≡ ending_of (why (table_of t) al (across (table_of t)) (placed ps')) → ls' ≡ links_by (why (table_of t) al (across (table_of t)) (placed ps')) ls
-        → Shows (table_of t) al s s' ps ps' ls ls' (Because w h d.links d.last)
-    is-shown {w} {h} e {ls'} d p q =
-        let k = subst (λ (z : Laid). Lays (table_of t) al s s' ps ps' z) e l in
-        let (a, b, c) = ended _ (our_reason (table_of t) al) d ls ls' (answered (table_of t) al s s' ps ps' w h k) p q in
-        shows.shown (table_of t) al s ps ls n w h k d.links d.last a b c
+  pub is-shown : {w h : ℕ} → r ≡ Sheet w h → {found : Bool} {count : ℕ} {cells rules : List ℕ} → Explains (table_of t) al (placed ps') found count cells rules → Shows (table_of t) al s s' ps ps' r found count cells rules
+  is-shown e {found} {count} {cells} {rules} x =
+      subst (λ (z : Laid). Shows (table_of t) al s s' ps ps' z found count cells rules) (sym e)
+      (shows (table_of t) al s s' ps ps' _ _ (subst (λ (z : Laid). Lays (table_of t) al s s' ps ps' z) e l) found count cells rules x)

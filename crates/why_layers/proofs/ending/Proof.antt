@@ -1,28 +1,27 @@
-use native.Mathlib.Omega.{arith}
+use Rattle.why_layers.proofs.Seeking.{Seeking, seeking_starts, seeking_stops, seeking_turns, seeking_ends}
+use mathlib.Core.Path.{◌∙◌, sym}
 use Prim.Native.Nat.{◌-◌}
-use mathlib.Core.Path.{sym, ◌∙◌}
 use Rattle.looking_sights.specs.Sights.{view_in}
-use Rattle.why_layers.specs.Marks.{ending}
-use Rattle.why_layers.proofs.Seeking.{Ending, ending-starts, ending-turns, ending-stops, ending-ends}
+use Rattle.why_layers.specs.Marks.{at_end, ending}
 use borrow.Author.Rules.{rules}
 use Rattle.why_layers.proofs.ending.Statement.{statement}
 use Rattle.why_layers.proofs.ending.Tie as tie
 
 abbrev invariant-loop : tie.invariant-loop
-invariant-loop sights marks n m bounds high e₀ e = Ending (view_in sights) marks m high bounds.low e
+invariant-loop sights marks n m high e₀ e = Seeking (at_end (view_in sights) marks m high) n e
 
 abbrev decreases-loop : tie.decreases-loop
-decreases-loop sights marks n m bounds high e₀ e = bounds.end - e
+decreases-loop sights marks n m high e₀ e = n - e
 
 loop-holds : tie.Need-loop-init invariant-loop decreases-loop
-loop-holds c = ending-starts _ _ _ _ _ _ _ c.requires.1
+loop-holds c = seeking_starts _ _
 
 at-end-requires : tie.Need-at-end-requires invariant-loop decreases-loop
-at-end-requires c κs = let h = c.before.before.before.requires in omega (arith, h.0, h.1.end_few, c.if1.true)
+at-end-requires c κs = search rules
 
 returns : tie.Need-returns invariant-loop decreases-loop
 unfolding ending
-returns c = ending-stops _ _ _ _ _ _ _ c.before.before.before.before.before.requires.1 _ c.before.before.before.before.loop.invariant c.before.before.if1.true (sym c.before.at_end.ensures ∙ c.if2.true)
+returns c = seeking_stops c.before.before.before.loop.invariant c.before.before.loop-test.true (sym c.before.at_end.ensures ∙ c.if1.true)
 
 add-e : tie.Need-overflow-add-e invariant-loop decreases-loop
 add-e c = search rules
@@ -31,11 +30,11 @@ loop-less : tie.Need-loop-smaller invariant-loop decreases-loop
 loop-less c = search rules
 
 loop-again : tie.Need-loop-preserved invariant-loop decreases-loop
-loop-again c = ending-turns _ _ _ _ _ _ _ c.before.before.before.before.before.requires.1 _ c.before.before.before.before.loop.invariant (sym c.before.at_end.ensures ∙ c.if2.false)
+loop-again c = seeking_turns c.before.before.before.loop.invariant c.before.before.loop-test.true (sym c.before.at_end.ensures ∙ c.if1.false)
 
 returns-2 : tie.Need-returns-2 invariant-loop decreases-loop
 unfolding ending
-returns-2 c = ending-ends _ _ _ _ _ _ _ c.before.before.before.requires.1 _ c.before.before.loop.invariant c.if1.false
+returns-2 c = seeking_ends c.before.loop.invariant c.loop-test.false
 
 pub ending-spec : {M : Type 1} → statement M
 ending-spec =

@@ -16,9 +16,9 @@ use Rattle.looking.specs.Laws.Meaning.{right_lift}
 use Rattle.looking_sights.specs.declared.View.{View}
 use Rattle.why_spec.specs.Measures.{across, far}
 use Rattle.why_spec.specs.Search.{leftmost, rightmost}
-use Rattle.why_spec.specs.Laws.Moved.{says-leftmost, says-rightmost}
+use Rattle.why_spec.specs.Laws.Moved.{says_leftmost, says_rightmost}
 use Rattle.why_search.specs.Extremes.{From, Extremes}
-use Rattle.why_ties.specs.Laws.Ties.{ties-is, rule_is}
+use Rattle.why_ties.specs.Laws.Ties.{ties_is, rule_is}
 use Rattle.why_search.specs.Found.{Stands}
 
 -- ---- the loop
@@ -87,22 +87,22 @@ module _ (t : Table) (al : ℕ) (p : Placement) (s : Sights) (sound : Sound t) (
       let up = most-all (right t p) (right t p 0) (cells t) u (cells_show t u i) in
       omega (whole, right_lift t p s sound g u i, r.so)
 
-  says-left : (c : ℕ) → Is t c → Says (leftmost (across t) p c) (p.x c ≡ least p.x (p.x 0) (cells t))
+  says_left : (c : ℕ) → Is t c → Says (leftmost (across t) p c) (p.x c ≡ least p.x (p.x 0) (cells t))
   unfolding across
-  says-left c i = that_is (says-leftmost (across t) p c) (λ h. h.1) (λ e. (cells_show t c i, e))
+  says_left c i = that_is (says_leftmost (across t) p c) (λ h. h.1) (λ e. (cells_show t c i, e))
 
-  says-right : (c : ℕ) → Is t c → Says (rightmost (across t) p c) (right t p c ≡ most (right t p) (right t p 0) (cells t))
+  says_right : (c : ℕ) → Is t c → Says (rightmost (across t) p c) (right t p c ≡ most (right t p) (right t p 0) (cells t))
   unfolding across far right
-  says-right c i = that_is (says-rightmost (across t) p c) (λ h. h.1) (λ e. (cells_show t c i, e))
+  says_right c i = that_is (says_rightmost (across t) p c) (λ h. h.1) (λ e. (cells_show t c i, e))
 
   left_is : (c : ℕ) → Is t c → eqb (s c).x low ≡ leftmost (across t) p c
-  left_is c i = same_test (that_is (says_eq (s c).x low) (λ e. omega (whole, g.xs c i, low_lift)) (λ e. omega (whole, g.xs c i, low_lift))) (says-left c i)
+  left_is c i = same_test (that_is (says_eq (s c).x low) (λ e. omega (whole, g.xs c i, low_lift)) (λ e. omega (whole, g.xs c i, low_lift))) (says_left c i)
 
   right_is : (c : ℕ) → Is t c → eqb (s c).right high ≡ rightmost (across t) p c
-  right_is c i = same_test (that_is (says_eq (s c).right high) (λ e. omega (whole, right_lift t p s sound g c i, high_lift)) (λ e. omega (whole, right_lift t p s sound g c i, high_lift))) (says-right c i)
+  right_is c i = same_test (that_is (says_eq (s c).right high) (λ e. omega (whole, right_lift t p s sound g c i, high_lift)) (λ e. omega (whole, right_lift t p s sound g c i, high_lift))) (says_right c i)
 
   sees_stands : S1 t p → Stands t al p s (length t) low high
-  sees_stands s1 = record { size = refl; ties = λ a b i j. ties-is t p s sound s1 g al a b i j; names = λ a b i j. rule_is t p s sound s1 g al a b i j; lefts = left_is; tops = right_is }
+  sees_stands s1 = record { size = refl; ties = λ a b i j. ties_is t p s sound s1 g al a b i j; names = λ a b i j. rule_is t p s sound s1 g al a b i j; lefts = left_is; tops = right_is }
 
 -- the same numbers of the cells
 pub looked_stands : (t : Table) (al : ℕ) (p : Placement) (s : Sights) (n low high : ℕ) → Sound t → S1 t p → Looked t p s → length t ≡ n → Extremes s n n low high → Stands t al p s n low high

@@ -17,11 +17,30 @@ use Rattle.why_spec.specs.Search.{first, tied, leftmost, rightmost, leads, reach
 use Rattle.why_spec.specs.Laws.Reached.{reached-is, leads-reached, reached-leads, reached-next, reached-first, first-reached}
 use Rattle.why_spec.specs.Layers.{New}
 use Rattle.why_spec.specs.Laws.Trail.{new_in, older, back_new, fewest-found, fewest-least, final-found}
-use Rattle.why_search.specs.Found.{Marks, Led, Open, Closed}
-use Rattle.why_buckets.specs.Seek.{seek}
-use Rattle.why_buckets.specs.Laws.Seek.{seek_cases}
+use Rattle.why_search.specs.Found.{Marks, Open, Closed}
+use Rattle.why_layers.specs.Marks.{seek}
 
--- ---- the lowest
+-- ---- seeking
+pub seek_cases : (f : ℕ → Bool) (k d : ℕ) → ((seek f k d < k + d) × T (f (seek f k d)) × ((j : ℕ) → k ≤ j → j < seek f k d → ¬ T (f j)))
+    ⊎ ((seek f k d ≡ k + d) × ((j : ℕ) → k ≤ j → j < k + d → ¬ T (f j)))
+unfolding seek
+seek_cases f k zero = inr (omega arith, λ j l h. absurd (omega arith))
+seek_cases f k (suc d) = go (f k) refl (seek_cases f (suc k) d)
+  where
+    go : (b : Bool) → f k ≡ b
+        → ((seek f (suc k) d < suc k + d) × T (f (seek f (suc k) d)) × ((j : ℕ) → suc k ≤ j → j < seek f (suc k) d → ¬ T (f j))) ⊎ ((seek f (suc k) d ≡ suc k + d) × ((j : ℕ) → suc k ≤ j → j < suc k + d → ¬ T (f j)))
+        → ((cond b k (seek f (suc k) d) < k + suc d) × T (f (cond b k (seek f (suc k) d))) × ((j : ℕ) → k ≤ j → j < cond b k (seek f (suc k) d) → ¬ T (f j)))
+        ⊎ ((cond b k (seek f (suc k) d) ≡ k + suc d) × ((j : ℕ) → k ≤ j → j < k + suc d → ¬ T (f j)))
+    go true e r = inl (omega arith, rw e tt, λ j l h. absurd (omega arith))
+    go false e (inl (l, h, n)) = inl (omega arith, h, λ j u v. off j u (n j) v)
+      where
+        off : (j : ℕ) → k ≤ j → (suc k ≤ j → j < seek f (suc k) d → ¬ T (f j)) → j < seek f (suc k) d → ¬ T (f j)
+        off j u m v = elim (ℕ_discrete j k) [ yes q ↦ λ z. absurd (rw (q, e) at z) | no q ↦ m (omega arith) v ]
+    go false e (inr (l, n)) = inr (omega arith, λ j u v. off j u (n j) v)
+      where
+        off : (j : ℕ) → k ≤ j → (suc k ≤ j → j < suc k + d → ¬ T (f j)) → j < k + suc d → ¬ T (f j)
+        off j u m v = elim (ℕ_discrete j k) [ yes q ↦ λ z. absurd (rw (q, e) at z) | no q ↦ m (omega arith) (omega arith) ]
+
 -- the first of a part of the numbers is the lowest
 first-kept : (f g : ℕ → Bool) (k d j : ℕ) → T (mem j (keep f (from k d))) → T (g j) → first g (keep f (from k d)) ≤ j
 unfolding keep from first
@@ -91,7 +110,7 @@ module _ (t : Table) (al : ℕ) (p : Placement) where
         go false e = inl (h c i ∙ rw e, λ m. rw e at (first-reached t al (across t) p c m))
 
     pub next_marks : (xs ys : List ℕ) (k : ℕ) → Marks t al p xs k
-        → ((c : ℕ) → Is t c → get_or ys c 0 ≡ cond (eqb (get_or xs c 0) 0 && ltb (seek (on xs (suc k) c) 0 (length t)) (length t)) (suc k + 1) (get_or xs c 0)) → Marks t al p ys (suc k)
+        → ((c : ℕ) → Is t c → get_or ys c 0 ≡ cond (eqb (get_or xs c 0) 0) (cond (ltb (seek (on xs (suc k) c) 0 (length t)) (length t)) (suc k + 1) 0) (get_or xs c 0)) → Marks t al p ys (suc k)
     next_marks xs ys k h step c i = go (h c i)
       where
         go : ((get_or xs c 0 ≡ 0) × ¬ T (mem c (reached t al (across t) p k))) ⊎ ((j : ℕ) × (j ≤ k) × (get_or xs c 0 ≡ suc j) × New t al (across t) p j c)
@@ -121,7 +140,7 @@ module _ (t : Table) (al : ℕ) (p : Placement) where
                 q.1 a (omega arith) (omega arith) ((says_on xs (suc k) c a ai i).show (marks_show xs k a k h ai (omega arith) f, s.passes))
 
     -- the way back
-    source_is : (xs : List ℕ) (k j b : ℕ) → Marks t al p xs k → j ≤ k → New t al (across t) p (suc j) b → (seek (on xs (suc j) b) 0 (length t) ≡ before t al (across t) p j b) × (seek (on xs (suc j) b) 0 (length t) < length t)
+    pub source_is : (xs : List ℕ) (k j b : ℕ) → Marks t al p xs k → j ≤ k → New t al (across t) p (suc j) b → (seek (on xs (suc j) b) 0 (length t) ≡ before t al (across t) p j b) × (seek (on xs (suc j) b) 0 (length t) < length t)
     source_is xs k j b h l n =
         let a = before t al (across t) p j b in
         let (m, s) = back_new t al (across t) p j b n in
@@ -139,30 +158,13 @@ module _ (t : Table) (al : ℕ) (p : Placement) where
           | inr q ↦ absurd (q.1 a (omega arith) (omega arith) hit)
         ]
 
-    -- where a cell of the next layer was reached from
-    pub next-led : (xs cs ds : List ℕ) (k : ℕ) → Marks t al p xs k → Led t al p cs k
-        → ((c : ℕ) → Is t c → get_or ds c 0 ≡ cond (eqb (get_or xs c 0) 0 && ltb (seek (on xs (suc k) c) 0 (length t)) (length t)) (seek (on xs (suc k) c) 0 (length t)) (get_or cs c 0)) → Led t al p ds (suc k)
-    next-led xs cs ds k h old step b j i l n = go (ℕ_discrete j k)
-      where
-        go : Dec (j ≡ k) → get_or ds b 0 ≡ before t al (across t) p j b
-        go (no q) =
-            let e = marks_show xs k b (suc j) h i (omega arith) n in
-            let z : eqb (suc (suc j)) 0 ≡ false = is_false (says_eq (suc (suc j)) 0) (λ q. omega arith) in
-            step b i ∙ rw (e, z) (old b j i (omega arith) n)
-        go (yes q) =
-            let n' : New t al (across t) p (suc k) b = rw q at n in
-            let (e, u) = source_is xs k k b h (omega arith) n' in
-            let z : ltb (seek (on xs (suc k) b) 0 (length t)) (length t) ≡ true = is_true (says_lt _ (length t)) u in
-            let w : get_or xs b 0 ≡ 0 = elim (h b i) [ inl r ↦ r.0 | inr r ↦ absurd (n'.1 (reached-on r.0 k b r.1 (new_in t al (across t) p r.0 b r.3))) ] in
-            step b i ∙ rw (w, z, q) e
-
   -- ---- the end, with a test that says which right edges are the greatest
   module _ (top : ℕ → Bool) (top_is : (e : ℕ) → Is t e → top e ≡ rightmost (across t) p e) where
     abbrev pub end_on : List ℕ → ℕ → ℕ → Bool
     end_on xs m e = eqb (get_or xs e 0) m && top e
 
-    says-end : (xs : List ℕ) (m e : ℕ) → Is t e → Says (end_on xs m e) ((get_or xs e 0 ≡ m) × T (rightmost (across t) p e))
-    says-end xs m e i = both (says_eq (get_or xs e 0) m) (rw (← top_is e i) (itself (top e)))
+    says_end : (xs : List ℕ) (m e : ℕ) → Is t e → Says (end_on xs m e) ((get_or xs e 0 ≡ m) × T (rightmost (across t) p e))
+    says_end xs m e i = both (says_eq (get_or xs e 0) m) (rw (← top_is e i) (itself (top e)))
 
     open_new : (k e : ℕ) → Open t al p k → T (mem e (reached t al (across t) p k)) → T (rightmost (across t) p e) → New t al (across t) p k e
     open_new zero e o m r = m
@@ -179,7 +181,7 @@ module _ (t : Table) (al : ℕ) (p : Placement) where
         shut m =
             let s : Some (rightmost (across t) p) (reached t al (across t) p k) = (unfold closes in some_read _ _ m) in
             let i = reached-is t al (across t) p k s.at s.there in
-            let hit = (says-end xs (suc k) s.at i).show (marks_show xs k s.at k h i (omega arith) (open_new k s.at o s.there s.passes), s.passes) in
+            let hit = (says_end xs (suc k) s.at i).show (marks_show xs k s.at k h i (omega arith) (open_new k s.at o s.there s.passes), s.passes) in
             elim (seek_cases (end_on xs (suc k)) 0 (length t)) [
               | inl q ↦ omega (arith, q.0)
               | inr q ↦ q.1 s.at (omega arith) (omega arith) hit
@@ -194,7 +196,7 @@ module _ (t : Table) (al : ℕ) (p : Placement) where
       where
         done : T (end_on xs (suc k) e) → ((j : ℕ) → j < e → ¬ T (end_on xs (suc k) j)) → Closed t al p k e
         done u none =
-            let (m, r) = (says-end xs (suc k) e i).read u in
+            let (m, r) = (says_end xs (suc k) e i).read u in
             let n = marks_read xs k e k h i m in
             let c : T (closes t al (across t) p k) = (unfold closes in some_show (rightmost (across t) p) (reached t al (across t) p k) e (new_in t al (across t) p k e n) r) in
             let hit : Some (closes t al (across t) p) (from 0 (length t)) = record { at = k; there = from_show 0 (length t) k (omega arith) (omega arith); passes = c } in
@@ -208,6 +210,6 @@ module _ (t : Table) (al : ℕ) (p : Placement) where
                 let (fm, fr) = final-found t al (across t) p hit in
                 let fm' = rw least at fm in
                 let fi = reached-is t al (across t) p k f fm' in
-                let up : ¬ (f < e) = λ v. none f v ((says-end xs (suc k) f fi).show (marks_show xs k f k h fi (omega arith) (open_new k f o fm' fr), fr)) in
+                let up : ¬ (f < e) = λ v. none f v ((says_end xs (suc k) f fi).show (marks_show xs k f k h fi (omega arith) (open_new k f o fm' fr), fr)) in
                 let down : f ≤ e = (unfold final in rw least (reached-least (rightmost (across t) p) k e (new_in t al (across t) p k e n) r)) in
                 omega arith

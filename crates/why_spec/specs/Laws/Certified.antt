@@ -18,7 +18,7 @@ use Rattle.why_spec.specs.Links.{Link, Justified, Chain, adds_up, Reason, Certif
 use Rattle.why_spec.specs.Search.{tight, tied, leftmost, rightmost, reached, closes, fewest, final, reason}
 use Rattle.why_spec.specs.Laws.Links.{link_true, chain_bounds}
 use Rattle.why_spec.specs.Laws.Measures.{Measurable}
-use Rattle.why_spec.specs.Laws.Moved.{no_room, says-leftmost, says-rightmost, reaches}
+use Rattle.why_spec.specs.Laws.Moved.{no_room, says_leftmost, says_rightmost, reaches}
 use Rattle.why_spec.specs.Laws.Reached.{reached-next, reached-first, reached-later, all_in}
 use Rattle.why_spec.specs.Laws.Trail.{trail-length, fewest-least}
 
@@ -108,20 +108,20 @@ module _ (t : Table) (al : ℕ) (μ : Measure) (p : Placement) where
       unfolding reason
       reason-fewest hit r c =
           let s = certified_seen r c in
-          let m = reached-first t al μ p r.first (on.starts_is r.first c.begins) ((says-leftmost μ p r.first).show (c.begins, s.begins)) in
+          let m = reached-first t al μ p r.first (on.starts_is r.first c.begins) ((says_leftmost μ p r.first).show (c.begins, s.begins)) in
           let z : 0 + length r.links ≡ length r.links = omega arith in
           let n = rw z at (chain-reached 0 r.first r.links r.last m c.chain s.between) in
           omega (
             arith,
             trail-length t al μ p (fewest t al μ p) (final t al μ p) [],
-            fewest-least t al μ p hit (length r.links) r.last n ((says-rightmost μ p r.last).show (c.finishes, s.ends)),
+            fewest-least t al μ p hit (length r.links) r.last n ((says_rightmost μ p r.last).show (c.finishes, s.ends)),
           )
 
       module _ (some_cell : 1 ≤ length t) (little : (q : Placement) → Keeps t q al → extent μ p ≤ℤ extent μ q) where
         begins : (a : ℕ) × Is t a × T (leftmost μ p a)
         begins =
             let (a, i, e) = least-one p.x (p.x μ.start) μ.starts (λ z. (a : ℕ) × T (mem a μ.starts) × (p.x a ≡ z)) (μ.start, on.start_in, refl) (λ a m. (a, m, refl)) in
-            (a, on.starts_is a i, (says-leftmost μ p a).show (i, e))
+            (a, on.starts_is a i, (says_leftmost μ p a).show (i, e))
 
         some_first : 0 < length (reached t al μ p 0)
         some_first =

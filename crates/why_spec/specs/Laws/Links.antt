@@ -31,23 +31,23 @@ module _ (t : Table) where
   abbrev pub Flush : ℕ → ℕ → Type 0
   Flush a b = (1 ≤ length (children t a)) × (child t a (appointed (kind t a) (length (children t a))) ≡ b)
 
-  says-flush : (a b : ℕ) → Says (flush t a b) (Flush a b)
+  says_flush : (a b : ℕ) → Says (flush t a b) (Flush a b)
   unfolding flush
-  says-flush a b = both (says_le 1 _) (says_eq _ b)
+  says_flush a b = both (says_le 1 _) (says_eq _ b)
 
   abbrev pub BoxMeets : ℕ → ℕ → Type 0
   BoxMeets a b = (row t a ≤ dictated_bottom t b) × (row t b ≤ row t a + box_depth t a)
 
-  says-box : (a b : ℕ) → Says (box_meets t a b) (BoxMeets a b)
+  says_box : (a b : ℕ) → Says (box_meets t a b) (BoxMeets a b)
   unfolding box_meets
-  says-box a b = both (says_le _ _) (says_le _ _)
+  says_box a b = both (says_le _ _) (says_le _ _)
 
   abbrev pub StemMeets : ℕ → ℕ → Type 0
   StemMeets a b = (1 ≤ length (children t a)) × ((row t a + box_depth t a + 1 ≤ dictated_bottom t b) × (row t b ≤ dictated_bottom t a))
 
-  says-stem : (a b : ℕ) → Says (stem_meets t a b) (StemMeets a b)
+  says_stem : (a b : ℕ) → Says (stem_meets t a b) (StemMeets a b)
   unfolding stem_meets
-  says-stem a b = both (says_le 1 _) (both (says_le _ _) (says_le _ _))
+  says_stem a b = both (says_le 1 _) (both (says_le _ _) (says_le _ _))
 
   -- what the test says
   abbrev pub Asked : (al r a b : ℕ) → ℤ → Type 0
@@ -61,17 +61,17 @@ module _ (t : Table) where
   Asked al (suc (suc (suc (suc (suc zero))))) a b d = (d ≡ pos (box_width t a + 1) -ℤ pos al) × T (earlier t a b)
   Asked al (suc (suc (suc (suc (suc (suc r)))))) a b d = ⊥
 
-  pub says-asks : (al r a b : ℕ) (d : ℤ) → Says (asks t al r a b d) (Asked al r a b d)
+  pub says_asks : (al r a b : ℕ) (d : ℤ) → Says (asks t al r a b d) (Asked al r a b d)
   unfolding asks after_one before_one
-  says-asks al zero a b d = never
-  says-asks al (suc zero) a b d = never
-  says-asks al (suc (suc zero)) a b d = both (says_eq_z d _) (either (says-flush a b) (says-flush b a))
-  says-asks al (suc (suc (suc zero))) a b d =
+  says_asks al zero a b d = never
+  says_asks al (suc zero) a b d = never
+  says_asks al (suc (suc zero)) a b d = both (says_eq_z d _) (either (says_flush a b) (says_flush b a))
+  says_asks al (suc (suc (suc zero))) a b d =
       either (both (says_eq_z d _) (says_some (λ u. next t u b) (path t a))) (both (says_eq_z d _) (says_some (λ v. next t a v) (path t b)))
-  says-asks al (suc (suc (suc (suc zero)))) a b d =
-      either (both (says_eq_z d _) (both (itself (earlier t a b)) (says-box a b))) (both (says_eq_z d _) (both (itself (earlier t a b)) (says-stem a b)))
-  says-asks al (suc (suc (suc (suc (suc zero))))) a b d = both (says_eq_z d _) (itself (earlier t a b))
-  says-asks al (suc (suc (suc (suc (suc (suc r)))))) a b d = never
+  says_asks al (suc (suc (suc (suc zero)))) a b d =
+      either (both (says_eq_z d _) (both (itself (earlier t a b)) (says_box a b))) (both (says_eq_z d _) (both (itself (earlier t a b)) (says_stem a b)))
+  says_asks al (suc (suc (suc (suc (suc zero))))) a b d = both (says_eq_z d _) (itself (earlier t a b))
+  says_asks al (suc (suc (suc (suc (suc (suc r)))))) a b d = never
 
   -- ---- rows
   module _ (sound : Sound t) where
@@ -129,19 +129,19 @@ module _ (t : Table) (sound : Sound t) (al : ℕ) (p : Placement) where
   Held a b d = (p.x a +ℤ d) ≤ℤ p.x b
 
   module _ (keeps : Keeps t p al) where
-    flush-held : (a b : ℕ) → Is t a → Flush t a b → p.x a ≡ p.x b
-    flush-held a b i f = keeps.s2.flush a i f.0 ∙ ap p.x f.1
+    flush_held : (a b : ℕ) → Is t a → Flush t a b → p.x a ≡ p.x b
+    flush_held a b i f = keeps.s2.flush a i f.0 ∙ ap p.x f.1
 
-    box-held : (a b : ℕ) → Is t a → Is t b → T (earlier t a b) → BoxMeets t a b → right t p a <ℤ p.x b
-    box-held a b i j e (h, k) =
+    box_held : (a b : ℕ) → Is t a → Is t b → T (earlier t a b) → BoxMeets t a b → right t p a <ℤ p.x b
+    box_held a b i j e (h, k) =
         let ρ = max (row t a) (row t b) in
         let s1 = keeps.s1 in
         keeps.s4.box a b i j e (pos ρ)
         (record { top = omega (whole, y-row t p sound s1 a i); low = omega (whole, base-row t p sound s1 a i) })
         (on_row t sound p s1 b ρ j (omega arith) (omega (arith, bottom_low t sound b j)))
 
-    stem-held : (a b : ℕ) → Is t a → Is t b → T (earlier t a b) → StemMeets t a b → p.x a <ℤ p.x b
-    stem-held a b i j e (f, (h, k)) =
+    stem_held : (a b : ℕ) → Is t a → Is t b → T (earlier t a b) → StemMeets t a b → p.x a <ℤ p.x b
+    stem_held a b i j e (f, (h, k)) =
         let ρ = max (row t a + box_depth t a + 1) (row t b) in
         let s1 = keeps.s1 in
         keeps.s4.stem a b i j e (pos ρ)
@@ -159,26 +159,26 @@ module _ (t : Table) (sound : Sound t) (al : ℕ) (p : Placement) where
     begin : (a b : ℕ) (d : ℤ) → d ≡ pos 1 → p.x a <ℤ p.x b → Held a b d
     begin a b d e h = omega (whole, sum (p.x a) d)
 
-    asked-held : (r a b : ℕ) (d : ℤ) → Is t a → Is t b → Asked t al r a b d → Held a b d
+    asked_held : (r a b : ℕ) (d : ℤ) → Is t a → Is t b → Asked t al r a b d → Held a b d
     unfolding right within
-    asked-held zero a b d i j h = absurd h
-    asked-held (suc zero) a b d i j h = absurd h
-    asked-held (suc (suc zero)) a b d i j h =
+    asked_held zero a b d i j h = absurd h
+    asked_held (suc zero) a b d i j h = absurd h
+    asked_held (suc (suc zero)) a b d i j h =
         elim h.1 [
-          | inl f ↦ omega (whole, h.0, flush-held a b i f, sum (p.x a) d)
-          | inr f ↦ omega (whole, h.0, flush-held b a j f, sum (p.x a) d)
+          | inl f ↦ omega (whole, h.0, flush_held a b i f, sum (p.x a) d)
+          | inr f ↦ omega (whole, h.0, flush_held b a j f, sum (p.x a) d)
         ]
-    asked-held (suc (suc (suc zero))) a b d i j h =
+    asked_held (suc (suc (suc zero))) a b d i j h =
         elim h [
           | inl k ↦ edge a b d k.0 (keeps.s3.ends k.1.at b k.1.passes a i k.1.there)
           | inr k ↦ begin a b d k.0 (keeps.s3.starts a k.1.at k.1.passes b j k.1.there)
         ]
-    asked-held (suc (suc (suc (suc zero)))) a b d i j h =
+    asked_held (suc (suc (suc (suc zero)))) a b d i j h =
         elim h [
-          | inl k ↦ edge a b d k.0 (box-held a b i j k.1.0 k.1.1)
-          | inr k ↦ begin a b d k.0 (stem-held a b i j k.1.0 k.1.1)
+          | inl k ↦ edge a b d k.0 (box_held a b i j k.1.0 k.1.1)
+          | inr k ↦ begin a b d k.0 (stem_held a b i j k.1.0 k.1.1)
         ]
-    asked-held (suc (suc (suc (suc (suc zero))))) a b d i j h =
+    asked_held (suc (suc (suc (suc (suc zero))))) a b d i j h =
         omega (
           whole,
           h.0,
@@ -189,10 +189,10 @@ module _ (t : Table) (sound : Sound t) (al : ℕ) (p : Placement) where
           diff (p.x a +ℤ pos (box_width t a)) (p.x b),
           sum (p.x a +ℤ pos (box_width t a) -ℤ p.x b) (pos 1),
         )
-    asked-held (suc (suc (suc (suc (suc (suc r)))))) a b d i j h = absurd h
+    asked_held (suc (suc (suc (suc (suc (suc r)))))) a b d i j h = absurd h
 
     pub link_true : (l : Link) → Justified t al l → Held l.from l.to l.apart
-    link_true l j = asked-held l.rule l.from l.to l.apart j.from_is j.to_is ((says-asks t al l.rule l.from l.to l.apart).read j.asked)
+    link_true l j = asked_held l.rule l.from l.to l.apart j.from_is j.to_is ((says_asks t al l.rule l.from l.to l.apart).read j.asked)
 
     pub chain_bounds : (c : ℕ) (ls : List Link) (e : ℕ) → Chain t al c ls e → Held c e (adds_up ls)
     unfolding adds_up
@@ -213,7 +213,7 @@ module _ (t : Table) (sound : Sound t) (al : ℕ) (p : Placement) where
   module _ (s1 : S1 t p) (all : (l : Link) → Justified t al l → Held l.from l.to l.apart) where
     held : (r a b : ℕ) (d : ℤ) → Is t a → Is t b → Asked t al r a b d → Held a b d
     held r a b d i j h =
-        all (record { rule = r; from = a; to = b; apart = d }) (record { from_is = i; to_is = j; asked = (says-asks t al r a b d).show h })
+        all (record { rule = r; from = a; to = b; apart = d }) (record { from_is = i; to_is = j; asked = (says_asks t al r a b d).show h })
 
     pub links-enough : Keeps t p al
     unfolding right within

@@ -40,13 +40,13 @@ no_room t al p l j e =
     let (lo, hi) = asks_range t al l.rule l.from l.to l.apart j.asked in
     some_show _ (from 2 4) l.rule (from_show 2 4 l.rule lo hi) (rw d at j.asked)
 
-pub says-leftmost : (μ : Measure) (p : Placement) (a : ℕ) → Says (leftmost μ p a) (T (mem a μ.starts) × (p.x a ≡ least p.x (p.x μ.start) μ.starts))
+pub says_leftmost : (μ : Measure) (p : Placement) (a : ℕ) → Says (leftmost μ p a) (T (mem a μ.starts) × (p.x a ≡ least p.x (p.x μ.start) μ.starts))
 unfolding leftmost
-says-leftmost μ p a = both (itself (mem a μ.starts)) (says_eq_z _ _)
+says_leftmost μ p a = both (itself (mem a μ.starts)) (says_eq_z _ _)
 
-pub says-rightmost : (μ : Measure) (p : Placement) (b : ℕ) → Says (rightmost μ p b) (T (mem b μ.ends) × (far μ p b ≡ most (far μ p) (far μ p μ.end) μ.ends))
+pub says_rightmost : (μ : Measure) (p : Placement) (b : ℕ) → Says (rightmost μ p b) (T (mem b μ.ends) × (far μ p b ≡ most (far μ p) (far μ p μ.end) μ.ends))
 unfolding rightmost
-says-rightmost μ p b = both (itself (mem b μ.ends)) (says_eq_z _ _)
+says_rightmost μ p b = both (itself (mem b μ.ends)) (says_eq_z _ _)
 
 abbrev one : Bool → ℤ
 one true = pos 1
@@ -98,7 +98,7 @@ module _ (t : Table) (sound : Sound t) (al : ℕ) (p : Placement) (keeps : Keeps
           | inl k ↦ omega (whole, sum (far μ p a) (pos 1))
           | inr k ↦
               let e : far μ p a ≡ M = omega whole in
-              absurd (none a (on.ends_is a i) (rw u tt) ((says-rightmost μ p a).show (i, e)))
+              absurd (none a (on.ends_is a i) (rw u tt) ((says_rightmost μ p a).show (i, e)))
         ]
 
     -- the least x has grown
@@ -112,7 +112,7 @@ module _ (t : Table) (sound : Sound t) (al : ℕ) (p : Placement) (keeps : Keeps
           | inl k ↦ omega (whole, sum (p.x a) (pos 0), sum L (pos 1))
           | inr k ↦
               let e : p.x a ≡ L = omega (whole, least-all p.x (p.x μ.start) μ.starts a i) in
-              absurd (rw u at (starts a (on.starts_is a i) ((says-leftmost μ p a).show (i, e))))
+              absurd (rw u at (starts a (on.starts_is a i) ((says_leftmost μ p a).show (i, e))))
         ]
 
     pub reaches : ((b : ℕ) → Is t b → T (S b) → ¬ T (rightmost μ p b)) → ⊥

@@ -53,15 +53,15 @@ keep_grow f g (b ∷ l) h = go (f b) (g b) refl refl (keep_grow f g l (λ a m. h
 
 -- ---- the cells that are reached
 module _ (t : Table) (al : ℕ) (μ : Measure) (p : Placement) where
-  says-leads : (l : List ℕ) (b : ℕ) → Says (leads t al p l b) (T (mem b l) ⊎ Some (λ a. tied t al p a b) l)
+  says_leads : (l : List ℕ) (b : ℕ) → Says (leads t al p l b) (T (mem b l) ⊎ Some (λ a. tied t al p a b) l)
   unfolding leads
-  says-leads l b = either (itself (mem b l)) (says_some (λ a. tied t al p a b) l)
+  says_leads l b = either (itself (mem b l)) (says_some (λ a. tied t al p a b) l)
 
   abbrev step : List ℕ → List ℕ
   step l = keep (leads t al p l) (cells t)
 
   more : (f : ℕ → Bool) → (keep f (cells t) ≡ step (keep f (cells t))) ⊎ (length (keep f (cells t)) < length (step (keep f (cells t))))
-  more f = keep_grow f (leads t al p (keep f (cells t))) (cells t) (λ a m h. (says-leads (keep f (cells t)) a).show (inl (keep_show f (cells t) a m h)))
+  more f = keep_grow f (leads t al p (keep f (cells t))) (cells t) (λ a m h. (says_leads (keep f (cells t)) a).show (inl (keep_show f (cells t) a m h)))
 
   grow : (k : ℕ) → (reached t al μ p k ≡ reached t al μ p (suc k)) ⊎ (length (reached t al μ p k) < length (reached t al μ p (suc k)))
   unfolding reached
@@ -80,11 +80,11 @@ module _ (t : Table) (al : ℕ) (μ : Measure) (p : Placement) where
 
   pub leads-reached : (k b : ℕ) → Is t b → T (mem b (reached t al μ p k)) ⊎ Some (λ a. tied t al p a b) (reached t al μ p k) → T (mem b (reached t al μ p (suc k)))
   unfolding reached
-  leads-reached k b i h = keep_show _ (cells t) b (cells_show t b i) ((says-leads (reached t al μ p k) b).show h)
+  leads-reached k b i h = keep_show _ (cells t) b (cells_show t b i) ((says_leads (reached t al μ p k) b).show h)
 
   pub reached-leads : (k b : ℕ) → T (mem b (reached t al μ p (suc k))) → T (mem b (reached t al μ p k)) ⊎ Some (λ a. tied t al p a b) (reached t al μ p k)
   unfolding reached
-  reached-leads k b h = (says-leads (reached t al μ p k) b).read (keep-read _ (cells t) b h).passes
+  reached-leads k b h = (says_leads (reached t al μ p k) b).read (keep-read _ (cells t) b h).passes
 
   pub reached-next : (k a b : ℕ) → T (mem a (reached t al μ p k)) → Is t b → T (tied t al p a b) → T (mem b (reached t al μ p (suc k)))
   reached-next k a b m i s = leads-reached k b i (inr (record { at = a; there = m; passes = s }))

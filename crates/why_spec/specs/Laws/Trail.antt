@@ -15,7 +15,7 @@ use Rattle.why_spec.specs.Measures.{Measure, far, extent}
 use Rattle.why_spec.specs.Links.{Link, Justified, Chain, adds_up, Certifies, Exact}
 use Rattle.why_spec.specs.Layers.{New}
 use Rattle.why_spec.specs.Search.{tight, tied, link, rightmost, reached, closes, fewest, final, before, origin, trail, reason}
-use Rattle.why_spec.specs.Laws.Moved.{says-leftmost, says-rightmost}
+use Rattle.why_spec.specs.Laws.Moved.{says_leftmost, says_rightmost}
 use Rattle.why_spec.specs.Laws.Reached.{first_found, first-least, reached-is, reached-leads, reached-next, first-reached}
 
 module _ (t : Table) (al : ℕ) (μ : Measure) (p : Placement) where
@@ -111,8 +111,8 @@ module _ (t : Table) (al : ℕ) (μ : Measure) (p : Placement) where
         let e = final t al μ p in
         let ls = trail t al μ p (fewest t al μ p) e [] in
         let ch : Chain t al c ls e = trail-chain (fewest t al μ p) e [] e final_new refl in
-        let h = (says-leftmost μ p c).read (first-reached t al μ p c (origin_new (fewest t al μ p) e final_new)) in
-        let k = (says-rightmost μ p e).read final-found.1 in
+        let h = (says_leftmost μ p c).read (first-reached t al μ p c (origin_new (fewest t al μ p) e final_new)) in
+        let k = (says_rightmost μ p e).read final-found.1 in
         let L = least p.x (p.x μ.start) μ.starts in
         let M = most (far μ p) (far μ p μ.end) μ.ends in
         record {

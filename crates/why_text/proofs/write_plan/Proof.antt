@@ -33,7 +33,7 @@ same_length : tie.Need-same-length
 same_length c = search rules
 
 returns : tie.Need-returns
-returns c = (plan-text _ _ c.before.before.before.before.before.before.before.before.before.before.before.before.before.before.before.before.before.before.before.before.requires.0 c.before.before.before.before.before.before.before.before.before.before.before.before.before.draw-over-zeros.ensures (omega (arith, c.before.before.before.before.before.before.before.before.before.before.before.before.before.draw-over-zeros.auto)) c.before.before.before.before.before.before.before.before.before.explain.ensures c.before.before.write-chain.ensures.0, c.before.before.write-chain.ensures.1)
+returns c = (plan-text _ _ c.before.before.before.before.before.before.before.before.before.before.before.before.before.before.before.before.before.before.before.before.requires.0 c.before.before.before.before.before.before.before.before.before.before.before.before.before.draw-over-zeros.ensures (omega (arith, c.before.before.before.before.before.before.before.before.before.before.before.before.before.draw-over-zeros.auto)) c.before.before.write-chain.ensures.0, c.before.before.write-chain.ensures.1)
 
 pub write-plan-spec : {M : Type 1} → statement M
 write-plan-spec =

@@ -125,6 +125,6 @@ module _ (t : Table) (p : Placement) (s : Sights) (sound : Sound t) (s1 : S1 t p
     some_first false false false true = refl
     some_first false false false false = refl
 
-    pub ties-is : ltb 0 (rule_of al a b (s a) (s b)) ≡ tied t al p a b
+    pub ties_is : ltb 0 (rule_of al a b (s a) (s b)) ≡ tied t al p a b
     unfolding rule_of tied
-    ties-is = rw (two, three, four, five, rules_some) (some_first (tight t al p a b 2) (tight t al p a b 3) (tight t al p a b 4) (tight t al p a b 5))
+    ties_is = rw (two, three, four, five, rules_some) (some_first (tight t al p a b 2) (tight t al p a b 3) (tight t al p a b 4) (tight t al p a b 5))

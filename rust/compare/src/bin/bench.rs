@@ -4,11 +4,9 @@
 //!     bench                          the calls
 //!     bench check                    Check alone
 //!     bench mark                     Mark alone
-//!     bench why                      Why and Judge alone
-//!     bench outline                  Outline and Compose alone
 //!     bench PLAN PROGRAM...          programs that print a plan's listing, such as `sheet`: microseconds a run
 
-use bindings::{Composed, Judged, Mark, Record, Sheet, Step, Verdict};
+use bindings::{Mark, Record, Sheet, Step, Verdict};
 use compare::{plain, records};
 use reference::generate::{file, labels, stems, table, Shape, Sizes};
 use reference::rng::Rng;
@@ -83,8 +81,6 @@ fn main() {
     match args.split_first() {
         Some((what, [])) if what == "check" => checks(),
         Some((what, [])) if what == "mark" => marks(),
-        Some((what, [])) if what == "why" => reasons(),
-        Some((what, [])) if what == "outline" => outlines(),
         Some((plan, named)) => programs(plan, named),
         None => {
             calls();
@@ -92,8 +88,6 @@ fn main() {
             drills();
             steps();
             marks();
-            reasons();
-            outlines();
         }
     }
 }
@@ -281,81 +275,6 @@ fn marks() {
         let times = [one(&ours, 65_535), one(&at_0, 65_535), one(&first, 65_535), one(&last, 0)];
         let slowest = times.iter().fold(0.0, |a: f64, &b| a.max(b));
         println!("| {shape:?} | {} | {} | {} | {:.0} | {:.1} |", cells.len(), sheet.rows, times.map(|t| format!("{t:.0}")).join(" | "), 1e9 / slowest, 200.0 * slowest / 1e6);
-    }
-}
-
-/// Why, with the Layout that is a part of it; and Judge of the same sheet, with the Check that is a part of it: the engine against Rust.
-fn reasons() {
-    println!("| call | shape | cells | rows | links | engine ns | Rust ns | ratio | Layout or Check ns |\n|---|---|---|---|---|---|---|---|---|");
-    for shape in SHAPES {
-        for n in COUNTS {
-            let (cells, ranked, _) = plans(shape, n);
-            reason_lines(shape, &records(&cells), "");
-            reason_lines(shape, &records(&ranked), ", ranks");
-        }
-    }
-}
-
-fn reason_lines(shape: Shape, records: &[Record], note: &str) {
-    let n = records.len();
-    let (mut scratch, mut other, mut p, mut q) = (vec![0; 16_384], vec![0; 16_384], vec![0; 2 * n], vec![0; 2 * n]);
-    let (mut links, mut same) = (vec![0; 1_020], vec![0; 1_020]);
-    let shown = bindings::why(records, 10, &mut scratch, &mut p, &mut links).expect("a valid plan");
-    assert_eq!(plain::why::why(records, 10, &mut other, &mut q, &mut same), Ok(shown));
-    assert_eq!((&p, &links), (&q, &same));
-    for judge in [bindings::judge, plain::why::judge] {
-        assert_eq!(judge(records, &p, 10, &mut same), Ok(Judged::Least(shown)));
-    }
-    assert_eq!(links, same);
-    let drawn = p.clone();
-    let (mut layout_scratch, mut laid) = (vec![0; 16_384], vec![0; 2 * n]);
-    let why = least([
-        &mut batch(|| { let _ = black_box(bindings::why(black_box(records), 10, &mut scratch, &mut p, &mut links)); }),
-        &mut batch(|| { let _ = black_box(plain::why::why(black_box(records), 10, &mut other, &mut q, &mut same)); }),
-        &mut batch(|| { let _ = black_box(bindings::layout(black_box(records), 10, &mut layout_scratch, &mut laid)); }),
-    ]);
-    let judge = least([
-        &mut batch(|| { let _ = black_box(bindings::judge(black_box(records), &drawn, 10, &mut links)); }),
-        &mut batch(|| { let _ = black_box(plain::why::judge(black_box(records), &drawn, 10, &mut same)); }),
-        &mut batch(|| { let _ = black_box(bindings::check(black_box(records), &drawn, 10)); }),
-    ]);
-    for (call, [engine, rust, part]) in [("Why", why), ("Judge", judge)] {
-        println!("| {call}{note} | {shape:?} | {n} | {} | {} | {engine:.0} | {rust:.0} | {:.2} | {part:.0} |", shown.sheet.rows, shown.links, engine / rust);
-    }
-}
-
-/// Outlines of plans and the plans of the outlines.
-fn outlines() {
-    println!("| call | shape | cells | bytes of text | engine ns | Rust ns | ratio |\n|---|---|---|---|---|---|---|");
-    for shape in SHAPES {
-        for n in COUNTS {
-            let (cells, ranked, text) = plans(shape, n);
-            outline_lines(shape, cells.len(), &file(Form::Old, &text, &cells, 10), "");
-            outline_lines(shape, ranked.len(), &file(Form::Wide, &text, &ranked, 10), ", ranks");
-        }
-    }
-}
-
-fn outline_lines(shape: Shape, n: usize, bytes: &[u8], note: &str) {
-    let (mut out, mut other) = (vec![0; 66_560], vec![0; 66_560]);
-    let length = bindings::outline(bytes, &mut out).expect("a valid plan");
-    assert_eq!(plain::outline::outline(bytes, &mut other), Ok(length));
-    assert_eq!(out, other);
-    let text = out[..length].to_vec();
-    let (mut plan, mut same) = (vec![0; 16_384], vec![0; 16_384]);
-    assert!(matches!(bindings::compose(&text, &mut plan), Ok(Composed::Written(_))));
-    assert_eq!(plain::outline::compose(&text, &mut same), bindings::compose(&text, &mut plan));
-    assert_eq!(plan, same);
-    let outline = race(
-        || { let _ = black_box(bindings::outline(black_box(bytes), &mut out)); },
-        || { let _ = black_box(plain::outline::outline(black_box(bytes), &mut other)); },
-    );
-    let compose = race(
-        || { let _ = black_box(bindings::compose(black_box(&text), &mut plan)); },
-        || { let _ = black_box(plain::outline::compose(black_box(&text), &mut same)); },
-    );
-    for (call, (engine, rust)) in [("Outline", outline), ("Compose", compose)] {
-        println!("| {call}{note} | {shape:?} | {n} | {length} | {engine:.0} | {rust:.0} | {:.2} |", engine / rust);
     }
 }
 

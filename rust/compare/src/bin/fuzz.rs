@@ -6,11 +6,11 @@
 //!     fuzz library SECONDS SEED
 //!     fuzz program SECONDS SEED COMMAND...
 
-use bindings::{Composed, Judged, Mark, Outcome, Record, Verdict};
+use bindings::{Mark, Outcome, Record, Verdict};
 use compare::{plain, record};
 use reference::generate as make;
 use reference::rng::Rng;
-use reference::{texts, FORMS};
+use reference::FORMS;
 use std::io::Write;
 use std::process::{exit, Command, Stdio};
 use std::time::{Duration, Instant};
@@ -21,8 +21,6 @@ const COPY: usize = 16_384;
 const MENDED: usize = 16_384;
 const LINES: usize = 6_144;
 const SECOND: usize = 1_024;
-const LINKS: usize = 1_020;
-const OUTLINE: usize = 66_560;
 
 fn fault(what: &str, seed: u64, number: u64) -> ! {
     println!("FAULT: seed {seed} input {number}: {what}");
@@ -398,153 +396,11 @@ fn report_call(rng: &mut Rng) -> Result<(), &'static str> {
     }
 }
 
-/// Why, and what it says against Layout: the reason adds up to the sheet's width.
-fn why_call(rng: &mut Rng) -> Result<(), &'static str> {
-    let (table, allowance) = if rng.once_in(4) {
-        let (cells, allowance) = make::overlapping(rng);
-        (lent(&cells.iter().map(record).collect::<Vec<_>>()), allowance)
-    } else {
-        (lent(&some_table(rng)), if rng.once_in(10) { rng.next() as u32 } else { make::allowance(rng) })
-    };
-    let room = if rng.once_in(10) { rng.index(600) } else { 2 * table.len() + rng.index(3) };
-    let length = if rng.once_in(10) { rng.index(SCRATCH) } else { SCRATCH + rng.index(3) };
-    let few = if rng.once_in(10) { rng.index(LINKS) } else { LINKS + rng.index(3) };
-    let (fill, x) = (rng.next() as u32 | 1, rng.next() as i32);
-    let (mut scratch, mut positions, mut links) = (lent(&vec![fill; length]), lent(&vec![x; room]), lent(&vec![x; few]));
-    let (mut other, mut laid) = (scratch.clone(), positions.clone());
-    let shown = bindings::why(&table, allowance, &mut scratch, &mut positions, &mut links);
-    let sheet = if few < LINKS { None } else { Some(bindings::layout(&table, allowance, &mut other, &mut laid)) };
-    if scratch != other || positions != laid {
-        return Err("Why left a buffer otherwise than Layout");
-    }
-    let used = shown.map_or(0, |s| 4 * s.links);
-    if links[used..].iter().any(|n| *n != x) {
-        return Err("Why wrote past the links");
-    }
-    match (shown, sheet) {
-        (Ok(s), Some(Ok(sheet))) if s.sheet == sheet => {
-            adds_up(&table, &links[..used], s)?;
-            judge_calls(rng, &table, &positions, allowance)
-        }
-        (Err(r), Some(Err(refusal))) if r == refusal => judge_calls(rng, &table, &positions, allowance),
-        (Err(r), None) if r.number == 1 => Ok(()),
-        _ => Err("Why answers otherwise than Layout"),
-    }
-}
-
-/// Each link begins where the one before it ended, and the distances and the last box make the width.
-fn adds_up(table: &[Record], links: &[i32], s: bindings::Shown) -> Result<(), &'static str> {
-    let links: Vec<&[i32]> = links.chunks_exact(4).collect();
-    let chained = links.windows(2).all(|w| w[0][2] == w[1][1]) && links.last().is_none_or(|l| l[2] == s.last as i32);
-    let sum: i32 = links.iter().map(|l| l[3]).sum();
-    if chained && links.iter().all(|l| (2..=5).contains(&l[0])) && sum + table[s.last as usize].width as i32 == s.sheet.width as i32 {
-        Ok(())
-    } else {
-        Err("a reason does not add up")
-    }
-}
-
-/// Judge, of Layout's positions, of these with one number moved and of any, at this allowance and at another: what Mark says.
-fn judge_calls(rng: &mut Rng, table: &[Record], ours: &[i32], allowance: u32) -> Result<(), &'static str> {
-    let mut moved = lent(ours);
-    if !moved.is_empty() {
-        let at = rng.index(moved.len());
-        moved[at] = moved[at].wrapping_add(rng.pick(&[-1, 1, 5]));
-    }
-    let any: Box<[i32]> = ours.iter().map(|_| rng.between(-262_200, 262_200) as i32).collect();
-    for (positions, allowance) in [(&lent(ours), allowance), (&moved, allowance), (&any, allowance), (&lent(ours), make::allowance(rng))] {
-        let few = if rng.once_in(10) { rng.index(LINKS) } else { LINKS + rng.index(3) };
-        let fill = rng.next() as i32;
-        let mut links = lent(&vec![fill; few]);
-        let judged = bindings::judge(table, positions, allowance, &mut links);
-        let used = if let Ok(Judged::Least(s)) = judged { 4 * s.links } else { 0 };
-        if links[used..].iter().any(|n| *n != fill) {
-            return Err("Judge wrote past the links, or without a reason");
-        }
-        if few < LINKS {
-            if judged.err().map_or(0, |r| r.number) != 1 {
-                return Err("Judge takes too few links");
-            }
-            continue;
-        }
-        match (judged, bindings::mark(table, positions, allowance, &mut lent(&vec![0; SCRATCH]))) {
-            (Ok(Judged::Least(s)), Ok(Mark::Full(sheet))) if s.sheet == sheet => adds_up(table, &links[..used], s)?,
-            (Ok(Judged::Wider(s)), Ok(Mark::Wide { sheet, .. })) if s == sheet => {}
-            (Ok(Judged::Broken { rule, a, b }), Ok(marked)) if marked == (Mark::Broken { rule, a, b }) => {}
-            (Err(a), Err(b)) if a == b => {}
-            _ => return Err("Judge disagrees with Mark"),
-        }
-    }
-    Ok(())
-}
-
-/// Outline of a file, and Compose of that: what it writes has the same outline.
-fn outline_call(rng: &mut Rng) -> Result<(), &'static str> {
-    let file = lent(&some_file(rng));
-    let fill = rng.next() as u8;
-    let mut out = lent(&vec![fill; if rng.once_in(10) { rng.index(OUTLINE) } else { OUTLINE + rng.index(3) }]);
-    let outlined = bindings::outline(&file, &mut out);
-    let (text, rest) = out.split_at(outlined.unwrap_or(0));
-    if rest.iter().any(|b| *b != fill) {
-        return Err("Outline wrote past the outline");
-    }
-    let read = bindings::read(&file, &mut lent(&[Record::default(); 256]));
-    let plan = match (outlined, read) {
-        (Err(r), _) if out.len() < OUTLINE => return if r.number == 1 { Ok(()) } else { Err("Outline takes too short an output") },
-        (Err(a), Err(b)) if a == b => return Ok(()),
-        (Ok(_), Ok(_)) => compose_call(rng, text)?.ok_or("an outline is not understood")?,
-        _ => return Err("Outline disagrees with Read"),
-    };
-    let mut again = lent(&vec![0; OUTLINE]);
-    match bindings::outline(&plan, &mut again) {
-        Ok(same) if &again[..same] == text => Ok(()),
-        _ => Err("the plan of an outline has another"),
-    }
-}
-
-/// Compose of a text: the plan file, where there is one, which Read accepts.
-fn compose_call(rng: &mut Rng, text: &[u8]) -> Result<Option<Box<[u8]>>, &'static str> {
-    let fill = rng.next() as u8;
-    let mut out = lent(&vec![fill; COPY + rng.index(3)]);
-    let composed = bindings::compose(&lent(text), &mut out);
-    let length = if let Ok(Composed::Written(length)) = composed { length } else { 0 };
-    if out[length..].iter().any(|b| *b != fill) {
-        return Err("Compose wrote past the file, or without one");
-    }
-    let short = bindings::compose(&lent(text), &mut lent(&vec![fill; rng.index(COPY)]));
-    if short.err().map_or(0, |r| r.number) != 1 {
-        return Err("Compose takes too short an output");
-    }
-    match composed {
-        Ok(Composed::Written(_)) if bindings::read(&out[..length], &mut lent(&[Record::default(); 256])).is_err() => Err("Read refuses what Compose writes"),
-        Ok(Composed::Written(_)) => Ok(Some(lent(&out[..length]))),
-        Ok(Composed::Wrong { line, fault }) if line == 0 || line > 258 || !(1..=11).contains(&fault) => Err("Compose tells no line, or no fault"),
-        _ => Ok(None),
-    }
-}
-
-/// Compose of random bytes, of an outline's words and of altered outlines.
-fn text_calls(rng: &mut Rng) -> Result<(), &'static str> {
-    let noise = make::noise(rng, 300);
-    compose_call(rng, &noise)?;
-    let mut text = texts::any_text(rng);
-    compose_call(rng, &text)?;
-    let mut out = vec![0; OUTLINE];
-    if let Ok(length) = bindings::outline(&some_file(rng), &mut out) {
-        text = out[..length].to_vec();
-    }
-    for _ in 0..3 {
-        text = texts::alter(rng, &text);
-        compose_call(rng, &text)?;
-    }
-    Ok(())
-}
-
 fn library(end: Instant, seed: u64) -> u64 {
     let mut number = 0;
     while Instant::now() < end {
         let mut rng = Rng::new(seed, number);
-        let done = match number % 17 {
+        let done = match number % 13 {
             0 | 1 => table_calls(&mut rng),
             2 => file_calls(&mut rng),
             3 => list_call(&mut rng),
@@ -555,10 +411,7 @@ fn library(end: Instant, seed: u64) -> u64 {
             8 => step_calls(&mut rng),
             9 => report_call(&mut rng),
             10 => frame_calls(&mut rng),
-            11 | 12 => drill_calls(&mut rng),
-            13 | 14 => why_call(&mut rng),
-            15 => outline_call(&mut rng),
-            _ => text_calls(&mut rng),
+            _ => drill_calls(&mut rng),
         };
         done.unwrap_or_else(|what| fault(what, seed, number));
         number += 1;

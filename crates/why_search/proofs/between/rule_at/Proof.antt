@@ -1,5 +1,5 @@
 use Rattle.why_search.proofs.Chains.{inside_few, between}
-use Rattle.why_spread.proofs.Touching.{ready}
+use Rattle.why_layers.proofs.Seeking.{ready}
 use Prim.Native.Nat.{◌+◌}
 use native.Mathlib.Omega.{arith}
 use borrow.Author.Rules.{rules}

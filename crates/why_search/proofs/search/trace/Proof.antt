@@ -1,35 +1,33 @@
-use Rattle.spans.specs.Laws.Columns.{all, all-long}
-use Rattle.plan.specs.Limits.{most_cells}
-use native.Mathlib.Omega.{arith}
-use Prim.Native.Nat.{◌≤◌, ◌<◌}
 use Rattle.why_search.specs.Laws.Explained.{Tracing, tracing_starts, tracing_turns, tracing_ends, tracing_holds}
+use Prim.Native.Nat.{◌≤◌, ◌<◌}
+use native.Mathlib.Omega.{arith}
+use Rattle.plan.specs.Limits.{most_cells}
+use Rattle.spans.specs.Laws.Columns.{all, all-long}
+use Rattle.looking_sights.specs.Sights.{view_in}
 use borrow.Author.Rules.{rules}
 use Rattle.why_search.proofs.search.trace.Statement.{statement}
 use Rattle.why_search.proofs.search.trace.Tie as tie
 
 abbrev invariant-loop : tie.invariant-loop
-invariant-loop came n count last out₀ k₀ b₀ out k b = (n ≤ most_cells) × (count < n) × Tracing n came count last out k b
+invariant-loop sights marks n allowance count last out₀ k₀ b₀ out k b = (n ≤ most_cells) × (count < n) × Tracing (view_in sights) allowance n marks count last out k b
 
 abbrev decreases-loop : tie.decreases-loop
-decreases-loop came n count last out₀ k₀ b₀ out k b = k
+decreases-loop sights marks n allowance count last out₀ k₀ b₀ out k b = k
 
 mul-out : tie.Need-overflow-mul-out invariant-loop decreases-loop
 mul-out c = search rules
 
 array-write-out : tie.Need-array-write-out invariant-loop decreases-loop
-array-write-out c = let h = c.requires in omega (arith, h.0, h.1, all-long 0)
+array-write-out c = let h = c.requires in omega (arith, h.0.few, h.2, all-long 0)
 
 loop-holds : tie.Need-loop-init invariant-loop decreases-loop
-loop-holds c = let h = c.requires in (h.0, h.1, tracing_starts _ _ _ _ (all 0) (all-long 0) h.1 h.0 h.2)
+loop-holds c = let h = c.requires in (h.0.few, h.2, tracing_starts _ _ _ _ _ _ (all 0) (all-long 0) h.2 h.0.few h.3)
 
-mul-a : tie.Need-overflow-mul-a invariant-loop decreases-loop
-mul-a c = let h = c.before.loop.invariant in omega (arith, h.0, h.2.b_is)
-
-element-copy-out-a : tie.Need-element-copy-out-a invariant-loop decreases-loop
-element-copy-out-a c = let h = c.before.loop.invariant in omega (arith, h.0, h.2.b_is)
+source-requires : tie.Need-source-requires invariant-loop decreases-loop
+source-requires c κs = let h = c.before.before.requires in (h.0, c.before.loop.invariant.2.b_is, h.1)
 
 returns : tie.Need-returns invariant-loop decreases-loop
-returns c = tracing_holds _ _ _ _ _ _ _ c.before.before.before.loop.invariant.2 c.before.before.loop-test.true c.if1.true
+returns c = tracing_holds _ _ _ _ _ _ _ _ _ _ c.before.before.before.loop.invariant.2 c.before.before.loop-test.true c.before.source.ensures c.if1.true
 
 sub-k : tie.Need-overflow-sub-k invariant-loop decreases-loop
 sub-k c = search rules
@@ -44,10 +42,10 @@ loop-less : tie.Need-loop-smaller invariant-loop decreases-loop
 loop-less c = search rules
 
 loop-again : tie.Need-loop-preserved invariant-loop decreases-loop
-loop-again c = let h = c.before.before.before.loop.invariant in (h.0, h.1, tracing_turns _ _ _ _ _ _ _ h.2 c.before.before.loop-test.true h.0 h.1 c.if1.false)
+loop-again c = let h = c.before.before.before.loop.invariant in (h.0, h.1, tracing_turns _ _ _ _ _ _ _ _ _ _ h.2 c.before.before.loop-test.true h.0 h.1 c.before.source.ensures c.if1.false)
 
 returns-2 : tie.Need-returns-2 invariant-loop decreases-loop
-returns-2 c = tracing_ends _ _ _ _ _ _ _ c.before.loop.invariant.2 c.loop-test.false
+returns-2 c = tracing_ends _ _ _ _ _ _ _ _ _ c.before.loop.invariant.2 c.loop-test.false
 
 pub trace-spec : {M : Type 1} → statement M
 trace-spec =
@@ -58,8 +56,7 @@ trace-spec =
     mul-out
     array-write-out
     loop-holds
-    mul-a
-    element-copy-out-a
+    source-requires
     returns
     sub-k
     mul-out-2
