@@ -1,5 +1,7 @@
 // The whole of an input, read into a buffer. Every program reads by this: what was cut by an error is never taken for what the input has.
 // A contract can say how many bytes came, not which (they are the world's); that the three ends are told apart is tested from outside.
+#![tactic(auto)]
+
 ghost use Rattle.std.specs.Prelude.{◌≤◌, length};
 ghost use Rattle.io.specs.Counts.{IsPrefixLen};
 

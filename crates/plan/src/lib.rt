@@ -1,4 +1,6 @@
 // The table of a plan as the code has it, and the questions put to it.
+#![tactic(auto)]
+
 use crate::limits::MOST_CELLS;
 
 pub mod forms;

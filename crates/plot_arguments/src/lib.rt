@@ -1,4 +1,6 @@
 // A length that an argument of `plot` says, in thousandths of a millimetre: digits with at most one point, one digit at least, three behind the point at most.
+#![tactic(auto)]
+
 ghost use Rattle.std.specs.Prelude.{◌≡◌, ◌+◌, ◌*◌, ◌-◌, ◌≤◌, min};
 ghost use Rattle.plot_arguments.specs.Lengths.{most, «next_place», with_point, with_digit, broken, step, thousandths, finish, length_of};
 

@@ -1,4 +1,6 @@
 // How far a program with many files has come, every hundred files, where standard error is a terminal: `folder: 300 of 1024 files`.
+#![tactic(auto)]
+
 use libc::STDERR_FILENO;
 
 // Files after which it is told.

@@ -1,4 +1,6 @@
 // Whole numbers become natural ones here, moved up so that none is negative, and differences of natural numbers whole ones.
+#![tactic(auto)]
+
 pub mod numbers;
 
 ghost use Rattle.std.specs.Prelude.{◌≡◌, ◌<◌, ◌^◌, length, get_or, pos, ◌-ℤ◌};

@@ -21,6 +21,7 @@ Passes r = r.number ≡ 0
 zero_number : (q : Question) → T (eqb (number q) 0) → ⊥
 unfolding number
 zero_number asked.buffers_long h = h
+zero_number _ h = elim h [ ]
 
 pub not_zero : (q : Question) → ¬ (number q ≡ 0)
 not_zero q e = zero_number q (rw e (eqb_refl 0))

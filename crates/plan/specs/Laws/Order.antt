@@ -8,7 +8,7 @@ use Rattle.std.proofs.Math.Decide.{ℕ_discrete}
 use Rattle.std.proofs.Math.Dec.{T}
 use Rattle.plan.specs.declared.Refusal.{Refusal}
 use Rattle.plan.specs.Lists.{from, some, mem}
-use Rattle.plan.specs.Questions.{Buffer, Lent, absent, Given, Question, buffers_long, positions_long, number, Step, once, each, sequence, Call, puts, put, with_each, kept, all_roomy, enough, holds, none, asked, or_else, at_each, ask, ask_all, take_step, take_steps, refusal, layout_given, check_given, ends_given, list_given, frame_given, copy_given, stroke_given, strip_given, drill_given, start_given, step_given, reach_given, mark_given}
+use Rattle.plan.specs.Questions.{Buffer, Lent, absent, long, Given, Question, buffers_long, positions_long, number, Step, once, each, sequence, Call, puts, put, with_each, kept, all_roomy, enough, holds, none, asked, or_else, at_each, ask, ask_all, take_step, take_steps, refusal, layout_given, check_given, ends_given, list_given, frame_given, copy_given, stroke_given, strip_given, drill_given, start_given, step_given, reach_given, mark_given}
 use Rattle.plan.specs.Order.{some_buffer, has_positions, concerns, number_in, numbers, in_order, asks, cell_by_cell, Rows}
 use Rattle.plan.specs.Laws.Questions.{first-none, first_some}
 use Rattle.plan.specs.Laws.Lists.{mem-here, mem-none, mem_there, mem_cases}
@@ -43,15 +43,18 @@ rows =
 of_no_buffer : (bs : List Buffer) → T (not (some_buffer bs)) → T (all_roomy bs)
 unfolding some_buffer all_roomy
 of_no_buffer [] h = tt
+of_no_buffer (_ ∷ _) h = elim h [ ]
 
 of_no_positions : (p : Lent) (n : ℕ) → T (not (has_positions p)) → T (enough p n)
 unfolding has_positions enough
 of_no_positions absent n h = tt
+of_no_positions (long _) n h = elim h [ ]
 
 of-nothing : (g : Given) (q : Question) (c : ℕ) → T (not (concerns g q)) → T (holds g q c)
 unfolding concerns holds
 of-nothing g buffers_long c h = of_no_buffer g.buffers h
 of-nothing g positions_long c h = of_no_positions g.positions _ h
+of-nothing g _ c h = elim h [ ]
 
 -- the numbers of refusals, but for 0
 either_number : (P : ℕ → Type 0) (a b : Refusal) → (¬ (a.number ≡ 0) → P a.number) → (¬ (b.number ≡ 0) → P b.number) → ¬ ((or_else a b).number ≡ 0) → P (or_else a b).number
