@@ -9,7 +9,7 @@ pub mod limits;
 
 // Document 01: "a run of records, one for each cell". The root's parent is 65,535. The rank stands where a byte was unused.
 #[repr(C)]
-#[derive(Drop)]
+#[derive(Clone, Copy, Drop)]
 pub struct Record {
     pub parent: u16,
     pub kind: u8,
@@ -41,7 +41,7 @@ pub struct Lettered {
 }
 
 // A question's number and the lowest cell at fault; 0 and 0 where nothing is refused.
-#[derive(Drop)]
+#[derive(Clone, Copy, Drop)]
 pub struct Refusal {
     pub number: u8,
     pub cell: u16,
