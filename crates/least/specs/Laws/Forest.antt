@@ -81,7 +81,7 @@ pub data Within (G : Forest) : Forest → Type 0 where
   under : {c : ℕ} {ss r : Forest} → Within G ss → Within G (tree c ss r)
   beside : {c : ℕ} {ss r : Forest} → Within G r → Within G (tree c ss r)
 
-pub keeps_within : (t : Table) (al : ℕ) (x : ℕ → ℕ) {F G : Forest} → Within G F → Keeps t al x F → Keeps t al x G
+pub keeps_within : (t : Table) (al : ℕ) (x : ℕ → ℕ) {G F : Forest} → Within G F → Keeps t al x F → Keeps t al x G
 keeps_within t al x Within.self h = h
 keeps_within t al x (Within.under w) h = keeps_within t al x w h.children
 keeps_within t al x (Within.beside w) h = keeps_within t al x w h.rest
@@ -89,7 +89,7 @@ keeps_within t al x (Within.beside w) h = keeps_within t al x w h.rest
 abbrev Placed : Table → ℕ → (ℕ → ℕ) → Forest → Type 0
 Placed t al x F = (b : ℕ) × (P : ℕ) × (X : ℕ) × Spread t al x b P X F × Ours t al x F
 
-pub ours-within : (t : Table) (al : ℕ) (x : ℕ → ℕ) {F G : Forest} → Within G F → Placed t al x F → Placed t al x G
+pub ours-within : (t : Table) (al : ℕ) (x : ℕ → ℕ) {G F : Forest} → Within G F → Placed t al x F → Placed t al x G
 ours-within t al x Within.self h = h
 ours-within t al x (Within.under w) (b, P, X, s, o) = ours-within t al x w (_, _, _, o.spread, o.children)
 ours-within t al x (Within.beside w) (b, P, X, s, o) = ours-within t al x w (_, _, _, s.next, o.rest)

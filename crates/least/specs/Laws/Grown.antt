@@ -45,7 +45,7 @@ module _ (t : Table) (sound : Sound t) where
   under_one g (In.under p) = let (i, s, h, w) = in_grown g p in Below.down i s h w
   under_one g (In.beside p) = absurd (not_in_none p)
 
-  grown_in : {a s : ℕ} {cs : List ℕ} {F : Forest} (i : ℕ) → Grown t cs F → At cs i s → Below t a s → In F a
+  grown_in : {a : ℕ} {cs : List ℕ} {F : Forest} (i : ℕ) {s : ℕ} → Grown t cs F → At cs i s → Below t a s → In F a
   grown_in i Grown.nil h w = absurd h
   grown_in zero (Grown.cons {c = c} g b) h w =
       elim (below_split (rw h at w)) [
@@ -69,14 +69,14 @@ module _ (t : Table) (sound : Sound t) where
   takes_low (Takes.box p q) = p
   takes_low (Takes.stem b w g h) = omega arith
 
-  shallow : {r a : ℕ} {cs : List ℕ} {F : Forest} → Grown t cs F → Level cs r → In F a → row t a + box_depth t a < r + height t F
+  shallow : {a : ℕ} {cs : List ℕ} {F : Forest} → Grown t cs F → {r : ℕ} → Level cs r → In F a → row t a + box_depth t a < r + height t F
   unfolding height
   shallow Grown.nil l p = absurd (not_in_none p)
   shallow (Grown.cons {c = c} g b) l In.top = omega (arith, l 0 c refl)
   shallow (Grown.cons {c = c} g b) l (In.under p) = omega (arith, shallow g (λ i s h. row-child t sound c i s h) p, l 0 c refl)
   shallow (Grown.cons g b) l (In.beside p) = omega (arith, shallow b (λ i. l (suc i)) p)
 
-  deepest : {r : ℕ} {cs : List ℕ} {F : Forest} → Grown t cs F → Level cs r → (j : ℕ) → j < height t F → (b : ℕ) × In F b × (r + j ≤ row t b + box_depth t b)
+  deepest : {cs : List ℕ} {F : Forest} → Grown t cs F → {r : ℕ} → Level cs r → (j : ℕ) → j < height t F → (b : ℕ) × In F b × (r + j ≤ row t b + box_depth t b)
   unfolding height
   deepest Grown.nil l j m = absurd (omega arith)
   deepest (Grown.cons {c = c} {r = r} g b) l j m =
@@ -99,7 +99,7 @@ module _ (t : Table) (sound : Sound t) where
   fills_takes {r = r} {j = j} (Grown.cons {c = c} g b) l (Fills.under p q) =
       let e = l 0 c refl in
       let same : row t c + box_depth t c + 1 + (j - (box_depth t c + 1)) ≡ r + j = omega arith in
-      rw same at (fills_takes g (λ i s h. row-child t sound c i s h) q)
+      rw same at (fills_takes {r = row t c + box_depth t c + 1} {j = j - (box_depth t c + 1)} g (λ i s h. row-child t sound c i s h) q)
   fills_takes (Grown.cons g b) l (Fills.beside p) = fills_takes b (λ i. l (suc i)) p
 
   takes_top : {c ρ e : ℕ} {F : Forest} (r : Forest) (j : ℕ) → Grown t (children t c) F → Takes t c ρ e → ρ ≡ row t c + j → Fills t (tree c F r) j c e
@@ -114,14 +114,14 @@ module _ (t : Table) (sound : Sound t) where
   takes_fills : {r a ρ e : ℕ} {cs : List ℕ} {F : Forest} (j : ℕ) → Grown t cs F → Level cs r → In F a → Takes t a ρ e → ρ ≡ r + j → Fills t F j a e
   takes_fills j Grown.nil l p q z = absurd (not_in_none p)
   takes_fills j (Grown.cons {c = c} {r = r} g b) l In.top q z = takes_top r j g q (omega (arith, l 0 c refl))
-  takes_fills j (Grown.cons {c = c} g b) l (In.under p) q z =
+  takes_fills {r = r} j (Grown.cons {c = c} g b) l (In.under p) q z =
       let e = l 0 c refl in
       let (i, s, h, w) = in_grown g p in
       let m = below_row w in
       let n = row-child t sound c i s h in
       let o = takes_low q in
       let d : box_depth t c < j = omega arith in
-      Fills.under d (takes_fills (j - (box_depth t c + 1)) g (λ i s h. row-child t sound c i s h) p q (omega arith))
+      Fills.under d (takes_fills {r = row t c + box_depth t c + 1} (j - (box_depth t c + 1)) g (λ i s h. row-child t sound c i s h) p q (omega arith))
   takes_fills j (Grown.cons g b) l (In.beside p) q z = Fills.beside (takes_fills j b (λ i. l (suc i)) p q z)
 
   lone_level : (c : ℕ) → Level (c ∷ []) (row t c)

@@ -50,22 +50,26 @@ module _ (t u : Table) where
         let e : x ≡ y = disjoint t st a x y c (child-read t a i x h) (child-read t a j y k) (below-within t st v) (below-within t st w) in
         child-place t a i j y (rw e at h) k
 
-    only : {cs ds : List ℕ} {c d e : ℕ} → Twins t u cs ds c d → Twins t u cs ds c e → Parted cs c → d ≡ e
-    only Twins.here Twins.here p = refl
-    only (Twins.here {a = a}) (Twins.under v) p = let (i, s, h, w) = twins_under v in absurd (omega (arith, child_less t st a i s h, below-least w))
-    only (Twins.here {a = a}) (Twins.later v) p = let (i, s, h, w) = twins_under v in absurd (omega (arith, p 0 (suc i) a s refl h Below.here w))
-    only (Twins.under {a = a} v) Twins.here p = let (i, s, h, w) = twins_under v in absurd (omega (arith, child_less t st a i s h, below-least w))
-    only (Twins.under {a = a} {c = c} v) (Twins.under x) p = only v x (parted-children a c)
-    only (Twins.under {a = a} v) (Twins.later x) p =
+    only : {cs ds : List ℕ} {c d f e : ℕ} → Twins t u cs ds c d → Twins t u cs ds f e → c ≡ f → Parted cs c → d ≡ e
+    only Twins.here Twins.here z p = refl
+    only (Twins.here {a = a}) (Twins.under v) z p = let (i, s, h, w) = twins_under v in absurd (omega (arith, child_less t st a i s h, below-least w))
+    only (Twins.here {a = a}) (Twins.later v) z p =
+        let (i, s, h, w) = twins_under v in
+        absurd (omega (arith, p 0 (suc i) a s refl h Below.here (rw z w)))
+    only (Twins.under {a = a} v) Twins.here z p = let (i, s, h, w) = twins_under v in absurd (omega (arith, child_less t st a i s h, below-least w))
+    only (Twins.under {a = a} {c = c} v) (Twins.under x) z p = only v x z (parted-children a c)
+    only (Twins.under {a = a} v) (Twins.later x) z p =
         let (i, s, h, w) = twins_under v in
         let (j, q, k, y) = twins_under x in
-        absurd (omega (arith, p 0 (suc j) a q refl k (Below.down i s h w) y))
-    only (Twins.later v) (Twins.here {a = a}) p = let (i, s, h, w) = twins_under v in absurd (omega (arith, p 0 (suc i) a s refl h Below.here w))
-    only (Twins.later v) (Twins.under {a = a} x) p =
+        absurd (omega (arith, p 0 (suc j) a q refl k (Below.down i s h w) (rw z y)))
+    only (Twins.later v) (Twins.here {a = a}) z p =
+        let (i, s, h, w) = twins_under v in
+        absurd (omega (arith, p 0 (suc i) a s refl h (rw z Below.here) w))
+    only (Twins.later v) (Twins.under {a = a} x) z p =
         let (i, s, h, w) = twins_under v in
         let (j, q, k, y) = twins_under x in
-        absurd (omega (arith, p 0 (suc i) a s refl h (Below.down j q k y) w))
-    only (Twins.later v) (Twins.later x) p = only v x (λ i j a b h k w y. let e = p (suc i) (suc j) a b h k w y in omega arith)
+        absurd (omega (arith, p 0 (suc i) a s refl h (rw z (Below.down j q k y)) w))
+    only (Twins.later v) (Twins.later x) z p = only v x z (λ i j a b h k w y. let e = p (suc i) (suc j) a b h k w y in omega arith)
 
     alone : (a c : ℕ) → Parted (a ∷ []) c
     alone a c zero zero x y h k v w = refl
@@ -82,7 +86,7 @@ module _ (t u : Table) where
     twin c ic w =
         let (d, v) = has e 0 a refl (within-below t st a c ic w) in
         let k = under_top d (twins_under (twins_turned v)) in
-        record { cell = d; is = below-is u su ib k; under = below-within u su k; twins = v; alone = λ x y. only st y v (alone st a c) }
+        record { cell = d; is = below-is u su ib k; under = below-within u su k; twins = v; alone = λ x y. only st y v refl (alone st a c) }
 
 pub whole : (t u : Table) → Sound t → Sound u → (a b : ℕ) → Is t a → Is u b → Alike t u (a ∷ []) (b ∷ [])
     → ((c : ℕ) → Is t c → T (within t a c) → Twin t u a b c) × ((d : ℕ) → Is u d → T (within u b d) → Twin u t b a d)
