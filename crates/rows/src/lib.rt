@@ -1,4 +1,5 @@
 // Row operations on the scratch: a box is drawn, extents are read, a child's rows join its parent's.
+#![tactic(auto)]
 
 ghost use Rattle.std.specs.Prelude.{◌≡◌, ◌+◌, ◌-◌, ◌*◌, ◌≤◌, ◌<◌, length, get_or};
 ghost use Rattle.plan.specs.Limits.{farthest};
