@@ -1,4 +1,6 @@
 // Where the boxes of a drawn sheet stand: the numbers of lent positions moved up by 262,143, so that none is negative, and the least x among them.
+#![tactic(auto)]
+
 ghost use Rattle.std.specs.Prelude.{◌≡◌, ◌+◌, ◌≤◌};
 ghost use Rattle.plan.specs.Limits.{farthest, most_cells};
 ghost use Rattle.plan.specs.Near.{Near};
