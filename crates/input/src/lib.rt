@@ -5,6 +5,8 @@
 ghost use Rattle.std.specs.Prelude.{◌≤◌, length};
 ghost use Rattle.io.specs.Counts.{IsPrefixLen};
 
+use std::io::Read;
+
 // How an input ended: all of it is in the buffer; it goes on behind the buffer's last byte; a read failed.
 #[derive(Drop)]
 pub enum End {
@@ -28,20 +30,25 @@ struct Got {
 }
 
 // One read.
-fn read_once(fd: i32, rest: &mut [u8]) -> Got
+fn read_once<R: Read>(from: &mut R, rest: &mut [u8]) -> Got
     ensures { result.count ≤ length rest.old }
 {
-    let got = libc::read(fd, rest);
-    Got {
-        count: io::count(got, rest),
-        failed: got < 0,
+    match from.read(rest) {
+        Ok(count) => Got {
+            count,
+            failed: false,
+        },
+        Err(_) => Got {
+            count: 0,
+            failed: true,
+        },
     }
 }
 
 // How an input ends whose bytes fill the buffer.
-fn end_behind(fd: i32) -> End {
+fn end_behind<R: Read>(from: &mut R) -> End {
     let mut next = [0u8; 1];
-    let got = read_once(fd, &mut next);
+    let got = read_once(from, &mut next);
     if got.failed {
         return End::Failed;
     }
@@ -52,12 +59,12 @@ fn end_behind(fd: i32) -> End {
 }
 
 // Reads until the buffer is full, the input ends or a read fails.
-pub fn read_whole(fd: i32, buffer: &mut [u8]) -> Input
+pub fn read_whole<R: Read>(from: &mut R, buffer: &mut [u8]) -> Input
     ensures { IsPrefixLen result.length buffer.new }
 {
     let mut done: usize = 0;
     while done < buffer.len() {
-        let got = read_once(fd, &mut buffer[done..]);
+        let got = read_once(from, &mut buffer[done..]);
         if got.failed {
             return Input {
                 length: done,
@@ -72,7 +79,7 @@ pub fn read_whole(fd: i32, buffer: &mut [u8]) -> Input
         }
         done += got.count;
     }
-    let end = end_behind(fd);
+    let end = end_behind(from);
     Input { length: done, end }
 }
 

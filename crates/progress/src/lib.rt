@@ -1,22 +1,20 @@
 // How far a program with many files has come, every hundred files, where standard error is a terminal: `folder: 300 of 1024 files`.
 #![tactic(auto)]
 
-use libc::STDERR_FILENO;
+use std::io::IsTerminal;
 
 // Files after which it is told.
 const MANY: usize = 100;
 
-pub fn tell_progress(program: &[u8], done: usize, all: usize) {
+// Told to `to`, standard error. What a terminal does not take is let go.
+pub fn tell_progress<E: Print + IsTerminal>(to: &E, program: &[u8], done: usize, all: usize) {
     if done % MANY != 0 {
         return;
     }
-    if libc::isatty(STDERR_FILENO) == 0 {
+    if !to.is_terminal() {
         return;
     }
-    io::write_all(STDERR_FILENO, program);
-    io::write_all(STDERR_FILENO, b": ");
-    io::print_decimal(STDERR_FILENO, done as u64);
-    io::write_all(STDERR_FILENO, b" of ");
-    io::print_decimal(STDERR_FILENO, all as u64);
-    io::write_all(STDERR_FILENO, b" files\n");
+    if to.write_all(program).is_ok() {
+        to.print(format_args!(": {done} of {all} files\n")).is_ok();
+    }
 }
