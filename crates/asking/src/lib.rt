@@ -1,4 +1,6 @@
 // The questions put to a table, each as a refusal. A refusal of number 0 is none. None asks about a rank: the contracts hold whatever the ranks qs are.
+#![tactic(auto)]
+
 pub mod tree;
 
 ghost use Rattle.std.specs.Prelude.{◌≡◌, List, false, ◌&&◌, ℕ, ◌+◌, ◌*◌, ◌^◌, ◌≤◌, ◌<◌, leb, length, get_or, pos};

@@ -1,4 +1,6 @@
 // The structs of which the definitions of a plan file speak.
+#![tactic(auto)]
+
 use plan::limits::MOST_CELLS;
 use plan::{Columns, Refusal};
 

@@ -1,0 +1,29 @@
+use mathlib.Core.Path.{ap, ◌∙◌}
+use native.Mathlib.Omega.{arith}
+use Rattle.plan.specs.Questions.{asked}
+use Rattle.plan.specs.Laws.Questions.{loop_starts, loop_stops, loop_goes_on, loop_ends}
+use Rattle.plan.specs.Steps.{near_refusal}
+use Rattle.asking.proofs.near_refusal.Goals as goal
+
+pub loop-c-init : goal.loop-c-init
+loop-c-init c = (omega arith, loop_starts _ _)
+
+pub both_near-requires : goal.both_near-requires
+both_near-requires c = omega arith
+
+pub returns-then-r-ne0 : goal.returns-then-r-ne0
+unfolding near_refusal
+returns-then-r-ne0 c = loop_stops _ _ _ c.loop-c.invariant.1 c.loop-c-test.true _ (c.asked-r.ensures ∙ ap (λ x. asked 15 x c.loop-c.c) c.both_near.ensures) c.if-r-ne0.true
+
+pub overflow_add-c : goal.overflow_add-c
+overflow_add-c c = omega arith
+
+pub loop-c-smaller : goal.loop-c-smaller
+loop-c-smaller c = omega arith
+
+pub loop-c-preserved : goal.loop-c-preserved
+loop-c-preserved c = (omega arith, loop_goes_on _ _ _ c.loop-c.invariant.1 c.loop-c-test.true _ (c.asked-r.ensures ∙ ap (λ x. asked 15 x c.loop-c.c) c.both_near.ensures) c.if-r-ne0.false)
+
+pub returns : goal.returns
+unfolding near_refusal
+returns c = loop_ends _ _ _ c.loop-c.invariant.1 c.loop-c-test.false
