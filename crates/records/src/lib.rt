@@ -1,4 +1,6 @@
 // A lent run of records, taken apart into columns of numbers and filled from a reading.
+#![tactic(auto)]
+
 ghost use Rattle.std.specs.Prelude.{◌≡◌, ◌<◌, ◌≤◌, length};
 ghost use Rattle.plan.specs.Limits.{most_cells};
 ghost use Rattle.records.specs.Apart.{«lent_at», blank, clipped, lent_columns, lent_lettered};
@@ -36,8 +38,11 @@ fn empty(count: usize) -> Lettered
 }
 
 // How many records of a table are taken apart: none where there are too many.
+#[tactic(auto, unfolding(crate::specs::Apart::clipped))]
 fn clip(count: usize) -> usize
-    ensures { result ≡ clipped count }
+    ensures value { result ≡ clipped count }
+    ensures within { result ≤ count }
+    ensures few { result ≤ most_cells }
 {
     if MOST_CELLS < count { 0 } else { count }
 }

@@ -1,2 +1,0 @@
-mod Locals
-mod Numbers

@@ -1,0 +1,12 @@
+use Rattle.std.proofs.Common.{arith, length, ◌∙◌}
+use Rattle.records.specs.Laws.Apart.{lettering-none, lettering-more}
+use Rattle.records.proofs.lettered_of.Goals as goal
+
+pub loop-c-init : goal.loop-c-init
+loop-c-init c = record { done = omega arith; so_far = c.empty-t.ensures ∙ lettering-none c.args.table.now (length c.args.table.now) }
+
+pub loop-c-preserved : goal.loop-c-preserved
+loop-c-preserved c = record {
+  done = omega arith;
+  so_far = rw (← c.loop-c.invariant.so_far, ← c.record_at-r.ensures) at (lettering-more c.args.table.now (length c.args.table.now) c.loop-c.c);
+}
