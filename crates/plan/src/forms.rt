@@ -4,7 +4,7 @@ ghost use Rattle.plan.specs.Forms.{marked, «form_of», record_size, widest};
 
 use crate::limits::{MOST_WIDTH, OLD_MARK, OLD_SIZE, OLD_WIDTH, WIDE_MARK, WIDE_SIZE};
 
-#[derive(Drop)]
+#[derive(Clone, Copy, Drop)]
 pub enum Form {
     Old,
     Wide,

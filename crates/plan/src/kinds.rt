@@ -6,14 +6,14 @@ ghost use Rattle.plan.specs.Kinds.{about, known, allows, bordered};
 use crate::limits::{MOST_CHILDREN, between};
 
 // What a kind allows: from how many children to how many; and its border.
-#[derive(Drop)]
+#[derive(Clone, Copy, Drop)]
 pub struct Kind {
     pub fewest: u8,
     pub most: u8,
     pub border: u8,
 }
 
-#[derive(Drop)]
+#[derive(Clone, Copy, Drop)]
 pub enum Lookup {
     Known(Kind),
     Unknown,

@@ -22,7 +22,7 @@ pub struct Record {
 
 // The numbers of a table of `count` cells, a column for each field that layout, check and connectors read.
 // A table of more than 256 records has its count here, and no numbers: question 4 refuses it.
-#[derive(Drop)]
+#[derive(Clone, Copy, Drop)]
 pub struct Columns {
     pub count: usize,
     pub parent: [u16; MOST_CELLS],
@@ -33,7 +33,7 @@ pub struct Columns {
 }
 
 // The same numbers, with the columns of the two label fields, for calls that take labels along.
-#[derive(Drop)]
+#[derive(Clone, Copy, Drop)]
 pub struct Lettered {
     pub columns: Columns,
     pub label_length: [u8; MOST_CELLS],
@@ -49,7 +49,7 @@ pub struct Refusal {
 
 // The page of a plotter, in millimetres: the pitch of the lattice, and both margins.
 #[repr(C)]
-#[derive(Drop)]
+#[derive(Clone, Copy, Drop)]
 pub struct Page {
     pub pitch: f64,
     pub margin_x: f64,

@@ -5,7 +5,7 @@ use plan::limits::MOST_CELLS;
 use plan::{Columns, Refusal};
 
 // What the last 8 bytes of a file say.
-#[derive(Drop)]
+#[derive(Clone, Copy, Drop)]
 pub struct Trailer {
     pub begin: u16,
     pub count: u16,
@@ -14,7 +14,7 @@ pub struct Trailer {
 }
 
 // Read's answer: a refusal and no cell; or a refusal of 0 and 0, the allowance and the records in columns, zeros after them.
-#[derive(Drop)]
+#[derive(Clone, Copy, Drop)]
 pub struct Reading {
     pub refusal: Refusal,
     pub allowance: u16,
@@ -24,7 +24,7 @@ pub struct Reading {
 }
 
 // The bytes of a file from start to end.
-#[derive(Drop)]
+#[derive(Clone, Copy, Drop)]
 pub struct Part {
     pub start: usize,
     pub end: usize,
