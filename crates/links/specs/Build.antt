@@ -5,7 +5,6 @@ use Rattle.plan.specs.Limits.{most_cells}
 use Rattle.plan.specs.Plan.{appointed, Table, Is, kind, parent, rank}
 use Rattle.links.specs.Links.{link, Links}
 use Rattle.links.specs.Chain.{Chain, line_of, seek, link_in}
-use Rattle.plan.specs.Lists.{from}
 
 -- the parent, in a column
 abbrev pub up : List ℕ → ℕ → ℕ

@@ -1,4 +1,5 @@
 // The links of a table, made once: how the walk finds a cell's children. Only this crate knows the order of siblings.
+#![tactic(auto)]
 
 ghost use Rattle.std.specs.Prelude.{◌≡◌, ◌+◌, ◌-◌, ◌*◌, ◌≤◌, ◌<◌, length, get_or};
 ghost use Rattle.plan.specs.Columns.{table_of};

@@ -134,6 +134,11 @@ module _ (ls qs : List ℕ) (c : ℕ) (some : 0 < c) (few : c < most_cells) (roo
   put_first at l h k o p ch =
       record { is = at-link at h; some = some; few = few; rest = rw (after-c at (λ e. k (sym e))) (in_other ls c at (get_or ls at 0) l o p ch) }
 
+  -- the same chain, its link and its cells by other names
+  same : (r₁ r₂ at : ℕ) (xs ys : List ℕ) → r₁ ≡ r₂ → xs ≡ ys → Chain (link_in ls c r₂) (get_or (link_in ls c r₂) at 0) ys
+      → Chain (link_in ls c r₁) (get_or (link_in ls c r₁) at 0) xs
+  same r₁ r₂ at xs ys e f ch = rw (e, f) ch
+
   pub chain-insert : (at : ℕ) (l : List ℕ) → at < length ls → at ≢ 4 * c + 1 → Off at l → Off (4 * c + 1) l → Ordered by l → Chain ls (get_or ls at 0) l
       → Chain (link_in ls c (r at l)) (get_or (link_in ls c (r at l)) at 0) (insert by c l)
   chain-insert at [] h k o p ord ch = rw (insert-none by c, seek-none qs (by c) at) (put_first at [] h k o p ch)
@@ -149,10 +154,10 @@ module _ (ls qs : List ℕ) (c : ℕ) (some : 0 < c) (few : c < most_cells) (roo
 
       go : Dec (by c ≤ by s) → Chain (link_in ls c (r (4 * s + 1) l)) (get_or (link_in ls c (r (4 * s + 1) l)) (4 * s + 1) 0) (insert by c l)
           → Chain (link_in ls c (r at (s ∷ l))) (get_or (link_in ls c (r at (s ∷ l))) at 0) (insert by c (s ∷ l))
-      go (yes z) ih = rw (insert-stops by c s l z, seek-stops qs (by c) at s l z) (put_first at (s ∷ l) h k o p ch)
+      go (yes z) ih = same _ at at _ (c ∷ s ∷ l) (seek-stops qs (by c) at s l z) (insert-stops by c s l z) (put_first at (s ∷ l) h k o p ch)
       go (no z) ih =
           let m : by s < by c = omega arith in
-          rw (insert-goes_on by c s l m, seek-goes_on qs (by c) at s l m)
+          same _ (r (4 * s + 1) l) at _ (s ∷ insert by c l) (seek-goes_on qs (by c) at s l m) (insert-goes_on by c s l m)
           (record { is = elsewhere (r (4 * s + 1) l) at (away (seek_where qs (by c) (4 * s + 1) l)) k ∙ ch.is; some = ch.some; few = ch.few; rest = ih })
 
 -- ---- the links of a table spell its children
