@@ -1,4 +1,6 @@
 // The lines of a listing. The private functions write a text into a buffer at a place, and hand the next place back.
+#![tactic(auto)]
+
 ghost use Rattle.std.specs.Prelude.{◌≡◌, ◌∷◌, [], ◌+◌, ◌≤◌, ◌<◌, length, pos, ◌<ℤ◌};
 ghost use Rattle.whole.specs.Whole.{minus};
 ghost use Rattle.plan.specs.Limits.{most_label};

@@ -1,0 +1,30 @@
+use native.Mathlib.Omega.{arith}
+use Rattle.listing.specs.Laws.Put.{put-start, put-more, put_all}
+use Rattle.listing.proofs.copy.Goals as goal
+
+pub loop-i-init : goal.loop-i-init
+loop-i-init c = (omega arith, put-start _ _)
+
+pub bounds-text-i : goal.bounds-text-i
+bounds-text-i c = omega arith
+
+pub overflow_add-out : goal.overflow_add-out
+overflow_add-out c = omega arith
+
+pub bounds-out-at : goal.bounds-out-at
+bounds-out-at c = omega arith
+
+pub overflow_add-i : goal.overflow_add-i
+overflow_add-i c = omega arith
+
+pub loop-i-smaller : goal.loop-i-smaller
+loop-i-smaller c = omega arith
+
+pub loop-i-preserved : goal.loop-i-preserved
+loop-i-preserved c = (omega arith, put-more _ c.loop-i.invariant.1 c.loop-i-test.true)
+
+pub overflow_add-result : goal.overflow_add-result
+overflow_add-result c = omega arith
+
+pub returns : goal.returns
+returns c = put_all _ c.loop-i.invariant.1 c.loop-i-test.false

@@ -1,0 +1,7 @@
+use native.Mathlib.Omega.{arith}
+use Rattle.listing.specs.Laws.Line.{end_line-is}
+use Rattle.listing.specs.Laws.Put.{then, line-is}
+use Rattle.listing.proofs.end_line.Goals as goal
+
+pub returns : goal.returns
+returns c = (line-is (then (then (then c.copy-a.ensures c.field-b.ensures.0) c.field-c.ensures.0) c.put-end.ensures) (omega arith) (end_line-is _ _ _), omega arith)

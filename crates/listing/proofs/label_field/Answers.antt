@@ -1,0 +1,10 @@
+use Rattle.listing.specs.Laws.Line.{spaced-empty, spaced-label}
+use Rattle.listing.specs.Laws.Put.{put-none, then}
+use native.Mathlib.Omega.{arith}
+use Rattle.listing.proofs.label_field.Goals as goal
+
+pub returns-then-label-eq0 : goal.returns-then-label-eq0
+returns-then-label-eq0 c = (rw (spaced-empty _ c.if-label-eq0.true) (put-none _ _), omega arith)
+
+pub returns : goal.returns
+returns c = (rw (spaced-label _ c.if-label-eq0.false) (then c.put-letters.ensures c.copy.ensures), omega arith)
