@@ -1,4 +1,6 @@
 // A NUMBER THAT AN ARGUMENT OF A PROGRAM TELLS: decimal digits, and nothing else.
+#![tactic(auto)]
+
 ghost use Rattle.std.specs.Prelude.{◌≡◌, ◌≤◌};
 ghost use Rattle.argument_number.specs.Number.{no_number, with_digit, number_in};
 
