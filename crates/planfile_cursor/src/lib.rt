@@ -1,4 +1,6 @@
 // The bytes of a plan file: a number, a record, the trailer. The reading place: each field that is read moves it on and hands it back.
+#![tactic(auto)]
+
 ghost use Rattle.std.specs.Prelude.{◌≡◌, ◌+◌, ◌*◌, ◌^◌, ◌≤◌, ◌<◌, length, get_or};
 ghost use Rattle.plan.specs.Limits.{most_cells, old_size, wide_size, trailer_size};
 ghost use Rattle.plan.specs.Forms.{record_size};
