@@ -1,4 +1,6 @@
 // Texts, numbers and the line of a refusal written into a buffer at a place; each function hands the next place back. A float in millimetres is written to three digits after the point.
+#![tactic(auto)]
+
 ghost use Rattle.std.specs.Prelude.{◌≡◌, ◌+◌, ◌<◌, ◌≤◌, [], ◌∷◌, length};
 ghost use Rattle.listing.specs.Printed.{decimal, refused_line};
 ghost use Rattle.listing.specs.Put.{Put};
