@@ -1,12 +1,13 @@
 // The cases of a test program, a text of lines: each a word and its numbers, one space before each. A table is six lines: table (how many
 // cells), parents, kinds, widths, depths, ranks. A case that follows it ends with a colon, a space and its name.
+#![tactic(auto)]
+
 mod scanned;
 
-use io::write_all;
-use libc::STDOUT_FILENO;
 use plan::Columns;
 pub use scanned::{after, byte_at};
 use scanned::{find, number_at};
+use std::io;
 use whole::difference;
 
 // The first number of a line, and the second.
@@ -39,11 +40,9 @@ fn low8(n: u32) -> u8 {
 fn column16(text: &[u8], line: usize) -> [u16; 256] {
     let mut column = [0u16; 256];
     let mut at = line;
-    let mut c: usize = 0;
-    while c < 256 {
+    for c in 0..256 {
         at = after(text, at, b' ');
         column[c] = low16(number_at(text, at));
-        c += 1;
     }
     column
 }
@@ -51,11 +50,9 @@ fn column16(text: &[u8], line: usize) -> [u16; 256] {
 fn column8(text: &[u8], line: usize) -> [u8; 256] {
     let mut column = [0u8; 256];
     let mut at = line;
-    let mut c: usize = 0;
-    while c < 256 {
+    for c in 0..256 {
         at = after(text, at, b' ');
         column[c] = low8(number_at(text, at));
-        c += 1;
     }
     column
 }
@@ -97,24 +94,23 @@ fn signed_at(text: &[u8], at: usize) -> i32 {
 pub fn positions(text: &[u8], line: usize) -> [i32; 512] {
     let mut xs = [0i32; 512];
     let mut at = line;
-    let mut i: usize = 0;
-    while i < 512 {
+    for i in 0..512 {
         at = after(text, at, b' ');
         xs[i] = signed_at(text, at);
-        i += 1;
     }
     xs
 }
 
 // The name of the case at `at`: after the colon and a space, to the end of the line.
-pub fn print_name(text: &[u8], at: usize) {
+pub fn print_name(rt: &impl Print, text: &[u8], at: usize) -> io::Result<()> {
     let colon = find(text, at, b':');
     let end = find(text, colon, b'\n');
     if end <= text.len() {
         if 2 <= end {
             if colon <= end - 2 {
-                write_all(STDOUT_FILENO, &text[colon + 2..end]);
+                return rt.write_all(&text[colon + 2..end]);
             }
         }
     }
+    Ok(())
 }
