@@ -3,6 +3,7 @@
 // While a cell is open: the joined rows below its box, and of the child joined last its right extent, how far it stands past the appointed
 // child, and its distance from the first. Once it is complete: how far its appointed child stands from its first, its left and its right
 // extent, and its own distance from its first sibling.
+#![tactic(auto)]
 
 ghost use Rattle.std.specs.Prelude.{◌≡◌, ◌+◌, ◌*◌, ◌≤◌, ◌<◌, max, length};
 ghost use Rattle.plan.specs.Limits.{last_row};
