@@ -1,4 +1,6 @@
 // THE SEASON'S FOLDER (document 02, E14): the report of some plans, the pool of two reports, and a folder's report, file by file.
+#![tactic(auto)]
+
 ghost use Rattle.std.specs.Prelude.{◌≡◌, [], ◌∷◌, ◌≤◌};
 ghost use Rattle.season.specs.Report.{width_each, rows_each, quotient, remainder, report, nothing};
 ghost use Rattle.season.specs.Pool.{narrower, pooled, empty, sound, pool_refusal, pool, adds};
@@ -20,7 +22,7 @@ pub const AREA_EACH: u64 = 67108608;
 
 // The figures of some plans, zeros throughout for none. Beside each field the most that 1,024 plans can make of it.
 #[repr(C)]
-#[derive(Drop)]
+#[derive(Clone, Copy)]
 pub struct Report {
     // The number of plans: 1,024.
     pub plans: u32,
@@ -39,7 +41,7 @@ pub struct Report {
 }
 
 // The figures; or the refusal's number and cell.
-#[derive(Drop)]
+#[derive(Clone, Copy)]
 pub enum Reported {
     Figures(Report),
     Refused(u8, u16),

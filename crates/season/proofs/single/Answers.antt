@@ -1,0 +1,9 @@
+use native.Mathlib.Omega.{arith}
+use Rattle.season.specs.Laws.Report.{area_most, report_single}
+use Rattle.season.proofs.single.Goals as goal
+
+pub overflow_mul-result : goal.overflow_mul-result
+overflow_mul-result c = omega (arith, area_most c.args.width c.args.rows c.requires.0 c.requires.1)
+
+pub returns : goal.returns
+returns c = report_single c.args.cells c.args.width c.args.rows
