@@ -1,4 +1,6 @@
 // Questions 2 to 5, put to a file's size, trailer and letters, each as a refusal. A refusal of number 0 is none.
+#![tactic(auto)]
+
 ghost use Rattle.std.specs.Prelude.{◌≡◌, true, false, ◌+◌, ◌*◌, ◌^◌, ◌≤◌, ◌<◌, length, take};
 ghost use Rattle.plan.specs.Limits.{between, first_letter, «last_letter», least_file, most_file};
 ghost use Rattle.plan.specs.Questions.{every};
