@@ -1,5 +1,7 @@
 // THE PRINTED REPORT (document 02, E14): a line for each figure, a word and a number; and the line of a file that is refused, with its name.
 // Each function writes a text into a buffer at a place, and hands the next place back.
+#![tactic(auto)]
+
 ghost use Rattle.std.specs.Prelude.{◌+◌, ◌≤◌, length};
 ghost use Rattle.listing.specs.Put.{Put};
 ghost use Rattle.summary.specs.Summary.{figure_size, report_size, named_size, figure_line, sums_lines, extremes_lines, report_lines, named_line};
