@@ -1,7 +1,7 @@
 -- Spans: numbers for each cell by which "at or below", "earlier" and "right beside" are told at once. The span of a cell, from `first` to
 -- before `end`, holds those of its children, one right after the other. Assumes nothing.
 use Rattle.std.specs.Prelude.{◌≡◌, List, ℕ, suc, ◌+◌, ◌≤◌, ◌<◌, length, get_or, T}
-use Rattle.plan.specs.Lists.{At, from, total}
+use Rattle.plan.specs.Lists.{At, total}
 use Rattle.plan.specs.Plan.{Table, Is, children, within}
 
 -- number c of a column

@@ -1,4 +1,6 @@
 // Where the cells stand as seen from one another, told by numbers: passes over the cells, up or down, and along the links.
+#![tactic(auto)]
+
 ghost use Rattle.std.specs.Prelude.{◌≡◌, ◌+◌, ◌*◌, ◌≤◌, ◌<◌, length, get_or};
 ghost use Rattle.plan.specs.Limits.{most_cells};
 ghost use Rattle.plan.specs.Columns.{«table_of»};
