@@ -1,4 +1,6 @@
 // The columns that the rules read, made of a table and a placement, and their numbers set out cell after cell.
+#![tactic(auto)]
+
 ghost use Rattle.std.specs.Prelude.{◌≡◌, [], ◌∷◌, ◌+◌, ◌*◌, ◌≤◌, ◌<◌, length, get_or, pos};
 ghost use Rattle.whole.specs.Bias.{bias};
 ghost use Rattle.plan.specs.Plan.{parent, kind, appointed, box_width, box_depth};
