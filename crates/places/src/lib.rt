@@ -1,14 +1,22 @@
-// WHAT HAS A NAME in the file system: nothing, a regular file with its permissions, or something else. By lstat, so that a link is seen as a link.
-// No contract can say what C's functions find there: tests/mend.sh tries that. What is said outright is the name as C is handed it, and what lstat's answer means.
+// WHAT HAS A NAME in the file system: nothing, a regular file with its permissions, or something else. A link is seen as a link, since it is not followed.
+// No contract can say what the system finds there: tests/mend.sh tries that. What is said outright is the name as C reads it, and what the mode that is found means.
+#![tactic(auto)]
+
 ghost use Rattle.std.specs.Prelude.{◌≡◌, ◌<◌, length};
-ghost use Rattle.libc.specs.Io.{Ended};
 ghost use Rattle.whole.specs.Says.{Says};
-ghost use Rattle.places.specs.Names.{path_size, c_name, Nameable};
+ghost use Rattle.places.specs.Names.{path_size, c_name, Ended, Nameable};
 ghost use Rattle.places.specs.Places.{«place_of»};
 
 use decimals::put_text;
-use libc::PATH_MAX;
-use libc::types::{stat, timespec};
+use std::ffi::CStr;
+use std::fs::Metadata;
+use std::io::ErrorKind;
+use std::os::unix::fs::PermissionsExt;
+use std::rt::Files;
+use std::{fs, io};
+
+// Bytes of a name as C reads it, with the 0 that ends it.
+pub const PATH_MAX: usize = 4096;
 
 // The permissions of a mode are its bits below this one; its kind stands above them.
 const KIND: u32 = 0o10000;
@@ -25,32 +33,7 @@ pub enum Place {
     Unknown,
 }
 
-// What lstat is lent to fill.
-fn blank() -> stat {
-    let zero = timespec {
-        tv_sec: 0,
-        tv_nsec: 0,
-    };
-    stat {
-        st_dev: 0,
-        st_ino: 0,
-        st_nlink: 0,
-        st_mode: 0,
-        st_uid: 0,
-        st_gid: 0,
-        __pad: 0,
-        st_rdev: 0,
-        st_size: 0,
-        st_blksize: 0,
-        st_blocks: 0,
-        st_atim: zero,
-        st_mtim: zero,
-        st_ctim: zero,
-        __unused: [0i64; 3],
-    }
-}
-
-// What has a name, where lstat found something of this mode, or found nothing, since nothing has the name or for another reason.
+// What has a name, where the system found something of this mode, or found nothing, since nothing has the name or for another reason.
 fn judged(found: bool, missing: bool, mode: u32) -> Place
     ensures { result ≡ place_of found missing mode }
 {
@@ -66,19 +49,25 @@ fn judged(found: bool, missing: bool, mode: u32) -> Place
     Place::Regular(mode % KIND)
 }
 
-// The same by lstat's answer. errno is read before anything else is called.
-fn told(answer: i32, status: stat) -> Place {
-    let missing = os::errno() == libc::ENOENT;
-    judged(answer == 0, missing, status.st_mode)
+// The same by what the system answers.
+fn told(answer: io::Result<Metadata>) -> Place {
+    match answer {
+        Ok(status) => judged(true, false, status.permissions().mode()),
+        Err(e) => judged(false, e.kind() == ErrorKind::NotFound, 0),
+    }
 }
 
-// The one function that lends a struct: it is proved by hand.
-fn seen(path: &[u8; PATH_MAX]) -> Place
+// The same of the name up to its 0. Of a name that is no text in UTF-8 it cannot be told.
+fn seen<F: Files>(rt: &F, path: &[u8; PATH_MAX]) -> Place
     requires { Ended path.now }
 {
-    let mut status = blank();
-    let answer = libc::lstat(path, &mut status);
-    told(answer, status)
+    match CStr::from_bytes_until_nul(path) {
+        Ok(name) => match name.to_str() {
+            Ok(text) => told(fs::symlink_metadata(rt, text)),
+            Err(_) => Place::Unknown,
+        },
+        Err(_) => Place::Unknown,
+    }
 }
 
 // Whether C can be handed all of the name: a name that is cut short names another file.
@@ -112,10 +101,10 @@ fn c_name(name: &[u8]) -> [u8; PATH_MAX]
 }
 
 // What has the name.
-pub fn at(name: &[u8]) -> Place {
+pub fn at<F: Files>(rt: &F, name: &[u8]) -> Place {
     if !is_name(name) {
         return Place::Unknown;
     }
     let path = c_name(name);
-    seen(&path)
+    seen(rt, &path)
 }

@@ -4,12 +4,11 @@ use Rattle.std.proofs.Common.{sym, ap, subst, ◌∙◌, arith, get_or-append-ad
 use Rattle.std.proofs.Math.Decide.{ℕ_discrete}
 use Rattle.std.proofs.lemmas.List.{length-replicate, get_or-replicate}
 use Rattle.std.proofs.lemmas.List.Edits.{sets-eq}
-use Rattle.libc.specs.Io.{Ended}
 use Rattle.whole.specs.Says.{Says}
 use Rattle.listing.specs.Printed.{Bytes}
 use Rattle.listing.specs.Put.{Put}
 use Rattle.listing.specs.Laws.Put.{drop-zeros}
-use Rattle.places.specs.Names.{path_size, Nameable, c_name}
+use Rattle.places.specs.Names.{path_size, Nameable, c_name, Ended}
 
 -- a text at the beginning of n zeros
 padded : (n : ℕ) {s b : Bytes} {k : ℕ} → Put (replicate n 0) 0 s b k → length s ≤ n → b ≡ s ++ replicate (n - length s) 0
