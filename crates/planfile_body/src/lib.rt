@@ -1,4 +1,6 @@
 // The records of a file in columns, and questions 6 to 14 put to them, each as a refusal. A refusal of number 0 is none.
+#![tactic(auto)]
+
 ghost use Rattle.std.specs.Prelude.{◌≡◌, ◌+◌, ◌*◌, ◌^◌, ◌≤◌, ◌<◌, length};
 ghost use Rattle.plan.specs.Limits.{most_cells};
 ghost use Rattle.plan.specs.Forms.{record_size};
