@@ -1,4 +1,2 @@
 pub mod Answers
 pub mod Header
-pub mod Promised
-pub mod Laws

@@ -1,3 +1,1 @@
 pub mod Number
-pub mod Promised
-pub mod Laws

@@ -12,21 +12,21 @@ use Rattle.plan.specs.Limits.{most_allowance}
 use Rattle.plan.specs.Questions.{refusal, check, check_given}
 use Rattle.plan.specs.Columns.{table_of}
 use Rattle.rules.specs.Verdict.{verdict, answer}
-use Rattle.plan.specs.Laws.Tables.{length-is, count-some}
+use Rattle.plan.proofs.Laws.Tables.{length-is, count-some}
 use Rattle.looking_sights.specs.Sights.{Sights, Sighted}
 use Rattle.looking.specs.Passes.{found_of, all_found}
 use Rattle.looking_sights.specs.Sees.{Looked}
 use Rattle.checker.specs.Spread.{Bounds, Spread}
 use Rattle.rules.specs.Placement.{placed}
 use Rattle.checker.specs.Checked.{answered, unless}
-use Rattle.looking.specs.Laws.Meaning.{found-verdict}
-use Rattle.checker.specs.Laws.Checked as laws
+use Rattle.looking.proofs.Laws.Meaning.{found-verdict}
+use Rattle.checker.proofs.Laws.Checked as laws
 use Rattle.checker.specs.declared.Checked.{Checked}
 use Rattle.checker.specs.declared.Checked.TheVariants as checked
 use Rattle.looking_sights.specs.declared.View.{View}
 use Rattle.looking.specs.declared.search.Found.{Found}
 use Rattle.looking.specs.declared.search.Found.TheVariants.{Kept, Broken}
-use Rattle.looking.specs.Laws.Found.{found-broken, found-kept}
+use Rattle.looking.proofs.Laws.Found.{found-broken, found-kept}
 
 module _ (t : Columns) (fit : Fit (table_of t)) (ps : List ℤ) (al : ℕ) (s : Sights) (g : Looked (table_of t) (placed ps) s) where
   found-is : (f : Found) → f ≡ found_of (all_found s al t.count) → f ≡ found_of (verdict (table_of t) (placed ps) al)

@@ -3,4 +3,3 @@ pub mod Prefixed
 pub mod Meaning
 pub mod State
 pub mod Composed
-pub mod Laws

@@ -1,5 +1,5 @@
 -- Document 02, E4: THE CLEAN COPY, the plan file of a content, with labels in cell order, back to back, none shared, no byte unused. Assumes nothing.
-use Rattle.std.specs.Prelude.{List, [], ◌∷◌, ◌++◌, map, Bool, true, ◌&&◌, cond, ℕ, ◌+◌, eqb, leb, length, replicate}
+use Rattle.std.specs.Prelude.{List, [], ◌∷◌, ◌++◌, map, Bool, true, ◌&&◌, cond, ℕ, ◌+◌, ◌/◌, ◌%◌, eqb, leb, length, replicate}
 use Rattle.plan.specs.Limits.{old_width, old_mark, wide_mark, trailer_size}
 use Rattle.plan.specs.Forms.{record_size}
 use Rattle.plan.specs.Records.{cells_of}
@@ -79,3 +79,7 @@ file_copy f = clean (file_content f)
 -- ---- the writer's refusal, into an output of so many bytes: 1, 4 (of n), 5 to 10 (against the lent label bytes), 11 to 14
 unfoldable pub copy_refusal : List Record → (letters : List ℕ) → (allowance output : ℕ) → Refusal
 copy_refusal rs letters al room = refusal asked.copy (copy_given (cells_of rs) (map label_in rs) letters al room)
+
+-- a number of two bytes, before the bytes l
+abbrev pub two : ℕ → List ℕ → List ℕ
+two n l = n % 256 ∷ n / 256 ∷ l

@@ -1,3 +1,2 @@
 pub mod Contour
 pub mod Sheet
-pub mod Laws

@@ -1,8 +1,7 @@
 // The labels and the trailer of a plan file, written at a place, with the next place handed back; and the form that a plan takes.
 ghost use Rattle.std.specs.Prelude.{◌≡◌, [], ◌&&◌, ◌+◌, ◌*◌, ◌≤◌, ◌<◌, leb, eqb, length, take, drop};
 ghost use Rattle.plan.specs.Limits.{most_cells, most_label, old_width};
-ghost use Rattle.content.specs.Clean.{«mark_of»};
-ghost use Rattle.content.specs.Laws.Clean.{two};
+ghost use Rattle.content.specs.Clean.{«mark_of», two};
 ghost use Rattle.copying_records.specs.Parts.{Put, Texts, form_to, labels_to};
 
 use copying_records::put_pair;

@@ -2,8 +2,7 @@
 ghost use Rattle.std.specs.Prelude.{◌≡◌, ◌∷◌, [], ◌+◌, ◌*◌, ◌≤◌, ◌<◌, length};
 ghost use Rattle.plan.specs.Limits.{old_width};
 ghost use Rattle.plan.specs.Forms.{record_size};
-ghost use Rattle.content.specs.Clean.{record_bytes};
-ghost use Rattle.content.specs.Laws.Clean.{two};
+ghost use Rattle.content.specs.Clean.{record_bytes, two};
 ghost use Rattle.copying_records.specs.Parts.{Put, Holds, Rows, records_to};
 
 use plan::forms::Form;

@@ -1,2 +1,1 @@
 pub mod Fixed
-pub mod Laws

@@ -1,3 +1,2 @@
 pub mod Drawn
 pub mod Steps
-pub mod Laws

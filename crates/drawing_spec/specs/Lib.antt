@@ -2,4 +2,3 @@ pub mod Words
 pub mod Said
 pub mod Quoted
 pub mod Worked
-pub mod Laws

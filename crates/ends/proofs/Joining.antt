@@ -10,7 +10,7 @@ use mir.Syntax.{w32}
 use mir.Val.{to_z, of_z, SFits}
 use mir.ValLaws.{to_z-of_z}
 use Rattle.whole.proofs.Machine.{fits32}
-use Rattle.whole.specs.Laws.Whole.{whole, narrow, sum, diff, neg-plus, neg-minus}
+use Rattle.whole.proofs.Laws.Whole.{whole, narrow, sum, diff, neg-plus, neg-minus}
 use Rattle.whole.specs.Bias.{bias}
 use Rattle.whole.specs.Range.{InRange}
 use Rattle.plan.specs.Limits.{farthest, most_cells, most_width}
@@ -18,12 +18,12 @@ use Rattle.plan.specs.Plan.{parent}
 use Rattle.plan.specs.Fit.{Fit}
 use Rattle.plan.specs.Near.{Near}
 use Rattle.plan.specs.Columns.{table_of}
-use Rattle.plan.specs.Laws.Tables.{length-is, parent_is, width_is, depth_is, count_few, parent_lower}
+use Rattle.plan.proofs.Laws.Tables.{length-is, parent_is, width_is, depth_is, count_few, parent_lower}
 use Rattle.plan.specs.Questions.{refusal, ends, ends_given}
 use Rattle.rules.specs.Placement.{placed}
 use Rattle.ends.specs.Ended.{half, joined, unless}
-use Rattle.ends.specs.Laws.Ended.{accepted}
-use Rattle.ends.specs.Laws.Halves.{half_close}
+use Rattle.ends.proofs.Laws.Ended.{accepted}
+use Rattle.ends.proofs.Laws.Halves.{half_close}
 use Rattle.plan.specs.declared.Columns.{Columns}
 use Rattle.plan.specs.declared.Refusal.{Refusal}
 use Rattle.ends.specs.declared.Ended.{Ended}

@@ -1,4 +1,2 @@
 pub mod Ended
-pub mod Halves
 pub mod Nearest
-pub mod Laws

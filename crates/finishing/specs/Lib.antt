@@ -1,3 +1,2 @@
 pub mod Finishing
 pub mod After
-pub mod Laws

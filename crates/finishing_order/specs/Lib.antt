@@ -1,3 +1,2 @@
 pub mod Postorder
 pub mod Order
-pub mod Laws

@@ -1,2 +1,1 @@
 pub mod Drilled
-pub mod Laws

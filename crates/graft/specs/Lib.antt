@@ -3,6 +3,4 @@ pub mod Placed
 pub mod Sequence
 pub mod Order
 pub mod FirstNo
-pub mod Theorems
 pub mod Worked
-pub mod Laws

@@ -1,8 +1,11 @@
 -- THE QUESTIONS OF A JOIN (document 02, E10): "1, 4 and 6 to 8 apply to the first table, then to the second (cells by its own numbers), 16 to the cell,
 -- then 4 and 11 to 13 to the joined one". A sequence of its own, in the shape of plan's, with the table that each step is put to: Join's questions stand
 -- here and nowhere else. Every definition computes. Assumes nothing.
-use Rattle.std.specs.Prelude.{List, [], ◌∷◌, ℕ}
+use Rattle.std.specs.Prelude.{List, [], ◌∷◌, ℕ, length}
+use Rattle.plan.specs.Limits.{between, most_cells}
 use Rattle.plan.specs.Plan.{Table}
+use Rattle.plan.specs.Steps.{cells_refusal}
+use Rattle.plan.specs.Questions as asked
 use Rattle.plan.specs.Questions.{Given, lent, to_fill, absent, named, Step, once, each, buffers_long, cells_counted, parent_lower, kind_known, box_sized, children_allowed, level_low, rows_few, cell_named, none, or_else, take_step}
 use Rattle.plan.specs.declared.Refusal.{Refusal}
 use Rattle.graft.specs.Joined.{joined}
@@ -50,3 +53,10 @@ module _ (room : ℕ) (t u : Table) (c : ℕ) where
   -- THE refusal of a join: the first "no"
   unfoldable pub join_refusal : Refusal
   join_refusal = ask_all join_sequence
+
+-- question 4, and 6 to 8: of a table that is to be a part of another
+abbrev pub counted : ℕ → Refusal
+counted n = asked.asked 4 (between 1 most_cells n) 0
+
+abbrev pub part_refusal : Table → Refusal
+part_refusal t = or_else (counted (length t)) (cells_refusal t)

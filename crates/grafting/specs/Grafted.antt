@@ -9,8 +9,7 @@ use Rattle.plan.specs.declared.Lettered.{Lettered}
 use Rattle.plan.specs.declared.Refusal.{Refusal}
 use Rattle.planfile_spec.specs.Reading.{column}
 use Rattle.planfile_spec.specs.FileSteps.{blank_reading}
-use Rattle.graft.specs.Sequence.{join_refusal}
-use Rattle.graft.specs.Laws.Sequence.{counted, part_refusal}
+use Rattle.graft.specs.Sequence.{join_refusal, counted, part_refusal}
 use Rattle.grafting.specs.declared.Graft.{Graft}
 use Rattle.grafting.specs.declared.JoinAnswer.TheVariants.{Plan, Refused}
 

@@ -1,3 +1,2 @@
 pub mod Grafted
 pub mod Joins
-pub mod Laws

@@ -3,7 +3,7 @@ ghost use Rattle.std.specs.Prelude.{◌≡◌, ◌+◌, ◌-◌, ◌≤◌, ◌<
 ghost use Rattle.plan.specs.Limits.{most_cells};
 ghost use Rattle.plan.specs.Columns.{table_of};
 ghost use Rattle.planfile_spec.specs.Reading.{column};
-ghost use Rattle.graft.specs.Laws.Sequence.{part_refusal};
+ghost use Rattle.graft.specs.Sequence.{part_refusal};
 ghost use Rattle.grafting.specs.Grafted.{picked, picked_parent, grafted, Hangs, Graftable, ready_refusal, refused, accepted, graft_of};
 
 use asking::{asked, counted, part_refusal, tree_refusal};

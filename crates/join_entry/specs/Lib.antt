@@ -1,2 +1,1 @@
 pub mod Hung
-pub mod Laws

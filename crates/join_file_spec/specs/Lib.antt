@@ -1,5 +1,3 @@
 pub mod Contents
 pub mod Joined
-pub mod Promised
 pub mod Worked
-pub mod Laws

@@ -1,3 +1,2 @@
 pub mod JoinText
 pub mod Examples
-pub mod Laws

@@ -1,2 +1,1 @@
 pub mod Separation
-pub mod Laws

@@ -1,4 +1,3 @@
 pub mod Links
 pub mod Chain
 pub mod Build
-pub mod Laws

@@ -11,11 +11,11 @@ use mir.Syntax.{w32}
 use mir.Val.{to_z, of_z, Fits, SFits}
 use mir.ValLaws.{to_z-of_z}
 use Rattle.whole.specs.Whole.{minus, plus}
-use Rattle.whole.specs.Laws.Whole.{whole, narrow, not_lt, sum, diff}
-use Rattle.whole.specs.Laws.Says.{holds, fails, says_lt_z}
+use Rattle.whole.proofs.Laws.Whole.{whole, narrow, not_lt, sum, diff}
+use Rattle.whole.proofs.Laws.Says.{holds, fails, says_lt_z}
 use Rattle.listing.specs.Printed.{signed, minus_sign, decimal}
 use Rattle.listing.specs.Put.{Put}
-use Rattle.listing.specs.Laws.Put.{then}
+use Rattle.listing.proofs.Laws.Put.{then}
 use Rattle.whole.proofs.Machine.{fits32}
 
 -- x as the machine reads it back, and x + 1, and −(x + 1)

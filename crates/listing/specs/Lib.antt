@@ -2,4 +2,3 @@ pub mod Printed
 pub mod Line
 pub mod Put
 pub mod Examples
-pub mod Laws

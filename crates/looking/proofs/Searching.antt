@@ -7,10 +7,10 @@ use native.Mathlib.Numerals.{add-one}
 use native.Mathlib.Omega.{arith}
 use Rattle.plan.specs.Limits.{most_cells}
 use Rattle.rules.specs.Search.{Verdict, kept, broken, scan, judge}
-use Rattle.rules.specs.Laws.Search.{scan-next, scan-found}
+use Rattle.rules.proofs.Laws.Search.{scan-next, scan-found}
 use Rattle.looking_sights.specs.Sights.{Sights, Sighted}
 use Rattle.looking.specs.Passes.{passes, found_of, pair, row_found, rule_found, all_found}
-use Rattle.looking.specs.Laws.Found.{kept-found, broken-found, found-broken, found-kept}
+use Rattle.looking.proofs.Laws.Found.{kept-found, broken-found, found-broken, found-kept}
 use Rattle.looking_sights.specs.declared.View.{View}
 use Rattle.looking.specs.declared.search.Found.{Found}
 use Rattle.looking.specs.declared.search.Found.TheVariants.{Kept, Broken}

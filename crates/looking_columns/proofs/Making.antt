@@ -15,8 +15,8 @@ use Rattle.plan.specs.Near.{Near}
 use Rattle.plan.specs.Columns.{table_of}
 use Rattle.plan.specs.Trees.{Column}
 use Rattle.spans.specs.Spans.{at}
-use Rattle.spans.specs.Laws.Columns.{all, all-long, Put, put}
-use Rattle.plan.specs.Laws.Tables.{length-is, parent_is, kind-is, width_is, depth_is, parent_lower, count-some, count_few}
+use Rattle.spans.proofs.Laws.Columns.{all, all-long, Put, put}
+use Rattle.plan.proofs.Laws.Tables.{length-is, parent_is, kind-is, width_is, depth_is, parent_lower, count-some, count_few}
 use Rattle.looking_columns.specs.Columns.{Short, Due}
 use Rattle.plan.specs.declared.Columns.{Columns}
 

@@ -7,18 +7,18 @@ use native.Mathlib.Nat.{zero-add, add-zero}
 use native.Mathlib.Omega.{arith}
 use lib.ListN.{length, get_or}
 use lib.IntN.{ℤ, pos}
-use Rattle.whole.specs.Laws.Whole.{whole, neg-plus, neg-minus}
+use Rattle.whole.proofs.Laws.Whole.{whole, neg-plus, neg-minus}
 use Rattle.whole.specs.Bias.{bias}
 use Rattle.whole.specs.Range.{InRange}
 use Rattle.plan.specs.Limits.{farthest}
 use Rattle.plan.specs.Plan.{Is, parent, box_depth}
-use Rattle.plan.specs.Laws.Plan.{children_few}
+use Rattle.plan.proofs.Laws.Plan.{children_few}
 use Rattle.plan.specs.Fit.{Fit}
 use Rattle.plan.specs.Near.{Near}
 use Rattle.plan.specs.Columns.{table_of}
 use Rattle.plan.specs.Trees.{Column}
 use Rattle.spans.specs.Spans.{at, Counted}
-use Rattle.plan.specs.Laws.Tables.{length-is, count_few}
+use Rattle.plan.proofs.Laws.Tables.{length-is, count_few}
 use Rattle.rules.specs.Placement.{placed}
 use Rattle.looking_columns.specs.Columns.{sight, Scattered, Short}
 use Rattle.looking_columns.proofs.Making.{within-at}

@@ -1,5 +1,3 @@
 pub mod Marked
 pub mod Promises
-pub mod Promised
 pub mod Worked
-pub mod Laws

@@ -4,5 +4,3 @@ pub mod Faults
 pub mod Refused
 pub mod Text
 pub mod Worked
-pub mod Promised
-pub mod Laws

@@ -2,6 +2,4 @@ pub mod Paper
 pub mod Strokes
 pub mod Orderly
 pub mod Finite
-pub mod Theorems
 pub mod Worked
-pub mod Laws

@@ -13,4 +13,3 @@ pub mod Fit
 pub mod Near
 pub mod Pages
 pub mod Edges
-pub mod Laws

@@ -1,2 +1,1 @@
 pub mod Subslice
-pub mod Laws

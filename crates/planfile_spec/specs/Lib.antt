@@ -2,5 +2,3 @@ pub mod Fields
 pub mod Format
 pub mod Reading
 pub mod FileSteps
-pub mod Promised
-pub mod Laws

@@ -1,4 +1,2 @@
 pub mod Lengths
 pub mod Worked
-pub mod Promised
-pub mod Laws

@@ -1,3 +1,2 @@
 pub mod Printing
 pub mod Example
-pub mod Laws

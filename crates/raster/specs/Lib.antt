@@ -2,4 +2,3 @@ pub mod Boundary
 pub mod Points
 pub mod Strip
 pub mod Worked
-pub mod Laws

@@ -1,4 +1,2 @@
 pub mod Reporting
 pub mod Folder
-pub mod Promised
-pub mod Laws

@@ -1,5 +1,3 @@
 pub mod Report
 pub mod Pool
-pub mod Promised
 pub mod Worked
-pub mod Laws

@@ -1,5 +1,5 @@
 -- THE POOL OF TWO REPORTS (document 02, E14): its questions, its answer; and a folder's report, file by file. Every definition computes. Assumes nothing.
-use Rattle.std.specs.Prelude.{List, [], ◌∷◌, Bool, true, ◌&&◌, cond, ℕ, ◌+◌, ◌*◌, min, max, eqb, leb}
+use Rattle.std.specs.Prelude.{List, [], ◌∷◌, Bool, true, ◌&&◌, cond, ℕ, ◌+◌, ◌*◌, ◌≤◌, min, max, eqb, leb}
 use Rattle.plan.specs.Questions.{none, asked, or_else}
 use Rattle.plan.specs.declared.Refusal.{Refusal}
 use Rattle.season.specs.declared.Report.{Report}
@@ -89,3 +89,10 @@ pub data Files : List Reported → List Figure → Type 0 where
   no_file : Files [] []
   plan : {x : Figure} {rs : List Reported} {xs : List Figure} → Files rs xs → Files (Figures (report (x ∷ [])) ∷ rs) (x ∷ xs)
   refused : {k c : ℕ} {rs : List Reported} {xs : List Figure} → Files rs xs → Files (Refused k c ∷ rs) xs
+
+-- figures of at most 1,024 plans
+pub record Small (r : Report) : Type 0 where
+  pub few : r.plans ≤ 1024
+  pub cells : r.cells ≤ 262144
+  pub widths : r.widths ≤ 268434432
+  pub areas : r.areas ≤ 68719214592

@@ -3,8 +3,7 @@
 
 ghost use Rattle.std.specs.Prelude.{◌≡◌, [], ◌∷◌, ◌≤◌};
 ghost use Rattle.season.specs.Report.{width_each, rows_each, quotient, remainder, report, nothing};
-ghost use Rattle.season.specs.Pool.{narrower, pooled, empty, sound, pool_refusal, pool, adds};
-ghost use Rattle.season.specs.Laws.Pool.{Small};
+ghost use Rattle.season.specs.Pool.{narrower, pooled, empty, sound, pool_refusal, pool, adds, Small};
 
 use asking::asked;
 use plan::Refusal;

@@ -8,9 +8,9 @@ use Rattle.plan.specs.Limits.{most_cells}
 use Rattle.plan.specs.Fit.{Fit}
 use Rattle.plan.specs.Columns.{table_of}
 use Rattle.spans.specs.Spans.{at, Sized}
-use Rattle.spans.specs.Laws.Columns.{all, all-long, all-at, put, sum_to, sum_suc, sum-part}
-use Rattle.spans.specs.Laws.Sizes.{Folded, folded_start, folded_next, folded_end}
-use Rattle.plan.specs.Laws.Tables.{length-is, count-some, count_few, child-of, parent_lower}
+use Rattle.spans.proofs.Laws.Columns.{all, all-long, all-at, put, sum_to, sum_suc, sum-part}
+use Rattle.spans.proofs.Laws.Sizes.{Folded, folded_start, folded_next, folded_end}
+use Rattle.plan.proofs.Laws.Tables.{length-is, count-some, count_few, child-of, parent_lower}
 use Rattle.plan.specs.declared.Columns.{Columns}
 
 pub record Folding (t : Columns) (c : ℕ) (size : List ℕ) : Type 0 where

@@ -10,18 +10,18 @@ use Rattle.plan.specs.declared.Columns.{Columns}
 use Rattle.plan.specs.Limits.{most_cells}
 use Rattle.plan.specs.Lists.{total}
 use Rattle.plan.specs.Plan.{Is, children}
-use Rattle.plan.specs.Laws.Plan.{children_few}
+use Rattle.plan.proofs.Laws.Plan.{children_few}
 use Rattle.plan.specs.Fit.{Fit}
 use Rattle.plan.specs.Columns.{table_of}
-use Rattle.plan.specs.Laws.Tables.{length-is, count_few}
+use Rattle.plan.proofs.Laws.Tables.{length-is, count_few}
 use Rattle.links.specs.Links.{link, Links}
 use Rattle.links.specs.Chain.{Chain, line_of}
-use Rattle.links.specs.Laws.Chain.{spell-none, Step, step, chain-spell, children-chain}
-use Rattle.links.specs.Laws.Build.{chain_few}
+use Rattle.links.proofs.Laws.Chain.{spell-none, Step, step, chain-spell, children-chain}
+use Rattle.links.proofs.Laws.Build.{chain_few}
 use Rattle.spans.specs.Spans.{at, Sized, Spans}
-use Rattle.spans.specs.Laws.Columns.{all, all-long, all-at, put}
+use Rattle.spans.proofs.Laws.Columns.{all, all-long, all-at, put}
 use Rattle.spans.specs.Shared.{Cols, cols, Long, share, spread, spread_at, next_size, kids, or_none, Sharing}
-use Rattle.spans.specs.Laws.Laid.{share-long, spread_none, spread-cons, Laid, laid_start, laid_next, room-here, spans}
+use Rattle.spans.proofs.Laws.Laid.{share-long, spread_none, spread-cons, Laid, laid_start, laid_next, room-here, spans}
 
 -- ---- along the children of f: the walk is at s, whose span begins at a, and that of the sibling before it at b
 pub record Shares (ls sizes : List ℕ) (c₀ : Cols) (f : ℕ) (c : Cols) (s b a : ℕ) : Type 0 where

@@ -1,3 +1,4 @@
+pub mod Laws
 pub mod Folding
 pub mod Laying
 pub mod Sinking

@@ -7,17 +7,17 @@ use native.Mathlib.Decide.{ℕ_discrete}
 use lib.ListN.{length, get_or, set, length-set}
 use Rattle.plan.specs.Limits.{most_cells}
 use Rattle.plan.specs.Plan.{children}
-use Rattle.plan.specs.Laws.Plan.{children_few, child_show}
-use Rattle.plan.specs.Laws.Lists.{at_less}
+use Rattle.plan.proofs.Laws.Plan.{children_few, child_show}
+use Rattle.plan.proofs.Laws.Lists.{at_less}
 use Rattle.plan.specs.Fit.{Fit}
 use Rattle.plan.specs.Columns.{table_of}
 use Rattle.plan.specs.Trees.{Lower}
-use Rattle.plan.specs.Laws.Trees.{seen, seen_most, seen_more, seen-children}
-use Rattle.plan.specs.Laws.Tables.{length-is, count-some, count_few, child-of, parent_lower}
+use Rattle.plan.proofs.Laws.Trees.{seen, seen_most, seen_more, seen-children}
+use Rattle.plan.proofs.Laws.Tables.{length-is, count-some, count_few, child-of, parent_lower}
 use Rattle.links.specs.Links.{link, Links}
 use Rattle.spans.specs.Spans.{at, Counted}
-use Rattle.spans.specs.Laws.Columns.{all, all-long, all-at, put}
-use Rattle.spans.specs.Laws.Counted.{counted}
+use Rattle.spans.proofs.Laws.Columns.{all, all-long, all-at, put}
+use Rattle.spans.proofs.Laws.Counted.{counted}
 use Rattle.plan.specs.declared.Columns.{Columns}
 
 pub record Numbering (t : Columns) (ls : List ℕ) (c : ℕ) (nth many : List ℕ) : Type 0 where

@@ -8,9 +8,9 @@ use Rattle.plan.specs.Limits.{most_cells}
 use Rattle.plan.specs.Fit.{Fit}
 use Rattle.plan.specs.Columns.{table_of}
 use Rattle.spans.specs.Spans.{at, Deepest}
-use Rattle.spans.specs.Laws.Columns.{put}
-use Rattle.spans.specs.Laws.Deepest.{Sunk, sunk_start, sunk_next, deepest}
-use Rattle.plan.specs.Laws.Tables.{length-is, count-some, count_few, child-of, parent_lower}
+use Rattle.spans.proofs.Laws.Columns.{put}
+use Rattle.spans.proofs.Laws.Deepest.{Sunk, sunk_start, sunk_next, deepest}
+use Rattle.plan.proofs.Laws.Tables.{length-is, count-some, count_few, child-of, parent_lower}
 use Rattle.plan.specs.declared.Columns.{Columns}
 
 pub record Sinking (t : Columns) (bases : List ℕ) (c : ℕ) (bottoms : List ℕ) : Type 0 where

@@ -1,3 +1,2 @@
 pub mod Stripped
 pub mod Picture
-pub mod Laws

@@ -1,4 +1,3 @@
 pub mod Stroked
 pub mod Raised
 pub mod Worked
-pub mod Laws

@@ -1,4 +1,3 @@
 pub mod Words
 pub mod Drawing
 pub mod Sizes
-pub mod Laws

@@ -1,4 +1,3 @@
 pub mod Words
 pub mod Labels
 pub mod Sizes
-pub mod Laws

@@ -1,4 +1,3 @@
 pub mod Words
 pub mod Strokes
 pub mod Sizes
-pub mod Laws

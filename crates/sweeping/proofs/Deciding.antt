@@ -9,8 +9,8 @@ use Rattle.spans.specs.Spans.{at, Deepest}
 use Rattle.looking_sights.specs.Sights.{Sights, Sighted}
 use Rattle.looking.specs.Passes.{all_found}
 use Rattle.sweeping.specs.Swept.{Seen, Ready, Alone, top, Rooted, Gathered, Small, Beside, Clear, Rows}
-use Rattle.sweeping.specs.Laws.Exact as exact
-use Rattle.sweeping.specs.Laws.Ready as laws
+use Rattle.sweeping.proofs.Laws.Exact as exact
+use Rattle.sweeping.proofs.Laws.Ready as laws
 
 module _ (s : Sights) (n : ℕ) (seen : Seen s n) (h : Sighted s n) where
   same : length seen.table ≡ n

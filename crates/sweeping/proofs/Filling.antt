@@ -8,7 +8,7 @@ use native.Mathlib.Decide.{ℕ_discrete, dec_le, dec_lt}
 use lib.ListN.{length, get_or, set, length-set, get_or-eq_default}
 use Rattle.plan.specs.Limits.{most_cells, last_row, farthest}
 use Rattle.spans.specs.Spans.{at}
-use Rattle.spans.specs.Laws.Columns.{all, all-long, all-at, Put, put}
+use Rattle.spans.proofs.Laws.Columns.{all, all-long, all-at, Put, put}
 use Rattle.looking_sights.specs.declared.View.{View}
 use Rattle.looking_sights.specs.Sights.{Sights}
 use Rattle.sweeping.specs.Swept.{Ready, Order, Fills, Clear, Rows, most_rows, level, Filled, Taken, Held, Settled, Blocked}

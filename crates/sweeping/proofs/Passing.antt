@@ -12,8 +12,8 @@ use Rattle.plan.specs.Limits.{most_cells}
 use Rattle.plan.specs.Trees.{Column}
 use Rattle.plan.specs.Plan.{Table, Is, parent}
 use Rattle.spans.specs.Spans.{at}
-use Rattle.spans.specs.Laws.Deepest.{Sunk, sunk_start, sunk_next, deepest}
-use Rattle.spans.specs.Laws.Columns.{all, all-long, all-at, Put, put}
+use Rattle.spans.proofs.Laws.Deepest.{Sunk, sunk_start, sunk_next, deepest}
+use Rattle.spans.proofs.Laws.Columns.{all, all-long, all-at, Put, put}
 use Rattle.looking_sights.specs.declared.View.{View}
 use Rattle.looking_sights.specs.Sights.{Sights}
 use Rattle.looking.specs.Passes.{pass1, pass2}

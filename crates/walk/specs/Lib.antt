@@ -1,9 +1,6 @@
 pub mod Machine
-pub mod Stretch
 pub mod Turns
 pub mod Walked
 pub mod Preorder
 pub mod Opened
-pub mod Visits
 pub mod Falls
-pub mod Laws

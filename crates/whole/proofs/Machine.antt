@@ -9,11 +9,11 @@ use mir.Syntax.{w32}
 use mir.Val.{to_z, of_z, SFits}
 use mir.ValLaws.{to_z-of_z, to_z_pos}
 use Rattle.whole.specs.Whole.{plus, minus}
-use Rattle.whole.specs.Laws.Whole.{whole, narrow, not_lt, sum, diff, neg-plus, neg-minus, le_read}
+use Rattle.whole.proofs.Laws.Whole.{whole, narrow, not_lt, sum, diff, neg-plus, neg-minus, le_read}
 use Rattle.whole.specs.Bias.{bias}
-use Rattle.whole.specs.Laws.Says.{is_true, is_false, holds, fails, says_lt_z}
+use Rattle.whole.proofs.Laws.Says.{is_true, is_false, holds, fails, says_lt_z}
 use Rattle.whole.specs.Range.{in_range, InRange}
-use Rattle.whole.specs.Laws.Range.{says_within}
+use Rattle.whole.proofs.Laws.Range.{says_within}
 
 pub fits32 : (z : ℤ) → plus z < 2147483648 → minus z ≤ 2147483648 → SFits w32 z
 fits32 (pos n) h k = record { sfits = omega arith }

@@ -1,3 +1,2 @@
 pub mod Judges
 pub mod Shows
-pub mod Laws

@@ -12,7 +12,7 @@ use borrow.Author.Tests.{lt-ltb, le-ltb, eq-eqb, ne_eqb}
 use Rattle.plan.specs.Limits.{most_cells}
 use Rattle.plan.specs.Trees.{Column}
 use Rattle.spans.specs.Spans.{at}
-use Rattle.spans.specs.Laws.Columns.{all, all-long, Put, put}
+use Rattle.spans.proofs.Laws.Columns.{all, all-long, Put, put}
 use Rattle.looking_sights.specs.Sights.{Sights, Sighted}
 use Rattle.looking_sights.specs.declared.View.{View}
 use Rattle.why_ties.specs.Ties.{Ready, rule_of}

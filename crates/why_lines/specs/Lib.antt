@@ -1,4 +1,3 @@
 pub mod Printed
 pub mod Steps
 pub mod Example
-pub mod Laws

@@ -10,7 +10,7 @@ use lib.IntN.{ℤ}
 use Rattle.plan.specs.declared.Columns.{Columns}
 use Rattle.plan.specs.Columns.{table_of}
 use Rattle.plan.specs.Fit.{Fit}
-use Rattle.plan.specs.Laws.Tables.{length-is}
+use Rattle.plan.proofs.Laws.Tables.{length-is}
 use Rattle.plan.specs.Plan.{Table}
 use Rattle.rules.specs.Placement.{Placement, placed}
 use Rattle.rules.specs.Rules.{S1}
@@ -22,9 +22,9 @@ use Rattle.why_search.specs.Stops.{stop}
 use Rattle.why_search.specs.Explains.{Explains}
 use Rattle.why_search.specs.Extremes.{Extremes}
 use Rattle.why_search.specs.Found.{Open, Stands, Told, Begun}
-use Rattle.why_search.specs.Laws.Stops.{why-told, why_not}
-use Rattle.why_search.specs.Laws.Explained.{chain-inside, rule_named}
-use Rattle.why_search.specs.Laws.Extremes.{looked_stands}
+use Rattle.why_search.proofs.Laws.Stops.{why-told, why_not}
+use Rattle.why_search.proofs.Laws.Explained.{chain-inside, rule_named}
+use Rattle.why_search.proofs.Laws.Extremes.{looked_stands}
 
 module _ (t : Columns) (fit : Fit (table_of t)) (ps : List ℤ) (al : ℕ) (s1 : S1 (table_of t) (placed ps)) (s : Sights) (g : Looked (table_of t) (placed ps) s)
     (low high : ℕ) (x : Extremes s t.count t.count low high) (marks : List ℕ) (count last : ℕ)

@@ -2,6 +2,4 @@ pub mod Measures
 pub mod Layers
 pub mod Links
 pub mod Search
-pub mod Theorems
 pub mod Worked
-pub mod Laws

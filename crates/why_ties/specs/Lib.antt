@@ -1,2 +1,1 @@
 pub mod Ties
-pub mod Laws

@@ -1,5 +1,5 @@
 use mathlib.Core.Path.{sym, ap, ◌∙◌}
-use Rattle.answers.specs.Laws.Answers.{joined_alike}
+use Rattle.answers.proofs.Laws.Answers.{joined_alike}
 use Rattle.answers.specs.Answers.{ends_answer}
 use borrow.Author.Rules.{rules}
 use Rattle.answers.proofs.told_ends.Statement.{statement}

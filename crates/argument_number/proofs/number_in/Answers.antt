@@ -1,5 +1,5 @@
 use native.Mathlib.Omega.{arith}
-use Rattle.argument_number.specs.Laws.Number.{digits-none, digits_more, no_text, whole-text}
+use Rattle.argument_number.proofs.Laws.Number.{digits-none, digits_more, no_text, whole-text}
 use Rattle.argument_number.proofs.number_in.Goals as goal
 
 pub returns-then-text-eq0 : goal.returns-then-text-eq0

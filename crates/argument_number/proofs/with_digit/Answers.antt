@@ -1,5 +1,5 @@
 use native.Mathlib.Omega.{arith}
-use Rattle.argument_number.specs.Laws.Number.{byte_low, byte_high, digit_great, digit-fits}
+use Rattle.argument_number.proofs.Laws.Number.{byte_low, byte_high, digit_great, digit-fits}
 use Rattle.argument_number.proofs.with_digit.Goals as goal
 
 pub returns-then-b-lt48 : goal.returns-then-b-lt48

@@ -1,5 +1,5 @@
-use Rattle.plan.specs.Laws.Questions.{loop_starts, loop_stops, loop_goes_on, loop_ends}
-use Rattle.plan.specs.Laws.Steps.{cells-columns}
+use Rattle.plan.proofs.Laws.Questions.{loop_starts, loop_stops, loop_goes_on, loop_ends}
+use Rattle.plan.proofs.Laws.Steps.{cells-columns}
 use mathlib.Core.Path.{sym, ◌∙◌}
 use native.Mathlib.Omega.{arith}
 use Rattle.asking.proofs.cells_refusal.Goals as goal

@@ -1,7 +1,7 @@
 use mathlib.Core.Path.{sym, ap, ◌∙◌}
 use Rattle.plan.specs.Questions.{asked}
-use Rattle.plan.specs.Laws.Questions.{stops, goes_on}
-use Rattle.plan.specs.Laws.Steps.{counted-columns, counted-read}
+use Rattle.plan.proofs.Laws.Questions.{stops, goes_on}
+use Rattle.plan.proofs.Laws.Steps.{counted-columns, counted-read}
 use Rattle.asking.proofs.counted_refusal.Goals as goal
 
 pub returns-then-few-ne0 : goal.returns-then-few-ne0

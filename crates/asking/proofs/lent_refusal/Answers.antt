@@ -1,8 +1,8 @@
 use mathlib.Core.Path.{sym, ap, ◌∙◌}
 use native.Mathlib.Omega.{arith}
 use Rattle.plan.specs.Questions.{asked}
-use Rattle.plan.specs.Laws.Questions.{stops, goes_on}
-use Rattle.plan.specs.Laws.Steps.{lent_columns, counted-read}
+use Rattle.plan.proofs.Laws.Questions.{stops, goes_on}
+use Rattle.plan.proofs.Laws.Steps.{lent_columns, counted-read}
 use Rattle.asking.proofs.lent_refusal.Goals as goal
 
 pub returns-then-few-ne0 : goal.returns-then-few-ne0

@@ -1,5 +1,5 @@
 use Rattle.plan.specs.Questions.{lower}
-use Rattle.plan.specs.Laws.Questions.{lower_suc}
+use Rattle.plan.proofs.Laws.Questions.{lower_suc}
 use Rattle.asking.proofs.lower.Goals as goal
 
 pub returns-then-cell-eq0 : goal.returns-then-cell-eq0

@@ -1,5 +1,5 @@
 use mathlib.Core.Path.{sym}
-use Rattle.plan.specs.Laws.Questions.{first-none, first_some}
+use Rattle.plan.proofs.Laws.Questions.{first-none, first_some}
 use Rattle.asking.proofs.or_else.Goals as goal
 
 pub returns-then-a-eq0 : goal.returns-then-a-eq0

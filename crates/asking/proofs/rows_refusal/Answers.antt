@@ -1,7 +1,7 @@
 use mathlib.Core.Path.{ap, ◌∙◌}
 use native.Mathlib.Omega.{arith}
 use Rattle.plan.specs.Questions.{asked}
-use Rattle.plan.specs.Laws.Questions.{loop_starts, loop_stops, loop_goes_on, loop_ends}
+use Rattle.plan.proofs.Laws.Questions.{loop_starts, loop_stops, loop_goes_on, loop_ends}
 use Rattle.asking.proofs.rows_refusal.Goals as goal
 
 pub loop-c-init : goal.loop-c-init

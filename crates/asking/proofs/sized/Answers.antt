@@ -1,5 +1,5 @@
 use mathlib.Core.Path.{◌∙◌, sym}
-use Rattle.plan.specs.Laws.Questions.{and_no, and_yes}
+use Rattle.plan.proofs.Laws.Questions.{and_no, and_yes}
 use Rattle.plan.specs.Questions.{sized}
 use Rattle.asking.proofs.sized.Goals as goal
 

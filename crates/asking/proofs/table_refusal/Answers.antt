@@ -2,8 +2,8 @@ use mathlib.Core.Path.{sym, ap, ◌∙◌}
 use mathlib.Core.List.{[]}
 use Rattle.plan.specs.declared.Refusal.{Refusal}
 use Rattle.plan.specs.Steps.{table_refusal}
-use Rattle.plan.specs.Laws.Questions.{stops, goes_on}
-use Rattle.plan.specs.Laws.Steps.{cells-lower, cells-flat}
+use Rattle.plan.proofs.Laws.Questions.{stops, goes_on}
+use Rattle.plan.proofs.Laws.Steps.{cells-lower, cells-flat}
 use Rattle.asking.proofs.table_refusal.Goals as goal
 
 pub returns-then-at_cells-ne0 : goal.returns-then-at_cells-ne0

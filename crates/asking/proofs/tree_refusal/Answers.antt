@@ -1,8 +1,8 @@
 use mathlib.Core.Path.{sym, ◌∙◌}
 use mathlib.Core.List.{[]}
 use Rattle.plan.specs.Steps.{tree_refusal}
-use Rattle.plan.specs.Laws.Questions.{stops, goes_on}
-use Rattle.plan.specs.Laws.Steps.{rows_short, children-columns, levels_columns, rows-columns}
+use Rattle.plan.proofs.Laws.Questions.{stops, goes_on}
+use Rattle.plan.proofs.Laws.Steps.{rows_short, children-columns, levels_columns, rows-columns}
 use Rattle.asking.proofs.tree_refusal.Goals as goal
 
 pub returns-then-at_children-ne0 : goal.returns-then-at_children-ne0

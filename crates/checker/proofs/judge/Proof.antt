@@ -1,5 +1,5 @@
 use Rattle.plan.specs.Columns.{table_of}
-use Rattle.plan.specs.Laws.Tables.{length-is}
+use Rattle.plan.proofs.Laws.Tables.{length-is}
 use Rattle.rules.specs.Placement.{placed}
 use Rattle.checker.proofs.Judging.{broken-answer, kept-answer, bounds, rows_fit}
 use native.Mathlib.Omega.{arith}

@@ -1,7 +1,7 @@
 use lib.Seq.{length-take-le}
 use mathlib.Core.Path.{sym}
 use native.Mathlib.Omega.{arith}
-use Rattle.compose.specs.Laws.Composed.{compose_short, compose_wrong, compose_written, compose_refused}
+use Rattle.compose.proofs.Laws.Composed.{compose_short, compose_wrong, compose_written, compose_refused}
 use borrow.Author.Rules.{rules}
 use Rattle.compose.proofs.compose.Statement.{statement}
 use Rattle.compose.proofs.compose.Tie as tie

@@ -1,10 +1,10 @@
-use Rattle.compose_fields.specs.Laws.Fields.{word_end}
+use Rattle.compose_fields.proofs.Laws.Fields.{word_end}
 use Rattle.outline_spec.specs.Faults.{fault_of}
 use Rattle.compose.specs.Meaning.{first_in}
 use borrow.Author.Tests.{not-true, not-false}
 use mathlib.Core.Path.{sym, ◌∙◌}
 use native.Mathlib.Omega.{arith}
-use Rattle.compose.specs.Laws.Whole.{first_strange, first-over, first-other, first_absent, first-large, first_more, first_read, first_small}
+use Rattle.compose.proofs.Laws.Whole.{first_strange, first-over, first-other, first_absent, first-large, first_more, first_read, first_small}
 use borrow.Author.Rules.{rules}
 use Rattle.compose.proofs.first_line.Statement.{statement}
 use Rattle.compose.proofs.first_line.Tie as tie

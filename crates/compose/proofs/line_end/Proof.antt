@@ -3,7 +3,7 @@ use lib.ListN.{length, drop}
 use mathlib.Core.Path.{◌≡◌, refl}
 use native.Mathlib.Omega.{arith}
 use Rattle.compose.specs.Steps.{line_long}
-use Rattle.compose.specs.Laws.Lines.{end-here, end_later, end_last}
+use Rattle.compose.proofs.Laws.Lines.{end-here, end_later, end_last}
 use borrow.Author.Rules.{rules}
 use Rattle.compose.proofs.line_end.Statement.{statement}
 use Rattle.compose.proofs.line_end.Tie as tie

@@ -1,5 +1,5 @@
 use mathlib.Core.Path.{sym}
-use Rattle.compose.specs.Laws.Lines.{past_feed, past_last}
+use Rattle.compose.proofs.Laws.Lines.{past_feed, past_last}
 use borrow.Author.Rules.{rules}
 use Rattle.compose.proofs.past_line.Statement.{statement}
 use Rattle.compose.proofs.past_line.Tie as tie

@@ -5,7 +5,7 @@ use mathlib.Core.Path.{◌≡◌, refl, ◌∙◌}
 use native.Mathlib.Omega.{arith}
 use Rattle.outline_spec.specs.Understood.{cells, lines}
 use Rattle.compose.specs.State.{rest_of, Well, Tight}
-use Rattle.compose.specs.Laws.Ends.{starts_well, reads_all}
+use Rattle.compose.proofs.Laws.Ends.{starts_well, reads_all}
 use borrow.Author.Rules.{rules}
 use Rattle.compose.proofs.read_cells.Statement.{statement}
 use Rattle.compose.proofs.read_cells.Tie as tie

@@ -3,7 +3,7 @@ use lib.ListN.{length, take, drop}
 use Prim.Native.Nat.{◌-◌}
 use mathlib.Core.Path.{◌≡◌, refl, ap}
 use native.Mathlib.Omega.{arith}
-use Rattle.compose.specs.Laws.Turns.{turn_many, turn_wrong, turn_more}
+use Rattle.compose.proofs.Laws.Turns.{turn_many, turn_wrong, turn_more}
 use Rattle.compose.specs.State.{Long}
 use borrow.Author.Rules.{rules}
 use Rattle.compose.proofs.turn.Statement.{statement}

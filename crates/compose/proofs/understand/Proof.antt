@@ -1,7 +1,7 @@
 use lib.Seq.{length-take-le}
 use mathlib.Core.Path.{sym}
 use native.Mathlib.Omega.{arith}
-use Rattle.compose.specs.Laws.Whole.{text-empty, text-first, text-rest}
+use Rattle.compose.proofs.Laws.Whole.{text-empty, text-first, text-rest}
 use borrow.Author.Rules.{rules}
 use Rattle.compose.proofs.understand.Statement.{statement}
 use Rattle.compose.proofs.understand.Tie as tie

@@ -1,7 +1,7 @@
 use native.Mathlib.Omega.{arith}
 use Rattle.outline_spec.specs.Text.{text}
 use Rattle.outline_spec.specs.Faults.{advice, fault_of}
-use Rattle.compose_fault.specs.Laws.Faults.{early_last}
+use Rattle.compose_fault.proofs.Laws.Faults.{early_last}
 use borrow.Author.Rules.{rules}
 use Rattle.compose_fault.proofs.put_early.Statement.{statement}
 use Rattle.compose_fault.proofs.put_early.Tie as tie

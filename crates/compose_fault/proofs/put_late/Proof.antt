@@ -1,7 +1,7 @@
 use native.Mathlib.Omega.{arith}
 use Rattle.outline_spec.specs.Text.{text}
 use Rattle.outline_spec.specs.Faults.{advice, fault_of}
-use Rattle.compose_fault.specs.Laws.Faults.{late_last}
+use Rattle.compose_fault.proofs.Laws.Faults.{late_last}
 use borrow.Author.Rules.{rules}
 use Rattle.compose_fault.proofs.put_late.Statement.{statement}
 use Rattle.compose_fault.proofs.put_late.Tie as tie

@@ -1,7 +1,7 @@
 use native.Mathlib.Omega.{arith}
 use Rattle.outline_spec.specs.Text.{text}
 use Rattle.outline_spec.specs.Faults.{advice, fault_of}
-use Rattle.compose_fault.specs.Laws.Faults.{middle_last}
+use Rattle.compose_fault.proofs.Laws.Faults.{middle_last}
 use borrow.Author.Rules.{rules}
 use Rattle.compose_fault.proofs.put_middle.Statement.{statement}
 use Rattle.compose_fault.proofs.put_middle.Tie as tie

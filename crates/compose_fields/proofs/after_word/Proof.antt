@@ -1,7 +1,7 @@
 use borrow.Author.Tests.{not-true, not-false}
 use mathlib.Core.Path.{sym, ◌∙◌}
 use native.Mathlib.Omega.{arith}
-use Rattle.compose_fields.specs.Laws.Fields.{word_missing, word-goes_on, word_there, word_end}
+use Rattle.compose_fields.proofs.Laws.Fields.{word_missing, word-goes_on, word_there, word_end}
 use borrow.Author.Rules.{rules}
 use Rattle.compose_fields.proofs.after_word.Statement.{statement}
 use Rattle.compose_fields.proofs.after_word.Tie as tie

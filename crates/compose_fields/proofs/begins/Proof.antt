@@ -3,7 +3,7 @@ use lib.ListN.{length, drop}
 use mathlib.Core.Path.{◌≡◌, sym, ◌∙◌}
 use native.Mathlib.Omega.{arith}
 use Rattle.compose_fields.specs.Steps.{begins}
-use Rattle.compose_fields.specs.Laws.Parts.{begins-start, begins_short, begins-other, begins-more, begins-all}
+use Rattle.compose_fields.proofs.Laws.Parts.{begins-start, begins_short, begins-other, begins-more, begins-all}
 use borrow.Author.Rules.{rules}
 use Rattle.compose_fields.proofs.begins.Statement.{statement}
 use Rattle.compose_fields.proofs.begins.Tie as tie

@@ -1,7 +1,7 @@
 use borrow.Author.Tests.{not-true, not-false}
 use mathlib.Core.Path.{sym, ◌∙◌}
 use native.Mathlib.Omega.{arith}
-use Rattle.compose_fields.specs.Laws.Fields.{label-left, label-other, label_short, label_open, label-closed}
+use Rattle.compose_fields.proofs.Laws.Fields.{label-left, label-other, label_short, label_open, label-closed}
 use borrow.Author.Rules.{rules}
 use Rattle.compose_fields.proofs.label_at.Statement.{statement}
 use Rattle.compose_fields.proofs.label_at.Tie as tie

@@ -1,5 +1,5 @@
 use native.Mathlib.Omega.{arith}
-use Rattle.compose_fields.specs.Laws.Parts.{read-absent, number-end, number_low, number_high, number-goes}
+use Rattle.compose_fields.proofs.Laws.Parts.{read-absent, number-end, number_low, number_high, number-goes}
 use borrow.Author.Rules.{rules}
 use Rattle.compose_fields.proofs.number.Statement.{statement}
 use Rattle.compose_fields.proofs.number.Tie as tie

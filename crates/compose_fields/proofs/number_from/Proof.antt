@@ -3,7 +3,7 @@ use lib.ListN.{length, drop}
 use mathlib.Core.Path.{◌≡◌, refl}
 use native.Mathlib.Omega.{arith}
 use Rattle.outline_spec.specs.Understood.{number_from}
-use Rattle.compose_fields.specs.Laws.Parts.{digits_low, digits_high, digits-large, digits_more, digits-end}
+use Rattle.compose_fields.proofs.Laws.Parts.{digits_low, digits_high, digits-large, digits_more, digits-end}
 use borrow.Author.Rules.{rules}
 use Rattle.compose_fields.proofs.number_from.Statement.{statement}
 use Rattle.compose_fields.proofs.number_from.Tie as tie

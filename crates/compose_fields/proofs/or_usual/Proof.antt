@@ -1,4 +1,4 @@
-use Rattle.compose_fields.specs.Laws.Fields.{usual_given, usual_left}
+use Rattle.compose_fields.proofs.Laws.Fields.{usual_given, usual_left}
 use Rattle.compose_fields.proofs.or_usual.Statement.{statement}
 use Rattle.compose_fields.proofs.or_usual.Tie as tie
 

@@ -1,5 +1,5 @@
 use native.Mathlib.Omega.{arith}
-use Rattle.compose_fields.specs.Laws.Parts.{parted-end, parted-here}
+use Rattle.compose_fields.proofs.Laws.Parts.{parted-end, parted-here}
 use borrow.Author.Rules.{rules}
 use Rattle.compose_fields.proofs.parted.Statement.{statement}
 use Rattle.compose_fields.proofs.parted.Tie as tie

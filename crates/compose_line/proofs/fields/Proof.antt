@@ -1,7 +1,7 @@
-use Rattle.outline_spec.specs.Laws.Told.{border_small}
+use Rattle.outline_spec.proofs.Laws.Told.{border_small}
 use mathlib.Core.Path.{refl, ◌∙◌}
 use native.Mathlib.Omega.{arith}
-use Rattle.compose_line.specs.Laws.Cells.{fields_1, fields_2, fields_3, fields_4, fields_5, fields_0, usual_within}
+use Rattle.compose_line.proofs.Laws.Cells.{fields_1, fields_2, fields_3, fields_4, fields_5, fields_0, usual_within}
 use borrow.Author.Rules.{rules}
 use Rattle.compose_line.proofs.fields.Statement.{statement}
 use Rattle.compose_line.proofs.fields.Tie as tie

@@ -1,5 +1,5 @@
-use Rattle.plan.specs.Laws.Questions.{lower_suc}
-use Rattle.compose_line.specs.Laws.Cells.{lower-first}
+use Rattle.plan.proofs.Laws.Questions.{lower_suc}
+use Rattle.compose_line.proofs.Laws.Cells.{lower-first}
 use Rattle.compose_line.proofs.lower.Statement.{statement}
 use Rattle.compose_line.proofs.lower.Tie as tie
 

@@ -1,7 +1,7 @@
 use borrow.Author.Tests.{not-true, not-false}
 use mathlib.Core.Path.{sym, ◌∙◌}
 use native.Mathlib.Omega.{arith}
-use Rattle.compose_line.specs.Laws.Cells.{told_high, told_aside, told-placed, lower_small}
+use Rattle.compose_line.proofs.Laws.Cells.{told_high, told_aside, told-placed, lower_small}
 use borrow.Author.Rules.{rules}
 use Rattle.compose_line.proofs.placed.Statement.{statement}
 use Rattle.compose_line.proofs.placed.Tie as tie

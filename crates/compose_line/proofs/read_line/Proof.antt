@@ -1,6 +1,6 @@
 use borrow.Author.Tests.{not-true, not-false}
 use mathlib.Core.Path.{sym, ◌∙◌}
-use Rattle.compose_line.specs.Laws.Lines.{read_strange, read-over, read-odd, read-on, level-starts}
+use Rattle.compose_line.proofs.Laws.Lines.{read_strange, read-over, read-odd, read-on, level-starts}
 use borrow.Author.Rules.{rules}
 use Rattle.compose_line.proofs.read_line.Statement.{statement}
 use Rattle.compose_line.proofs.read_line.Tie as tie

@@ -1,5 +1,5 @@
 use native.Mathlib.Omega.{arith}
-use Rattle.compose_line.specs.Laws.Lines.{worded_none, worded_goes}
+use Rattle.compose_line.proofs.Laws.Lines.{worded_none, worded_goes}
 use borrow.Author.Rules.{rules}
 use Rattle.compose_line.proofs.worded.Statement.{statement}
 use Rattle.compose_line.proofs.worded.Tie as tie

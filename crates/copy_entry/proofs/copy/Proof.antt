@@ -17,7 +17,7 @@ use denote.Builtin.{u8, u32, SliceRefOf, SliceRefMutOf}
 use denote.Slice.{slice_val, shr_slice_vals, mut_slice_vals, shr_slice_Tells, mut_slice_Tells}
 use denote.Enum.Laws as EL
 use Rattle.copying.specs.Copied.{Copies}
-use Rattle.copy_entry.specs.Laws.Lent.{copy-lent}
+use Rattle.copy_entry.proofs.Laws.Lent.{copy-lent}
 use Rattle.plan.proofs.Lettered.TheLaws as B'
 use Rattle.copying.specs.contracts.Copied as L
 use Rattle.copying.proofs.Copied.TheLaws as L'

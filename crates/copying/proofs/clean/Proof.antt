@@ -2,7 +2,7 @@ use mathlib.Core.Path.{refl, sym, ap}
 use lib.ListN.{take}
 use lib.Seq.{length-take-le}
 use Rattle.planfile_spec.specs.declared.Trailer.{Trailer}
-use Rattle.copying.specs.Laws.Cleaned.{clean-refused, clean-long, clean-begin, clean_copied}
+use Rattle.copying.proofs.Laws.Cleaned.{clean-refused, clean-long, clean-begin, clean_copied}
 use borrow.Author.Rules.{rules}
 use Rattle.copying.proofs.clean.Statement.{statement}
 use Rattle.copying.proofs.clean.Tie as tie

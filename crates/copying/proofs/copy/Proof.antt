@@ -1,5 +1,5 @@
 use native.Mathlib.Omega.{arith}
-use Rattle.copying.specs.Laws.Written.{copy-refused, copy_ready, copy_written}
+use Rattle.copying.proofs.Laws.Written.{copy-refused, copy_ready, copy_written}
 use borrow.Author.Rules.{rules}
 use Rattle.copying.proofs.copy.Statement.{statement}
 use Rattle.copying.proofs.copy.Tie as tie

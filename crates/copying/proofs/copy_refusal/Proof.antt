@@ -1,10 +1,10 @@
 use mathlib.Core.Path.{ap, ◌∙◌}
 use lib.ListN.{length}
 use Rattle.plan.specs.Questions.{asked}
-use Rattle.plan.specs.Laws.Questions.{stops, goes_on}
-use Rattle.plan.specs.Laws.Steps.{counted-read}
+use Rattle.plan.proofs.Laws.Questions.{stops, goes_on}
+use Rattle.plan.proofs.Laws.Steps.{counted-read}
 use Rattle.plan.specs.declared.forms.Form.TheVariants.{Wide}
-use Rattle.planfile_spec.specs.Laws.Examined.{records-lower, records-flat}
+use Rattle.planfile_spec.proofs.Laws.Examined.{records-lower, records-flat}
 use Rattle.copying.specs.Steps.{lettered_steps}
 use borrow.Author.Rules.{rules}
 use Rattle.copying.proofs.copy_refusal.Statement.{statement}

@@ -1,5 +1,5 @@
 use native.Mathlib.Omega.{arith}
-use Rattle.copying.specs.Laws.Written.{rows_ready, parts-put, parts-room, trailer_room}
+use Rattle.copying.proofs.Laws.Written.{rows_ready, parts-put, parts-room, trailer_room}
 use borrow.Author.Rules.{rules}
 use Rattle.copying.proofs.write.Statement.{statement}
 use Rattle.copying.proofs.write.Tie as tie

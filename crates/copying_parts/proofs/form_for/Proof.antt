@@ -2,7 +2,7 @@ use Prim.Native.Nat.{◌-◌, ◌≤◌}
 use mathlib.Core.Path.{◌≡◌, refl}
 use native.Mathlib.Omega.{arith}
 use Rattle.copying_records.specs.Parts.{narrow_to}
-use Rattle.copying_records.specs.Laws.Put.{narrow_start, narrow-more, form-ends}
+use Rattle.copying_records.proofs.Laws.Put.{narrow_start, narrow-more, form-ends}
 use borrow.Author.Rules.{rules}
 use Rattle.copying_parts.proofs.form_for.Statement.{statement}
 use Rattle.copying_parts.proofs.form_for.Tie as tie

@@ -1,7 +1,7 @@
 use Prim.Native.Nat.{◌-◌, ◌≤◌}
 use native.Mathlib.Omega.{arith}
 use mathlib.Core.Path.{◌≡◌}
-use Rattle.copying_records.specs.Laws.Put.{Laid, laid_start, laid_room, laid_more, laid_all}
+use Rattle.copying_records.proofs.Laws.Put.{Laid, laid_start, laid_room, laid_more, laid_all}
 use borrow.Author.Rules.{rules}
 use Rattle.copying_parts.proofs.put_labels.Statement.{statement}
 use Rattle.copying_parts.proofs.put_labels.Tie as tie

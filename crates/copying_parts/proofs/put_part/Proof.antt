@@ -1,7 +1,7 @@
 use Prim.Native.Nat.{◌+◌, ◌-◌, ◌≤◌, ◌<◌}
 use native.Mathlib.Omega.{arith}
 use lib.ListN.{length, take, drop}
-use Rattle.copying_records.specs.Laws.Put.{part-start, part-more, part-all}
+use Rattle.copying_records.proofs.Laws.Put.{part-start, part-more, part-all}
 use Rattle.copying_records.specs.Parts.{Put}
 use borrow.Author.Rules.{rules}
 use Rattle.copying_parts.proofs.put_part.Statement.{statement}

@@ -1,4 +1,4 @@
-use Rattle.copying_records.specs.Laws.Put.{then}
+use Rattle.copying_records.proofs.Laws.Put.{then}
 use borrow.Author.Rules.{rules}
 use Rattle.copying_parts.proofs.put_trailer.Statement.{statement}
 use Rattle.copying_parts.proofs.put_trailer.Tie as tie

@@ -1,4 +1,4 @@
-use Rattle.copying_records.specs.Laws.Put.{then}
+use Rattle.copying_records.proofs.Laws.Put.{then}
 use borrow.Author.Rules.{rules}
 use Rattle.copying_records.proofs.put_old.Statement.{statement}
 use Rattle.copying_records.proofs.put_old.Tie as tie

@@ -1,5 +1,5 @@
 use Rattle.plan.specs.Forms.{record_size}
-use Rattle.content.specs.Laws.Clean.{record_old, record_wide}
+use Rattle.content.proofs.Laws.Clean.{record_old, record_wide}
 use Rattle.copying_records.specs.Parts.{Holds}
 use borrow.Author.Rules.{rules}
 use Rattle.copying_records.proofs.put_record.Statement.{statement}

@@ -1,7 +1,7 @@
 use Prim.Native.Nat.{◌-◌, ◌≤◌}
 use mathlib.Core.Path.{◌≡◌}
 use native.Mathlib.Omega.{arith}
-use Rattle.copying_records.specs.Laws.Put.{Rowed, rowed_start, rowed_room, rowed_more, rowed_all}
+use Rattle.copying_records.proofs.Laws.Put.{Rowed, rowed_start, rowed_room, rowed_more, rowed_all}
 use borrow.Author.Rules.{rules}
 use Rattle.copying_records.proofs.put_records.Statement.{statement}
 use Rattle.copying_records.proofs.put_records.Tie as tie

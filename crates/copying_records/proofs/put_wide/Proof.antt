@@ -1,4 +1,4 @@
-use Rattle.copying_records.specs.Laws.Put.{then}
+use Rattle.copying_records.proofs.Laws.Put.{then}
 use borrow.Author.Rules.{rules}
 use Rattle.copying_records.proofs.put_wide.Statement.{statement}
 use Rattle.copying_records.proofs.put_wide.Tie as tie

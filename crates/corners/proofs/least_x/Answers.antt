@@ -1,5 +1,5 @@
 use native.Mathlib.Omega.{arith}
-use Rattle.corners.specs.Laws.Corners.{lowering_starts, lowering_turns, lowering_ends}
+use Rattle.corners.proofs.Laws.Corners.{lowering_starts, lowering_turns, lowering_ends}
 use Rattle.corners.proofs.least_x.Goals as goal
 
 pub raise_at-low-requires : goal.raise_at-low-requires

@@ -1,5 +1,5 @@
 use Prim.Native.Nat.{◌-◌}
-use Rattle.corners.specs.Laws.Corners.{Lowering}
+use Rattle.corners.proofs.Laws.Corners.{Lowering}
 use Rattle.corners.proofs.least_x.Given as goal
 
 abbrev pub invariant-loop-c : goal.invariant-loop-c

@@ -1,5 +1,5 @@
 use native.Mathlib.Omega.{arith}
-use Rattle.corners.specs.Laws.Corners.{bias_low}
+use Rattle.corners.proofs.Laws.Corners.{bias_low}
 use Rattle.corners.proofs.x_of.Goals as goal
 
 pub returns : goal.returns

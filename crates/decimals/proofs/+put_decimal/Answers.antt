@@ -1,6 +1,6 @@
 use Rattle.std.proofs.Common.{arith}
-use Rattle.decimals.specs.Laws.Fixed.{nineteen, twenty}
-use Rattle.listing.specs.Laws.Put.{decimal_digit, decimal_last}
+use Rattle.decimals.proofs.Laws.Fixed.{nineteen, twenty}
+use Rattle.listing.proofs.Laws.Put.{decimal_digit, decimal_last}
 use Rattle.decimals.proofs.+put_decimal.Goals as goal
 
 pub returns-then-n-lt10 : goal.returns-then-n-lt10

@@ -1,5 +1,5 @@
 use Rattle.std.proofs.Common.{arith, rules}
-use Rattle.decimals.specs.Laws.Fixed.{fixed-put, fixed_short}
+use Rattle.decimals.proofs.Laws.Fixed.{fixed-put, fixed_short}
 use Rattle.decimals.proofs.put_fixed.Goals as goal
 
 pub returns : goal.returns

@@ -1,5 +1,5 @@
 use Rattle.std.proofs.Common.{arith, rules}
-use Rattle.decimals.specs.Laws.Refused.{refused-put}
+use Rattle.decimals.proofs.Laws.Refused.{refused-put}
 use Rattle.decimals.proofs.put_refused.Goals as goal
 
 pub returns : goal.returns

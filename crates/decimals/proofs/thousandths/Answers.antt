@@ -1,7 +1,7 @@
 use Rattle.std.proofs.Common.{T, sym, subst}
 use lib.Ieee.{of_bits, neg}
 use Rattle.std.specs.Float.{◌<ᶠ◌, minus_one, two_to}
-use Rattle.decimals.specs.Laws.Fixed.{held, not_low, not_high}
+use Rattle.decimals.proofs.Laws.Fixed.{held, not_low, not_high}
 use Rattle.decimals.proofs.thousandths.Goals as goal
 
 pub truncating_f64_to_u64-requires-clause-lower_bound : goal.truncating_f64_to_u64-requires-clause-lower_bound

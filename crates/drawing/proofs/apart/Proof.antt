@@ -1,7 +1,7 @@
 use mir.ValLaws.{to_z-of_z}
 use mir.Syntax.{w32}
 use mathlib.Core.Path.{◌∙◌}
-use Rattle.drawing.specs.Laws.Drawn.{bias_small, apart_is}
+use Rattle.drawing.proofs.Laws.Drawn.{bias_small, apart_is}
 use native.Mathlib.Omega.{arith}
 use Rattle.drawing.proofs.apart.Statement.{statement}
 use Rattle.drawing.proofs.apart.Tie as tie

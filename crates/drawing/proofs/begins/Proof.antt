@@ -1,4 +1,4 @@
-use Rattle.drawing.specs.Laws.Spans.{begins_short, begins-other, begins-more, begins-all}
+use Rattle.drawing.proofs.Laws.Spans.{begins_short, begins-other, begins-more, begins-all}
 use Rattle.drawing_spec.specs.Said.{begins}
 use lib.ListN.{length, drop}
 use Prim.Native.Nat.{◌-◌, ◌≤◌}

@@ -1,5 +1,5 @@
 use Rattle.drawing_spec.specs.Words.{begins_below}
-use Rattle.drawing.specs.Laws.Numbers.{below-empty}
+use Rattle.drawing.proofs.Laws.Numbers.{below-empty}
 use mathlib.Core.Path.{refl}
 use borrow.Author.Rules.{rules}
 use Rattle.drawing.proofs.begins_below.Statement.{statement}

@@ -1,5 +1,5 @@
 use borrow.Author.Tests.{not-true, not-false}
-use Rattle.drawing.specs.Laws.Spans.{until-here, until-later, until_last, solid_yes, solid-no}
+use Rattle.drawing.proofs.Laws.Spans.{until-here, until-later, until_last, solid_yes, solid-no}
 use Rattle.drawing.specs.Steps.{until, solid}
 use lib.ListN.{length, drop}
 use Prim.Native.Nat.{◌+◌, ◌-◌, ◌≤◌}

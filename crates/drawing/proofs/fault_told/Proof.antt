@@ -1,4 +1,4 @@
-use Rattle.drawing.specs.Laws.Drawn.{told_1, told_2, told_3, told_4}
+use Rattle.drawing.proofs.Laws.Drawn.{told_1, told_2, told_3, told_4}
 use Rattle.drawing.proofs.fault_told.Statement.{statement}
 use Rattle.drawing.proofs.fault_told.Tie as tie
 

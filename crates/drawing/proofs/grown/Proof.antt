@@ -1,4 +1,4 @@
-use Rattle.drawing.specs.Laws.Numbers.{capped_low, capped_high}
+use Rattle.drawing.proofs.Laws.Numbers.{capped_low, capped_high}
 use mathlib.Core.Path.{sym}
 use native.Mathlib.Omega.{arith}
 use borrow.Author.Rules.{rules}

@@ -1,4 +1,4 @@
-use Rattle.drawing.specs.Laws.Numbers.{below-some, integer-below, integer-above}
+use Rattle.drawing.proofs.Laws.Numbers.{below-some, integer-below, integer-above}
 use mathlib.Core.Path.{sym, ◌∙◌}
 use native.Mathlib.Omega.{arith}
 use borrow.Author.Rules.{rules}

@@ -1,4 +1,4 @@
-use Rattle.drawing.specs.Laws.Spans.{until-here, until-later, until_last, feed_yes, feed-no}
+use Rattle.drawing.proofs.Laws.Spans.{until-here, until-later, until_last, feed_yes, feed-no}
 use Rattle.drawing.specs.Steps.{until, feed}
 use lib.ListN.{length, drop}
 use Prim.Native.Nat.{◌+◌, ◌-◌, ◌≤◌}

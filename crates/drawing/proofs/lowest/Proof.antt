@@ -1,4 +1,4 @@
-use Rattle.drawing.specs.Laws.Drawn.{lowest_start, lowest-here, lowest-later, lowest-end}
+use Rattle.drawing.proofs.Laws.Drawn.{lowest_start, lowest-here, lowest-later, lowest-end}
 use Rattle.drawing_spec.specs.Said.{lowest}
 use Prim.Native.Nat.{◌-◌, ◌≤◌}
 use mathlib.Core.Path.{◌≡◌}

@@ -1,4 +1,4 @@
-use Rattle.drawing.specs.Laws.Numbers.{natural-empty, Going, going-starts, going-turns, going_low, going_high, going-ends}
+use Rattle.drawing.proofs.Laws.Numbers.{natural-empty, Going, going-starts, going-turns, going_low, going_high, going-ends}
 use lib.ListN.{length}
 use Prim.Native.Nat.{◌-◌}
 use native.Mathlib.Omega.{arith}

@@ -1,4 +1,4 @@
-use Rattle.drawing.specs.Laws.Spans.{next-is}
+use Rattle.drawing.proofs.Laws.Spans.{next-is}
 use borrow.Author.Rules.{rules}
 use Rattle.drawing.proofs.next_word.Statement.{statement}
 use Rattle.drawing.proofs.next_word.Tie as tie

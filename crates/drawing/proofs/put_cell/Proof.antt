@@ -1,6 +1,6 @@
 use mir.ValLaws.{to_z-of_z}
 use mir.Syntax.{w32}
-use Rattle.drawing.specs.Laws.Lines.{steps-passed, steps-unread, steps-beyond, steps_twice, steps-x, steps-y, steps-near}
+use Rattle.drawing.proofs.Laws.Lines.{steps-passed, steps-unread, steps-beyond, steps_twice, steps-x, steps-y, steps-near}
 use borrow.Author.Tests.{not-true, not-false}
 use mathlib.Core.Path.{refl, ◌∙◌}
 use borrow.Author.Rules.{rules}

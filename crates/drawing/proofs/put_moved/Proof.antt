@@ -1,8 +1,8 @@
 use mir.ValLaws.{to_z-of_z}
 use mir.Syntax.{w32}
-use Rattle.drawing.specs.Laws.Drawn.{moved-x, moved-y}
+use Rattle.drawing.proofs.Laws.Drawn.{moved-x, moved-y}
 use Rattle.drawing_spec.specs.Said.{moved}
-use Rattle.positions.specs.Laws.Written.{written_none, written-put}
+use Rattle.positions.proofs.Laws.Written.{written_none, written-put}
 use Rattle.positions.specs.Written.{written}
 use Rattle.rules.specs.Placement.{placed}
 use lib.ListN.{length, length-set}

@@ -1,4 +1,4 @@
-use Rattle.drawing.specs.Laws.Drawn.{drawn_many, drawn_short, drawn_long, drawn_fault, drawn_missing, drawn_placed, zeros_held, zeros-sized}
+use Rattle.drawing.proofs.Laws.Drawn.{drawn_many, drawn_short, drawn_long, drawn_fault, drawn_missing, drawn_placed, zeros_held, zeros-sized}
 use native.Mathlib.Omega.{arith}
 use borrow.Author.Rules.{rules}
 use Rattle.drawing.proofs.read_drawing.Statement.{statement}

@@ -1,4 +1,4 @@
-use Rattle.drawing.specs.Laws.Lines.{line_pass, line-three}
+use Rattle.drawing.proofs.Laws.Lines.{line_pass, line-three}
 use mathlib.Core.Path.{sym, ◌∙◌}
 use borrow.Author.Rules.{rules}
 use Rattle.drawing.proofs.read_line.Statement.{statement}

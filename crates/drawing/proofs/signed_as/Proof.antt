@@ -1,4 +1,4 @@
-use Rattle.drawing.specs.Laws.Numbers.{signed-none, signed-far, signed_below, signed_above}
+use Rattle.drawing.proofs.Laws.Numbers.{signed-none, signed-far, signed_below, signed_above}
 use borrow.Author.Tests.{not-true, not-false}
 use mathlib.Core.Path.{refl}
 use borrow.Author.Rules.{rules}

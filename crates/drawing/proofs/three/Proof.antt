@@ -1,5 +1,5 @@
 use borrow.Author.Tests.{not-true, not-false}
-use Rattle.drawing.specs.Laws.Lines.{three-cell, three-x, three-y, three-all, told-unread}
+use Rattle.drawing.proofs.Laws.Lines.{three-cell, three-x, three-y, three-all, told-unread}
 use borrow.Author.Rules.{rules}
 use Rattle.drawing.proofs.three.Statement.{statement}
 use Rattle.drawing.proofs.three.Tie as tie

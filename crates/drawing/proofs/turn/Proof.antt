@@ -1,5 +1,5 @@
-use Rattle.drawing.specs.Laws.Turns.{turned_goes, turned_stops}
-use Rattle.drawing.specs.Laws.Lines.{told-near}
+use Rattle.drawing.proofs.Laws.Turns.{turned_goes, turned_stops}
+use Rattle.drawing.proofs.Laws.Lines.{told-near}
 use lib.ListN.{take, drop}
 use Prim.Native.Nat.{◌-◌}
 use mathlib.Core.Path.{refl}

@@ -1,5 +1,5 @@
 use Rattle.drawing_spec.specs.Words.{blank}
-use Rattle.drawing.specs.Laws.Spans.{until-here, until-later, until_last}
+use Rattle.drawing.proofs.Laws.Spans.{until-here, until-later, until_last}
 use Rattle.drawing.specs.Steps.{until}
 use lib.ListN.{length, drop}
 use Prim.Native.Nat.{◌+◌, ◌-◌, ◌≤◌}

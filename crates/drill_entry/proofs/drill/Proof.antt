@@ -16,7 +16,7 @@ use denote.Builtin.{u8, u16, SliceRefOf, SliceRefMutOf}
 use denote.Slice.{slice_val, shr_slice_vals, mut_slice_vals, shr_slice_Tells, mut_slice_Tells}
 use denote.Enum.Laws as EL
 use Rattle.following.specs.Drilled.{Drills}
-use Rattle.drill_entry.specs.Laws.Lent.{drill-lent}
+use Rattle.drill_entry.proofs.Laws.Lent.{drill-lent}
 use Rattle.plan.proofs.Columns.TheLaws as B'
 use Rattle.following.specs.contracts.Drilled as L
 use Rattle.following.proofs.Drilled.TheLaws as L'

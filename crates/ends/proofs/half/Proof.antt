@@ -1,4 +1,4 @@
-use Rattle.ends.specs.Laws.Halves.{close_half}
+use Rattle.ends.proofs.Laws.Halves.{close_half}
 use native.Mathlib.Omega.{arith}
 use borrow.Author.Rules.{rules}
 use Rattle.ends.proofs.half.Statement.{statement}

@@ -1,4 +1,4 @@
-use Rattle.plan.specs.Laws.Questions.{and_no, and_yes}
+use Rattle.plan.proofs.Laws.Questions.{and_no, and_yes}
 use borrow.Author.Tests.{le-ltb, lt-ltb}
 use mathlib.Core.Path.{sym}
 use Rattle.ends.proofs.named.Statement.{statement}

@@ -1,8 +1,8 @@
-use Rattle.plan.specs.Laws.Tables.{length-is, count_few}
+use Rattle.plan.proofs.Laws.Tables.{length-is, count_few}
 use Rattle.plan.specs.Steps.{near_refusal}
-use Rattle.plan.specs.Laws.Fit.{lent_fit}
-use Rattle.plan.specs.Laws.Calls.{ends-refusal}
-use Rattle.plan.specs.Laws.Questions.{stops, goes_on}
+use Rattle.plan.proofs.Laws.Fit.{lent_fit}
+use Rattle.plan.proofs.Laws.Calls.{ends-refusal}
+use Rattle.plan.proofs.Laws.Questions.{stops, goes_on}
 use Rattle.plan.specs.Questions.{asked}
 use Rattle.plan.specs.Columns.{table_of}
 use Rattle.plan.specs.declared.Refusal.{Refusal}

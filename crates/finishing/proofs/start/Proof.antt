@@ -3,8 +3,8 @@ use borrow.Author.Rules.{rules}
 use lib.Seq.{length-take-le}
 use Rattle.plan.specs.Limits.{scratch_size, second_size}
 use Rattle.plan.specs.Columns.{table_of}
-use Rattle.finishing_asks.specs.Laws.Asks.{start-asks}
-use Rattle.finishing.specs.Laws.Finishing.{start-refused, start-done}
+use Rattle.finishing_asks.proofs.Laws.Asks.{start-asks}
+use Rattle.finishing.proofs.Laws.Finishing.{start-refused, start-done}
 use Rattle.finishing.proofs.start.Statement.{statement}
 use Rattle.finishing.proofs.start.Tie as tie
 

@@ -3,7 +3,7 @@ use borrow.Author.Rules.{rules}
 use lib.Seq.{length-take-le}
 use Rattle.plan.specs.Limits.{scratch_size, second_size}
 use Rattle.plan.specs.Columns.{table_of}
-use Rattle.finishing_step.specs.Laws.Stepping.{step-refused, step-asks, step-taken}
+use Rattle.finishing_step.proofs.Laws.Stepping.{step-refused, step-asks, step-taken}
 use Rattle.finishing.proofs.step.Statement.{statement}
 use Rattle.finishing.proofs.step.Tie as tie
 

@@ -1,8 +1,8 @@
-use Rattle.plan.specs.Laws.Calls as calls
+use Rattle.plan.proofs.Laws.Calls as calls
 use mathlib.Core.Path.{sym, ◌∙◌}
 use borrow.Author.Rules.{rules}
 use Rattle.plan.specs.Columns.{table_of}
-use Rattle.plan.specs.Laws.Questions.{stops, goes_on}
+use Rattle.plan.proofs.Laws.Questions.{stops, goes_on}
 use Rattle.finishing_asks.proofs.start_refusal.Statement.{statement}
 use Rattle.finishing_asks.proofs.start_refusal.Tie as tie
 

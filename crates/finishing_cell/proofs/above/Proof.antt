@@ -1,4 +1,4 @@
-use Rattle.finishing_cell.specs.Laws.Taking.{up_root, up-child}
+use Rattle.finishing_cell.proofs.Laws.Taking.{up_root, up-child}
 use mathlib.Core.Path.{sym, ◌∙◌}
 use native.Mathlib.Omega.{arith}
 use borrow.Author.Rules.{rules}

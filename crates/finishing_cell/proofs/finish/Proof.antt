@@ -1,7 +1,7 @@
 use native.Mathlib.Omega.{arith}
 use borrow.Author.Rules.{rules}
 use Rattle.walk.specs.Machine.{Chart, chart}
-use Rattle.finishing_guard.specs.Laws.Guard.{root_needs, finished-child, finished_root}
+use Rattle.finishing_guard.proofs.Laws.Guard.{root_needs, finished-child, finished_root}
 use Rattle.finishing_cell.proofs.finish.Statement.{statement}
 use Rattle.finishing_cell.proofs.finish.Tie as tie
 

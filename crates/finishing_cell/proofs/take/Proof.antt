@@ -3,10 +3,10 @@ use native.Mathlib.Omega.{arith}
 use borrow.Author.Rules.{rules}
 use lib.ListN.{length}
 use Rattle.plan.specs.Limits.{most_cells}
-use Rattle.marks.specs.Laws.Marks.{Long}
-use Rattle.layout.specs.Laws.Laid.{fit_lower, fit_flat}
-use Rattle.finishing_order.specs.Laws.Seeking.{seeking}
-use Rattle.finishing_cell.specs.Laws.Taking.{static, took}
+use Rattle.marks.proofs.Laws.Marks.{Long}
+use Rattle.layout.proofs.Laws.Laid.{fit_lower, fit_flat}
+use Rattle.finishing_order.proofs.Laws.Seeking.{seeking}
+use Rattle.finishing_cell.proofs.Laws.Taking.{static, took}
 use Rattle.finishing_cell.proofs.take.Statement.{statement}
 use Rattle.finishing_cell.proofs.take.Tie as tie
 

@@ -4,7 +4,7 @@ use borrow.Author.Rules.{rules}
 use lib.ListN.{length-set}
 use Prim.Native.Nat.{ℕ}
 use Rattle.walk.specs.Machine.{Chart, chart}
-use Rattle.finishing_guard.specs.Laws.Guard.{guard_found, child_ready, tried_yes, tried_no}
+use Rattle.finishing_guard.proofs.Laws.Guard.{guard_found, child_ready, tried_yes, tried_no}
 use Rattle.finishing_guard.proofs.finish_joined.Statement.{statement}
 use Rattle.finishing_guard.proofs.finish_joined.Tie as tie
 

@@ -5,7 +5,7 @@ use lib.ListN.{length-set}
 use Prim.Native.Nat.{ℕ}
 use Rattle.joining.specs.Joining.{memory_of}
 use Rattle.finishing_guard.specs.Guard.{OwnRows, uncounted}
-use Rattle.finishing_guard.specs.Laws.Guard.{root_ready, root_found, tried_yes, tried_no}
+use Rattle.finishing_guard.proofs.Laws.Guard.{root_ready, root_found, tried_yes, tried_no}
 use Rattle.finishing_guard.proofs.finish_last.Statement.{statement}
 use Rattle.finishing_guard.proofs.finish_last.Tie as tie
 

@@ -1,4 +1,4 @@
-use Rattle.finishing_guard.specs.Laws.Guard.{Upto, upto-none, upto-more, upto_all}
+use Rattle.finishing_guard.proofs.Laws.Guard.{Upto, upto-none, upto-more, upto_all}
 use lib.ListN.{length}
 use Prim.Native.Nat.{◌-◌}
 use native.Mathlib.Omega.{arith}

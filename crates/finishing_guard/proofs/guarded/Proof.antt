@@ -3,7 +3,7 @@ use native.Mathlib.Omega.{arith}
 use borrow.Author.Rules.{rules}
 use borrow.Author.Tests.{not-true, not-false}
 use Rattle.rows.specs.Rows.{Low}
-use Rattle.finishing_guard.specs.Laws.Guard.{tells_no, tells_le, low_yes, low_no, part-stretch}
+use Rattle.finishing_guard.proofs.Laws.Guard.{tells_no, tells_le, low_yes, low_no, part-stretch}
 use Rattle.finishing_guard.proofs.guarded.Statement.{statement}
 use Rattle.finishing_guard.proofs.guarded.Tie as tie
 

@@ -1,7 +1,7 @@
 use native.Mathlib.Omega.{arith}
 use borrow.Author.Rules.{rules}
 use Prim.Native.Nat.{◌+◌}
-use Rattle.finishing_guard.specs.Laws.Guard.{tells_no, tells_le}
+use Rattle.finishing_guard.proofs.Laws.Guard.{tells_no, tells_le}
 use Rattle.finishing_guard.proofs.guarded_own.Statement.{statement}
 use Rattle.finishing_guard.proofs.guarded_own.Tie as tie
 

@@ -1,6 +1,6 @@
 use native.Mathlib.Omega.{arith}
 use borrow.Author.Rules.{rules}
-use Rattle.finishing_guard.specs.Laws.Guard.{tells_no, tells_le}
+use Rattle.finishing_guard.proofs.Laws.Guard.{tells_no, tells_le}
 use Rattle.finishing_guard.proofs.guarded_parent.Statement.{statement}
 use Rattle.finishing_guard.proofs.guarded_parent.Tie as tie
 

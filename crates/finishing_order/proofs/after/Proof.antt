@@ -1,5 +1,5 @@
 use Rattle.finishing_order.specs.Order.{leaf}
-use Rattle.finishing_order.specs.Laws.Order.{after_root, after-some, enter-none, enter-some}
+use Rattle.finishing_order.proofs.Laws.Order.{after_root, after-some, enter-none, enter-some}
 use Rattle.links.specs.Links.{link}
 use lib.ListN.{get_or}
 use mathlib.Core.Path.{sym, ap, ◌∙◌}

@@ -3,7 +3,7 @@ use mathlib.Core.Path.{ap, ◌∙◌}
 use native.Mathlib.Omega.{arith}
 use borrow.Author.Rules.{rules}
 use Prim.Native.Nat.{ℕ}
-use Rattle.finishing_order.specs.Laws.Seeking.{seeking, met-here}
+use Rattle.finishing_order.proofs.Laws.Seeking.{seeking, met-here}
 use Rattle.finishing_order.proofs.is_finished.Statement.{statement}
 use Rattle.finishing_order.proofs.is_finished.Tie as tie
 

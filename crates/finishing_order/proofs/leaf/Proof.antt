@@ -1,5 +1,5 @@
 use Rattle.finishing_order.specs.Order.{leaf}
-use Rattle.finishing_order.specs.Laws.Order.{leaf-more, down-stop}
+use Rattle.finishing_order.proofs.Laws.Order.{leaf-more, down-stop}
 use Rattle.links.specs.Links.{link}
 use mathlib.Core.Path.{◌≡◌, refl, sym, ap, ◌∙◌}
 use Prim.Native.Nat.{ℕ, ◌-◌, ◌<◌}

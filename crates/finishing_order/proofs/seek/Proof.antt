@@ -1,6 +1,6 @@
 use Rattle.finishing_order.specs.Order as order
 use Rattle.finishing_order.specs.Order.{after, nth, met}
-use Rattle.finishing_order.specs.Laws.Order.{nth-more, met-more}
+use Rattle.finishing_order.proofs.Laws.Order.{nth-more, met-more}
 use lib.Dec.{eqb}
 use mathlib.Core.Bool.{◌||◌}
 use Prim.Native.Nat.{◌-◌, ◌≤◌}

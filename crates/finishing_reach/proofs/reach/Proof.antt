@@ -1,9 +1,9 @@
 use native.Mathlib.Omega.{arith}
 use borrow.Author.Rules.{rules}
 use Rattle.plan.specs.Columns.{table_of}
-use Rattle.plan.specs.Laws.Tables.{length-is}
-use Rattle.finishing_asks.specs.Laws.Asks.{start-asks}
-use Rattle.finishing_reach.specs.Laws.Reaching.{reach-refused, reach_unnamed, reach-read}
+use Rattle.plan.proofs.Laws.Tables.{length-is}
+use Rattle.finishing_asks.proofs.Laws.Asks.{start-asks}
+use Rattle.finishing_reach.proofs.Laws.Reaching.{reach-refused, reach_unnamed, reach-read}
 use Rattle.finishing_reach.proofs.reach.Statement.{statement}
 use Rattle.finishing_reach.proofs.reach.Tie as tie
 

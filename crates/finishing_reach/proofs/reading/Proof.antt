@@ -1,7 +1,7 @@
 use native.Mathlib.Omega.{arith}
 use Rattle.plan.specs.Columns.{table_of}
-use Rattle.plan.specs.Laws.Tables.{length-is}
-use Rattle.finishing_reach.specs.Laws.Reaching.{read_yes, read_no}
+use Rattle.plan.proofs.Laws.Tables.{length-is}
+use Rattle.finishing_reach.proofs.Laws.Reaching.{read_yes, read_no}
 use Rattle.finishing_reach.proofs.reading.Statement.{statement}
 use Rattle.finishing_reach.proofs.reading.Tie as tie
 

@@ -4,8 +4,8 @@ use native.Mathlib.Omega.{arith}
 use borrow.Author.Rules.{rules}
 use Prim.Native.Nat.{◌+◌, ℕ}
 use Rattle.plan.specs.Columns.{table_of}
-use Rattle.plan.specs.Laws.Tables.{length-is}
-use Rattle.finishing_step.specs.Laws.Stepping.{step-over, step_tampered, step-done}
+use Rattle.plan.proofs.Laws.Tables.{length-is}
+use Rattle.finishing_step.proofs.Laws.Stepping.{step-over, step_tampered, step-done}
 use Rattle.finishing_step.proofs.advance.Statement.{statement}
 use Rattle.finishing_step.proofs.advance.Tie as tie
 

@@ -1,4 +1,4 @@
-use Rattle.finishing_step.specs.Laws.Stepping.{concluded_yes, concluded_no}
+use Rattle.finishing_step.proofs.Laws.Stepping.{concluded_yes, concluded_no}
 use borrow.Author.Rules.{rules}
 use Rattle.finishing_step.proofs.conclude.Statement.{statement}
 use Rattle.finishing_step.proofs.conclude.Tie as tie

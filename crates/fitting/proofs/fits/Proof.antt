@@ -1,5 +1,5 @@
 use Rattle.plan.specs.Columns.{table_of}
-use Rattle.fitting.specs.Laws.Fitted.{measured}
+use Rattle.fitting.proofs.Laws.Fitted.{measured}
 use borrow.Author.Rules.{rules}
 use Rattle.fitting.proofs.fits.Statement.{statement}
 use Rattle.fitting.proofs.fits.Tie as tie

@@ -5,7 +5,7 @@ use lib.Seq.{length-take-le}
 use Rattle.plan.specs.Limits.{scratch_size}
 use Rattle.plan.specs.Columns.{table_of}
 use Rattle.plan.specs.Fit.{Fit}
-use Rattle.fitting.specs.Laws.Fitted.{refused, asks, done}
+use Rattle.fitting.proofs.Laws.Fitted.{refused, asks, done}
 use borrow.Author.Rules.{rules}
 use Rattle.fitting.proofs.frame.Statement.{statement}
 use Rattle.fitting.proofs.frame.Tie as tie

@@ -1,5 +1,5 @@
 use mathlib.Core.Path.{sym, ◌∙◌}
-use Rattle.fitting.specs.Laws.Fitted.{lower-half, upper_half}
+use Rattle.fitting.proofs.Laws.Fitted.{lower-half, upper_half}
 use borrow.Author.Rules.{rules}
 use Rattle.fitting.proofs.half_from.Statement.{statement}
 use Rattle.fitting.proofs.half_from.Tie as tie

@@ -1,7 +1,7 @@
 use native.Mathlib.Omega.{arith}
 use Rattle.plan.specs.Columns.{table_of}
 use Rattle.layout.specs.Laid.{Placeable}
-use Rattle.fitting.specs.Laws.Fitted.{again, Halving, halving_start, halving_room, halving_turn, halving_less, halving_done, turns_of}
+use Rattle.fitting.proofs.Laws.Fitted.{again, Halving, halving_start, halving_room, halving_turn, halving_less, halving_done, turns_of}
 use borrow.Author.Rules.{rules}
 use Rattle.fitting.proofs.halved.Statement.{statement}
 use Rattle.fitting.proofs.halved.Tie as tie

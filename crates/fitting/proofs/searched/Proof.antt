@@ -3,7 +3,7 @@ use Prim.Native.Nat.{ℕ}
 use lib.ListN.{replicate}
 use Rattle.plan.specs.Columns.{table_of}
 use Rattle.layout.specs.Laid.{Placeable}
-use Rattle.fitting.specs.Laws.Fitted.{again, passes, told-found, told_none}
+use Rattle.fitting.proofs.Laws.Fitted.{again, passes, told-found, told_none}
 use borrow.Author.Rules.{rules}
 use Rattle.fitting.proofs.searched.Statement.{statement}
 use Rattle.fitting.proofs.searched.Tie as tie

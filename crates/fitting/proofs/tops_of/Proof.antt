@@ -1,5 +1,5 @@
 use mathlib.Core.Path.{refl}
-use Rattle.layout.specs.Laws.Laid.{fit_lower, fit_flat}
+use Rattle.layout.proofs.Laws.Laid.{fit_lower, fit_flat}
 use Rattle.fitting.proofs.tops_of.Statement.{statement}
 use Rattle.fitting.proofs.tops_of.Tie as tie
 

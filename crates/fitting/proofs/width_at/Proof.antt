@@ -1,6 +1,6 @@
 use Rattle.plan.specs.Columns.{table_of}
 use Rattle.contours.specs.Sheet.{sheet}
-use Rattle.layout.specs.Laws.Laid.{fit_lower, high}
+use Rattle.layout.proofs.Laws.Laid.{fit_lower, high}
 use borrow.Author.Rules.{rules}
 use Rattle.fitting.proofs.width_at.Statement.{statement}
 use Rattle.fitting.proofs.width_at.Tie as tie

@@ -1,4 +1,4 @@
-use Rattle.following.specs.Laws.Drilled.{refused, asks, done}
+use Rattle.following.proofs.Laws.Drilled.{refused, asks, done}
 use Rattle.plan.specs.Columns.{table_of}
 use borrow.Author.Rules.{rules}
 use Rattle.following.proofs.drill.Statement.{statement}

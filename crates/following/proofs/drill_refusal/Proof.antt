@@ -1,7 +1,7 @@
 use mathlib.Core.Path.{sym, ◌∙◌}
 use Rattle.plan.specs.Columns.{table_of}
-use Rattle.plan.specs.Laws.Questions.{stops, goes_on}
-use Rattle.plan.specs.Laws.Calls as calls
+use Rattle.plan.proofs.Laws.Questions.{stops, goes_on}
+use Rattle.plan.proofs.Laws.Calls as calls
 use borrow.Author.Rules.{rules}
 use Rattle.following.proofs.drill_refusal.Statement.{statement}
 use Rattle.following.proofs.drill_refusal.Tie as tie

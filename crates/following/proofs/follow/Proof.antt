@@ -1,4 +1,4 @@
-use Rattle.following.specs.Laws.Follows.{told-list}
+use Rattle.following.proofs.Laws.Follows.{told-list}
 use borrow.Author.Rules.{rules}
 use Rattle.following.proofs.follow.Statement.{statement}
 use Rattle.following.proofs.follow.Tie as tie

@@ -1,11 +1,11 @@
 use Prim.Native.Nat.{◌≤◌}
 use Rattle.plan.specs.Limits.{most_steps}
-use Rattle.following_turn.specs.Laws.Machine.{wrote_none}
-use Rattle.following.specs.Laws.Follows.{Reads, Goes, start_entering, goes-start, goes_turning, goes_turn, goes_less, goes_end, goes-both, wrote_more}
-use Rattle.following.specs.Laws.Runs.{weight}
+use Rattle.following_turn.proofs.Laws.Machine.{wrote_none}
+use Rattle.following.proofs.Laws.Follows.{Reads, Goes, start_entering, goes-start, goes_turning, goes_turn, goes_less, goes_end, goes-both, wrote_more}
+use Rattle.following.proofs.Laws.Runs.{weight}
 use Rattle.following_turn.specs.Needed.{Arrays, Wrote}
 use Rattle.following_turn.specs.Machine.{chain, state_of}
-use Rattle.plan.specs.Laws.Tables.{kind-is, length-is}
+use Rattle.plan.proofs.Laws.Tables.{kind-is, length-is}
 use Rattle.plan.specs.Columns.{table_of}
 use lib.ListN.{length}
 use mathlib.Core.Path.{◌≡◌, refl, ◌∙◌, sym}

@@ -1,4 +1,4 @@
-use Rattle.following.specs.Laws.Follows.{told-full}
+use Rattle.following.proofs.Laws.Follows.{told-full}
 use Rattle.following_turn.specs.Machine.{outcome_of}
 use Rattle.following.proofs.told.Statement.{statement}
 use Rattle.following.proofs.told.Tie as tie

@@ -1,6 +1,6 @@
 use native.Mathlib.Omega.{arith}
-use Rattle.following_cell.specs.Laws.Opening.{answered_repeat, answered_choice, answered_wait}
-use Rattle.following_cell.specs.Laws.Siblings.{cell_room, cell-first}
+use Rattle.following_cell.proofs.Laws.Opening.{answered_repeat, answered_choice, answered_wait}
+use Rattle.following_cell.proofs.Laws.Siblings.{cell_room, cell-first}
 use borrow.Author.Rules.{rules}
 use Rattle.following_cell.proofs.answered.Statement.{statement}
 use Rattle.following_cell.proofs.answered.Tie as tie

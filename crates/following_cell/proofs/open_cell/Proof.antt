@@ -1,6 +1,6 @@
 use native.Mathlib.Omega.{arith}
-use Rattle.following_cell.specs.Laws.Opening.{opened-run, opened-byte, opened_spent}
-use Rattle.following_cell.specs.Laws.Siblings.{cell_room}
+use Rattle.following_cell.proofs.Laws.Opening.{opened-run, opened-byte, opened_spent}
+use Rattle.following_cell.proofs.Laws.Siblings.{cell_room}
 use borrow.Author.Rules.{rules}
 use Rattle.following_cell.proofs.open_cell.Statement.{statement}
 use Rattle.following_cell.proofs.open_cell.Tie as tie

@@ -2,7 +2,7 @@ use borrow.Author.Rules.{rules}
 use mathlib.Core.Path.{◌≡◌, refl}
 use native.Mathlib.Omega.{arith}
 use Rattle.following_cell.specs.Opening.{hops, Row}
-use Rattle.following_cell.specs.Laws.Siblings.{row_room, row-later, hops-more, hops-none}
+use Rattle.following_cell.proofs.Laws.Siblings.{row_room, row-later, hops-more, hops-none}
 use Rattle.following_cell.proofs.sibling.Statement.{statement}
 use Rattle.following_cell.proofs.sibling.Tie as tie
 

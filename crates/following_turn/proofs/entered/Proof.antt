@@ -1,6 +1,6 @@
 use mathlib.Core.Path.{◌∙◌, ap}
 use Rattle.following_turn.specs.Machine.{frames_of}
-use Rattle.following_turn.specs.Laws.Machine.{enter_step, enter-other, wrote_none}
+use Rattle.following_turn.proofs.Laws.Machine.{enter_step, enter-other, wrote_none}
 use borrow.Author.Rules.{rules}
 use Rattle.following_turn.proofs.entered.Statement.{statement}
 use Rattle.following_turn.proofs.entered.Tie as tie

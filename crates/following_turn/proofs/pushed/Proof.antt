@@ -1,4 +1,4 @@
-use Rattle.following_turn.specs.Laws.Machine.{frames_push}
+use Rattle.following_turn.proofs.Laws.Machine.{frames_push}
 use native.Mathlib.Omega.{arith}
 use lib.ListN.{length-set}
 use borrow.Author.Rules.{rules}

@@ -1,5 +1,5 @@
 use mathlib.Core.Path.{refl}
-use Rattle.following_turn.specs.Laws.Machine.{record_one, record_full, wrote_one, wrote_none}
+use Rattle.following_turn.proofs.Laws.Machine.{record_one, record_full, wrote_one, wrote_none}
 use borrow.Author.Rules.{rules}
 use Rattle.following_turn.proofs.recorded.Statement.{statement}
 use Rattle.following_turn.proofs.recorded.Tie as tie

@@ -2,8 +2,8 @@ use mathlib.Core.Path.{refl}
 use lib.ListN.{length-set}
 use native.Mathlib.Omega.{arith}
 use Rattle.following_turn.specs.Machine.{chain}
-use Rattle.following_turn.specs.Laws.Machine.{turn_close, turn_open, pass_is, wrote_none}
-use Rattle.following_cell.specs.Laws.Siblings.{cell_room}
+use Rattle.following_turn.proofs.Laws.Machine.{turn_close, turn_open, pass_is, wrote_none}
+use Rattle.following_cell.proofs.Laws.Siblings.{cell_room}
 use borrow.Author.Rules.{rules}
 use Rattle.following_turn.proofs.turn.Statement.{statement}
 use Rattle.following_turn.proofs.turn.Tie as tie

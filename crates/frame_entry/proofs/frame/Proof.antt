@@ -17,7 +17,7 @@ use denote.Builtin.{u32, SliceRefMutOf}
 use denote.Slice.{slice_val, mut_slice_vals, mut_slice_Tells}
 use denote.Enum.Laws as EL
 use Rattle.fitting.specs.Fitted.{Frames}
-use Rattle.frame_entry.specs.Laws.Lent.{frame-lent}
+use Rattle.frame_entry.proofs.Laws.Lent.{frame-lent}
 use Rattle.plan.proofs.Columns.TheLaws as B'
 use Rattle.fitting.specs.contracts.Fitted as L
 use Rattle.fitting.proofs.Fitted.TheLaws as L'

@@ -1,6 +1,6 @@
 use mathlib.Core.Path.{refl}
 use native.Mathlib.Omega.{arith}
-use Rattle.frame_text.specs.Laws.FrameText.{drawn_measures, table_drawable}
+use Rattle.frame_text.proofs.Laws.FrameText.{drawn_measures, table_drawable}
 use borrow.Author.Rules.{rules}
 use Rattle.frame_text.proofs.measured.Statement.{statement}
 use Rattle.frame_text.proofs.measured.Tie as tie

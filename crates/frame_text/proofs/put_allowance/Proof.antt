@@ -1,5 +1,5 @@
 use native.Mathlib.Omega.{arith}
-use Rattle.frame_text.specs.Laws.FrameText.{allowance_put}
+use Rattle.frame_text.proofs.Laws.FrameText.{allowance_put}
 use borrow.Author.Rules.{rules}
 use Rattle.frame_text.proofs.put_allowance.Statement.{statement}
 use Rattle.frame_text.proofs.put_allowance.Tie as tie

@@ -1,5 +1,5 @@
 use native.Mathlib.Omega.{arith}
-use Rattle.frame_text.specs.Laws.FrameText.{none-put}
+use Rattle.frame_text.proofs.Laws.FrameText.{none-put}
 use borrow.Author.Rules.{rules}
 use Rattle.frame_text.proofs.put_none.Statement.{statement}
 use Rattle.frame_text.proofs.put_none.Tie as tie

@@ -1,5 +1,5 @@
 use native.Mathlib.Omega.{arith}
-use Rattle.frame_text.specs.Laws.FrameText.{sheet-put}
+use Rattle.frame_text.proofs.Laws.FrameText.{sheet-put}
 use borrow.Author.Rules.{rules}
 use Rattle.frame_text.proofs.put_sheet.Statement.{statement}
 use Rattle.frame_text.proofs.put_sheet.Tie as tie

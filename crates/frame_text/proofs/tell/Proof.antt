@@ -1,5 +1,5 @@
 use native.Mathlib.Omega.{arith}
-use Rattle.frame_text.specs.Laws.FrameText.{tell_allowance, tell_none, tell_refused}
+use Rattle.frame_text.proofs.Laws.FrameText.{tell_allowance, tell_none, tell_refused}
 use borrow.Author.Rules.{rules}
 use Rattle.frame_text.proofs.tell.Statement.{statement}
 use Rattle.frame_text.proofs.tell.Tie as tie

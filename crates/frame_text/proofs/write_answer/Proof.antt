@@ -1,4 +1,4 @@
-use Rattle.frame_text.specs.Laws.FrameText.{answered}
+use Rattle.frame_text.proofs.Laws.FrameText.{answered}
 use borrow.Author.Rules.{rules}
 use Rattle.frame_text.proofs.write_answer.Statement.{statement}
 use Rattle.frame_text.proofs.write_answer.Tie as tie

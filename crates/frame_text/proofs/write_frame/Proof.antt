@@ -1,5 +1,5 @@
 use native.Mathlib.Omega.{arith}
-use Rattle.frame_text.specs.Laws.FrameText.{file_fit, file-refused, file-answered}
+use Rattle.frame_text.proofs.Laws.FrameText.{file_fit, file-refused, file-answered}
 use borrow.Author.Rules.{rules}
 use Rattle.frame_text.proofs.write_frame.Statement.{statement}
 use Rattle.frame_text.proofs.write_frame.Tie as tie

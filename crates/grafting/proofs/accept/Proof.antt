@@ -1,4 +1,4 @@
-use Rattle.grafting.specs.Laws.Grafted.{accepts}
+use Rattle.grafting.proofs.Laws.Grafted.{accepts}
 use borrow.Author.Rules.{rules}
 use Rattle.grafting.proofs.accept.Statement.{statement}
 use Rattle.grafting.proofs.accept.Tie as tie

@@ -1,5 +1,5 @@
 use mathlib.Core.Path.{◌∙◌}
-use Rattle.grafting.specs.Laws.Asked.{ready_read, low_of, flat-of, stopped, stopped-later, joins}
+use Rattle.grafting.proofs.Laws.Asked.{ready_read, low_of, flat-of, stopped, stopped-later, joins}
 use borrow.Author.Rules.{rules}
 use Rattle.grafting.proofs.join.Statement.{statement}
 use Rattle.grafting.proofs.join.Tie as tie

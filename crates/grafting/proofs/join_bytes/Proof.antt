@@ -3,7 +3,7 @@ use mathlib.Core.Path.{◌≡◌}
 use native.Mathlib.Omega.{arith}
 use Rattle.planfile_spec.specs.Reading.{column}
 use Rattle.grafting.specs.Grafted.{picked}
-use Rattle.grafting.specs.Laws.Grafted.{column-none, column-more, column-all}
+use Rattle.grafting.proofs.Laws.Grafted.{column-none, column-more, column-all}
 use borrow.Author.Rules.{rules}
 use Rattle.grafting.proofs.join_bytes.Statement.{statement}
 use Rattle.grafting.proofs.join_bytes.Tie as tie

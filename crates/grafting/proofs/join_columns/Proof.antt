@@ -1,4 +1,4 @@
-use Rattle.grafting.specs.Laws.Grafted.{graftable_hangs, columns_are}
+use Rattle.grafting.proofs.Laws.Grafted.{graftable_hangs, columns_are}
 use borrow.Author.Rules.{rules}
 use Rattle.grafting.proofs.join_columns.Statement.{statement}
 use Rattle.grafting.proofs.join_columns.Tie as tie

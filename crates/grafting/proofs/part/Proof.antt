@@ -1,5 +1,5 @@
 use mathlib.Core.Path.{◌∙◌}
-use Rattle.grafting.specs.Laws.Asked.{part-columns}
+use Rattle.grafting.proofs.Laws.Asked.{part-columns}
 use borrow.Author.Rules.{rules}
 use Rattle.grafting.proofs.part.Statement.{statement}
 use Rattle.grafting.proofs.part.Tie as tie

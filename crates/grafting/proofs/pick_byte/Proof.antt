@@ -1,4 +1,4 @@
-use Rattle.grafting.specs.Laws.Grafted.{picked_first, picked-second}
+use Rattle.grafting.proofs.Laws.Grafted.{picked_first, picked-second}
 use borrow.Author.Rules.{rules}
 use Rattle.grafting.proofs.pick_byte.Statement.{statement}
 use Rattle.grafting.proofs.pick_byte.Tie as tie

@@ -1,5 +1,5 @@
 use native.Mathlib.Omega.{arith}
-use Rattle.grafting.specs.Laws.Grafted.{parent-first, parent_root, parent-second}
+use Rattle.grafting.proofs.Laws.Grafted.{parent-first, parent_root, parent-second}
 use borrow.Author.Rules.{rules}
 use Rattle.grafting.proofs.pick_parent.Statement.{statement}
 use Rattle.grafting.proofs.pick_parent.Tie as tie

@@ -1,8 +1,8 @@
 use Rattle.plan.specs.Questions.{asked}
 use mathlib.Core.Path.{ap, ◌∙◌}
 use native.Mathlib.Omega.{arith}
-use Rattle.plan.specs.Laws.Questions.{stops, goes_on}
-use Rattle.grafting.specs.Laws.Asked.{ready_columns, part-read}
+use Rattle.plan.proofs.Laws.Questions.{stops, goes_on}
+use Rattle.grafting.proofs.Laws.Asked.{ready_columns, part-read}
 use borrow.Author.Rules.{rules}
 use Rattle.grafting.proofs.ready.Statement.{statement}
 use Rattle.grafting.proofs.ready.Tie as tie

@@ -1,4 +1,4 @@
-use Rattle.grafting.specs.Laws.Grafted.{refuses}
+use Rattle.grafting.proofs.Laws.Grafted.{refuses}
 use borrow.Author.Rules.{rules}
 use Rattle.grafting.proofs.refuse.Statement.{statement}
 use Rattle.grafting.proofs.refuse.Tie as tie

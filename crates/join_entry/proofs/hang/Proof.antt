@@ -40,7 +40,7 @@ use Rattle.plan.specs.Limits.{most_cells}
 use Rattle.records.specs.Together.{filled}
 use Rattle.grafting.specs.Grafted.{graft_of}
 use Rattle.join_entry.specs.Hung.{Hangs}
-use Rattle.join_entry.specs.Laws.Join.{hang-fits, hang-is}
+use Rattle.join_entry.proofs.Laws.Join.{hang-fits, hang-is}
 use Rattle.plan.specs.declared.Record.{Record}
 use Rattle.plan.specs.declared.Lettered.{Lettered}
 use Rattle.planfile_spec.specs.declared.Reading.{Reading}

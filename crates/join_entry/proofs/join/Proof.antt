@@ -37,7 +37,7 @@ use denote.Triple.Walked.{says}
 use Rattle.records.specs.Apart.{lent_lettered}
 use Rattle.grafting.specs.Joins.{Joins}
 use Rattle.join_entry.specs.Hung.{Hangs}
-use Rattle.join_entry.specs.Laws.Join.{join-lent}
+use Rattle.join_entry.proofs.Laws.Join.{join-lent}
 use Rattle.plan.specs.declared.Record.{Record}
 use Rattle.plan.specs.declared.Lettered.{Lettered}
 use Rattle.grafting.specs.declared.JoinAnswer.{JoinAnswer}

@@ -1,5 +1,5 @@
 use mathlib.Core.Path.{refl}
-use Rattle.join_file.specs.Laws.Steps.{read-ended, letters_few, read_shiftable, graft_is, hang-refused, hang-written}
+use Rattle.join_file.proofs.Laws.Steps.{read-ended, letters_few, read_shiftable, graft_is, hang-refused, hang-written}
 use borrow.Author.Rules.{rules}
 use Rattle.join_file.proofs.hang.Statement.{statement}
 use Rattle.join_file.proofs.hang.Tie as tie

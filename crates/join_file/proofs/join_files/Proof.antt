@@ -1,4 +1,4 @@
-use Rattle.join_file.specs.Laws.Steps.{zero_read, short_output, first-refused, second-refused}
+use Rattle.join_file.proofs.Laws.Steps.{zero_read, short_output, first-refused, second-refused}
 use borrow.Author.Rules.{rules}
 use Rattle.join_file.proofs.join_files.Statement.{statement}
 use Rattle.join_file.proofs.join_files.Tie as tie

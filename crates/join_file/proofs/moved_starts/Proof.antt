@@ -3,7 +3,7 @@ use mathlib.Core.Path.{◌≡◌}
 use native.Mathlib.Omega.{arith}
 use lib.ListN.{get_or}
 use Rattle.planfile_spec.specs.Reading.{column}
-use Rattle.grafting.specs.Laws.Grafted.{column-none, column-more, column-all}
+use Rattle.grafting.proofs.Laws.Grafted.{column-none, column-more, column-all}
 use borrow.Author.Rules.{rules}
 use Rattle.join_file.proofs.moved_starts.Statement.{statement}
 use Rattle.join_file.proofs.moved_starts.Tie as tie

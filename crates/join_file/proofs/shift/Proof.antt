@@ -1,4 +1,4 @@
-use Rattle.join_file.specs.Laws.Steps.{shift_is}
+use Rattle.join_file.proofs.Laws.Steps.{shift_is}
 use Rattle.join_file.proofs.shift.Statement.{statement}
 use Rattle.join_file.proofs.shift.Tie as tie
 

@@ -1,4 +1,4 @@
-use Rattle.join_file.specs.Laws.Steps.{told-written, told-refused}
+use Rattle.join_file.proofs.Laws.Steps.{told-written, told-refused}
 use borrow.Author.Rules.{rules}
 use Rattle.join_file.proofs.tell.Statement.{statement}
 use Rattle.join_file.proofs.tell.Tie as tie

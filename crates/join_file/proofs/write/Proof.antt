@@ -1,7 +1,7 @@
 use mathlib.Core.Path.{sym}
 use native.Mathlib.Omega.{arith}
 use lib.Seq.{length-take-le}
-use Rattle.join_file.specs.Laws.Steps.{both-letters, write_done}
+use Rattle.join_file.proofs.Laws.Steps.{both-letters, write_done}
 use borrow.Author.Rules.{rules}
 use Rattle.join_file.proofs.write.Statement.{statement}
 use Rattle.join_file.proofs.write.Tie as tie

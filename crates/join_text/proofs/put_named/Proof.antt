@@ -1,5 +1,5 @@
 use native.Mathlib.Omega.{arith}
-use Rattle.listing.specs.Laws.Put.{then}
+use Rattle.listing.proofs.Laws.Put.{then}
 use borrow.Author.Rules.{rules}
 use Rattle.join_text.proofs.put_named.Statement.{statement}
 use Rattle.join_text.proofs.put_named.Tie as tie

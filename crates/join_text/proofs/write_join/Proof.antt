@@ -1,5 +1,5 @@
 use native.Mathlib.Omega.{arith}
-use Rattle.join_text.specs.Laws.JoinText.{text-written, text-first, text-second, text-refused}
+use Rattle.join_text.proofs.Laws.JoinText.{text-written, text-first, text-second, text-refused}
 use borrow.Author.Rules.{rules}
 use Rattle.join_text.proofs.write_join.Statement.{statement}
 use Rattle.join_text.proofs.write_join.Tie as tie

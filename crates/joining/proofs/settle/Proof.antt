@@ -1,6 +1,6 @@
 use borrow.Author.Rules.{rules}
 use Rattle.joining.specs.Joining.{memory_of}
-use Rattle.joining.specs.Laws.Joining.{at_first, at-later}
+use Rattle.joining.proofs.Laws.Joining.{at_first, at-later}
 use native.Mathlib.Omega.{arith}
 use mathlib.Core.Path.{◌∙◌, sym}
 use Rattle.joining.proofs.settle.Statement.{statement}

@@ -1,5 +1,5 @@
 use borrow.Author.Rules.{rules}
-use Rattle.joining.specs.Laws.Joining.{later-found}
+use Rattle.joining.proofs.Laws.Joining.{later-found}
 use Rattle.joining.proofs.settle_later.Statement.{statement}
 use Rattle.joining.proofs.settle_later.Tie as tie
 

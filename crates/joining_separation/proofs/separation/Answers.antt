@@ -1,6 +1,6 @@
 use Rattle.joining_cells.specs.Cells.{memory_of}
 use Rattle.joining_separation.specs.Separation.{settled_apart}
-use Rattle.joining_separation.specs.Laws.Separation.{apart_found}
+use Rattle.joining_separation.proofs.Laws.Separation.{apart_found}
 use Rattle.joining_separation.proofs.separation.Goals as goal
 
 pub returns : goal.returns

@@ -2,7 +2,7 @@ use mathlib.Core.Path.{refl}
 use native.Mathlib.Omega.{arith}
 use Rattle.plan.specs.Columns.{table_of}
 use Rattle.contours.specs.Sheet.{sheet}
-use Rattle.layout.specs.Laws.Laid.{size, fit_lower, fit_flat, high, drawn}
+use Rattle.layout.proofs.Laws.Laid.{size, fit_lower, fit_flat, high, drawn}
 use borrow.Author.Rules.{rules}
 use Rattle.layout.proofs.draw_over_zeros.Statement.{statement}
 use Rattle.layout.proofs.draw_over_zeros.Tie as tie

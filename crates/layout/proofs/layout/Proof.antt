@@ -4,7 +4,7 @@ use lib.Seq.{length-take-le}
 use Rattle.plan.specs.Limits.{scratch_size}
 use Rattle.plan.specs.Columns.{table_of}
 use Rattle.least.specs.Demanded.{LayoutAsked}
-use Rattle.layout.specs.Laws.Laid.{refused, asks, laid}
+use Rattle.layout.proofs.Laws.Laid.{refused, asks, laid}
 use borrow.Author.Rules.{rules}
 use Rattle.layout.proofs.layout.Statement.{statement}
 use Rattle.layout.proofs.layout.Tie as tie

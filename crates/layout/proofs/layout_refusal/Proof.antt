@@ -3,9 +3,9 @@ use lib.Dec.{leb}
 use Rattle.plan.specs.Limits.{scratch_size, most_allowance}
 use Rattle.plan.specs.Columns.{table_of}
 use Rattle.plan.specs.Questions.{layout, refusal, layout_given, asked, or_else}
-use Rattle.plan.specs.Laws.Questions.{stops, goes_on}
+use Rattle.plan.proofs.Laws.Questions.{stops, goes_on}
 use Rattle.plan.specs.Steps.{lent_refusal}
-use Rattle.plan.specs.Laws.Calls.{layout-refusal}
+use Rattle.plan.proofs.Laws.Calls.{layout-refusal}
 use borrow.Author.Rules.{rules}
 use Rattle.layout.proofs.layout_refusal.Statement.{statement}
 use Rattle.layout.proofs.layout_refusal.Tie as tie

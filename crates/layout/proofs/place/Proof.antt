@@ -1,5 +1,5 @@
 use mathlib.Core.Path.{◌∙◌}
-use Rattle.layout.specs.Laws.Laid.{markable}
+use Rattle.layout.proofs.Laws.Laid.{markable}
 use borrow.Author.Rules.{rules}
 use Rattle.layout.proofs.place.Statement.{statement}
 use Rattle.layout.proofs.place.Tie as tie

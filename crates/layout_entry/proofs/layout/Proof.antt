@@ -17,7 +17,7 @@ use denote.Builtin.{u32, i32, SliceRefMutOf}
 use denote.Slice.{slice_val, mut_slice_vals, mut_slice_Tells}
 use denote.Enum.Laws as EL
 use Rattle.layout.specs.Laid.{Lays}
-use Rattle.layout_entry.specs.Laws.Lent.{layout-lent}
+use Rattle.layout_entry.proofs.Laws.Lent.{layout-lent}
 use Rattle.plan.proofs.Columns.TheLaws as B'
 use Rattle.layout.specs.contracts.Laid as L
 use Rattle.layout.proofs.Laid.TheLaws as L'

@@ -1,5 +1,5 @@
 use borrow.Author.Rules.{rules}
-use Rattle.links.specs.Laws.Build.{placed_small, placed-more, appointed_small}
+use Rattle.links.proofs.Laws.Build.{placed_small, placed-more, appointed_small}
 use Rattle.links.specs.Build.{placed}
 use native.Mathlib.Omega.{arith}
 use mathlib.Core.Path.{◌≡◌, refl}

@@ -3,8 +3,8 @@ use Prim.Native.Nat.{◌-◌, ◌*◌}
 use mathlib.Core.Path.{◌≡◌, refl}
 use lib.ListN.{length-set}
 use Rattle.links.specs.Build.{chained}
-use Rattle.links.specs.Laws.Build.{chain_more, slot_inside}
-use Rattle.links.specs.Laws.Built.{seeking}
+use Rattle.links.proofs.Laws.Build.{chain_more, slot_inside}
+use Rattle.links.proofs.Laws.Built.{seeking}
 use Rattle.links.proofs.chain_siblings.Goals as goal
 
 pub loop-c-init : goal.loop-c-init

@@ -1,4 +1,4 @@
-use Rattle.links.specs.Laws.Build.{goes-is}
+use Rattle.links.proofs.Laws.Build.{goes-is}
 use Rattle.links.proofs.goes_on.Goals as goal
 
 pub returns : goal.returns

@@ -1,5 +1,5 @@
-use Rattle.links.specs.Laws.Build.{links-found}
-use Rattle.links.specs.Laws.Built.{counting, appointing, links_are}
+use Rattle.links.proofs.Laws.Build.{links-found}
+use Rattle.links.proofs.Laws.Built.{counting, appointing, links_are}
 use Rattle.links.proofs.link_all.Goals as goal
 
 pub number_siblings-requires : goal.number_siblings-requires

@@ -2,7 +2,7 @@ use borrow.Author.Rules.{rules}
 use mathlib.Core.Path.{◌≡◌}
 use lib.ListN.{length}
 use Rattle.plan.specs.Limits.{most_cells}
-use Rattle.links.specs.Laws.Linked.{linking, linked}
+use Rattle.links.proofs.Laws.Linked.{linking, linked}
 use Rattle.links.proofs.links_of.Goals as goal
 
 pub link_all-requires : goal.link_all-requires

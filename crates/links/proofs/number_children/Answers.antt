@@ -1,6 +1,6 @@
 use native.Mathlib.Omega.{arith}
 use lib.ListN.{length-set}
-use Rattle.links.specs.Laws.Build.{numbered-start, number_few, number_low, numbered_next, numbered_less, numbered-end}
+use Rattle.links.proofs.Laws.Build.{numbered-start, number_few, number_low, numbered_next, numbered_less, numbered-end}
 use Rattle.links.proofs.number_children.Goals as goal
 
 pub overflow_mul-f : goal.overflow_mul-f

@@ -1,6 +1,6 @@
 use lib.ListN.{length}
 use Rattle.links.specs.Chain.{line_of}
-use Rattle.links.specs.Laws.Build.{Numbered}
+use Rattle.links.proofs.Laws.Build.{Numbered}
 use Rattle.links.proofs.number_children.Given as goal
 
 abbrev pub invariant-loop-s : goal.invariant-loop-s

@@ -2,8 +2,8 @@ use borrow.Author.Rules.{rules}
 use native.Mathlib.Omega.{arith}
 use mathlib.Core.Path.{◌≡◌, refl, ◌∙◌}
 use Rattle.links.specs.Build.{counted}
-use Rattle.links.specs.Laws.Build.{count-more, number-length}
-use Rattle.links.specs.Laws.Built.{numbering}
+use Rattle.links.proofs.Laws.Build.{count-more, number-length}
+use Rattle.links.proofs.Laws.Built.{numbering}
 use Rattle.links.proofs.number_siblings.Goals as goal
 
 pub loop-c-init : goal.loop-c-init

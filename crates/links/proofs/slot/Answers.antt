@@ -1,5 +1,5 @@
 use native.Mathlib.Omega.{arith}
-use Rattle.links.specs.Laws.Build.{sought_start, sought_few, sought_next, sought_less, sought_end, passes, fails}
+use Rattle.links.proofs.Laws.Build.{sought_start, sought_few, sought_next, sought_less, sought_end, passes, fails}
 use Rattle.links.proofs.slot.Goals as goal
 
 pub cell_at-s-requires : goal.cell_at-s-requires

@@ -1,6 +1,6 @@
 use lib.ListN.{length}
 use Rattle.links.specs.Chain.{line_of}
-use Rattle.links.specs.Laws.Build.{Sought}
+use Rattle.links.proofs.Laws.Build.{Sought}
 use Rattle.links.proofs.slot.Given as goal
 
 abbrev pub invariant-loop-at : goal.invariant-loop-at

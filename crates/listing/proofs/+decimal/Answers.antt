@@ -1,6 +1,6 @@
 use Rattle.std.proofs.Common.{arith}
-use Rattle.listing.specs.Laws.Printed.{nine, ten}
-use Rattle.listing.specs.Laws.Put.{decimal_digit, decimal_last}
+use Rattle.listing.proofs.Laws.Printed.{nine, ten}
+use Rattle.listing.proofs.Laws.Put.{decimal_digit, decimal_last}
 use Rattle.listing.proofs.+decimal.Goals as goal
 
 pub returns-then-n-lt10 : goal.returns-then-n-lt10

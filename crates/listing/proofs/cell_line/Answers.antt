@@ -2,8 +2,8 @@ use mathlib.Core.Path.{◌∙◌}
 use mir.Syntax.{w32}
 use mir.ValLaws.{to_z-of_z}
 use native.Mathlib.Omega.{arith}
-use Rattle.listing.specs.Laws.Line.{cell_line-is}
-use Rattle.listing.specs.Laws.Put.{then, line-is}
+use Rattle.listing.proofs.Laws.Line.{cell_line-is}
+use Rattle.listing.proofs.Laws.Put.{then, line-is}
 use Rattle.listing.proofs.cell_line.Goals as goal
 
 pub returns : goal.returns

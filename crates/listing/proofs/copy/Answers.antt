@@ -1,5 +1,5 @@
 use native.Mathlib.Omega.{arith}
-use Rattle.listing.specs.Laws.Put.{put-start, put-more, put_all}
+use Rattle.listing.proofs.Laws.Put.{put-start, put-more, put_all}
 use Rattle.listing.proofs.copy.Goals as goal
 
 pub loop-i-init : goal.loop-i-init

@@ -1,4 +1,4 @@
-use Rattle.listing.specs.Laws.Put.{then}
+use Rattle.listing.proofs.Laws.Put.{then}
 use native.Mathlib.Omega.{arith}
 use Rattle.listing.proofs.field.Goals as goal
 

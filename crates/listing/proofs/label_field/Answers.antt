@@ -1,5 +1,5 @@
-use Rattle.listing.specs.Laws.Line.{spaced-empty, spaced-label}
-use Rattle.listing.specs.Laws.Put.{put-none, then}
+use Rattle.listing.proofs.Laws.Line.{spaced-empty, spaced-label}
+use Rattle.listing.proofs.Laws.Put.{put-none, then}
 use native.Mathlib.Omega.{arith}
 use Rattle.listing.proofs.label_field.Goals as goal
 

@@ -1,7 +1,7 @@
 use mathlib.Core.Path.{refl}
 use native.Mathlib.Omega.{arith}
 use lib.ListN.{length-set}
-use Rattle.listing.specs.Laws.Put.{put-start, put-more, put-done}
+use Rattle.listing.proofs.Laws.Put.{put-start, put-more, put-done}
 use Rattle.listing.proofs.put_line.Goals as goal
 
 pub loop-i-init : goal.loop-i-init

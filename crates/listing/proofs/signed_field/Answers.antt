@@ -1,6 +1,6 @@
 use mir.Syntax.{w32}
 use mir.ValLaws.{to_z-of_z}
-use Rattle.listing.specs.Laws.Put.{then}
+use Rattle.listing.proofs.Laws.Put.{then}
 use native.Mathlib.Omega.{arith}
 use Rattle.listing.proofs.signed_field.Goals as goal
 

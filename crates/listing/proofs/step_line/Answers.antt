@@ -1,6 +1,6 @@
 use native.Mathlib.Omega.{arith}
-use Rattle.listing.specs.Laws.Line.{step_line-is}
-use Rattle.listing.specs.Laws.Put.{then, line-is}
+use Rattle.listing.proofs.Laws.Line.{step_line-is}
+use Rattle.listing.proofs.Laws.Put.{then, line-is}
 use Rattle.listing.proofs.step_line.Goals as goal
 
 pub returns : goal.returns

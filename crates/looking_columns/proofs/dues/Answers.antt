@@ -1,5 +1,5 @@
 use Rattle.looking_columns.proofs.Making.{duing_starts, duing_turns, duing_ends, base_low}
-use Rattle.plan.specs.Laws.Tables.{parent_lower}
+use Rattle.plan.proofs.Laws.Tables.{parent_lower}
 use native.Mathlib.Omega.{arith}
 use Rattle.looking_columns.proofs.dues.Goals as goal
 

@@ -1,5 +1,5 @@
 use Rattle.looking_sights.proofs.Looking.{many_short, scattered_more}
-use Rattle.plan.specs.Laws.Tables.{count_few}
+use Rattle.plan.proofs.Laws.Tables.{count_few}
 use native.Mathlib.Omega.{arith}
 use borrow.Author.Rules.{rules}
 use Rattle.looking_sights.proofs.look_at_tree.Statement.{statement}

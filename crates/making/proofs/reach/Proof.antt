@@ -16,7 +16,7 @@ use denote.Builtin.{u32, SliceRefOf}
 use denote.Slice.{slice_val, shr_slice_vals, shr_slice_Tells}
 use denote.Enum.Laws as EL
 use Rattle.finishing_reach.specs.Reaching.{Reaches}
-use Rattle.making.specs.Laws.Lent.{reach-lent}
+use Rattle.making.proofs.Laws.Lent.{reach-lent}
 use Rattle.plan.proofs.Columns.TheLaws as B'
 use Rattle.finishing_reach.specs.contracts.Reached as L
 use Rattle.finishing_reach.proofs.Reached.TheLaws as L'

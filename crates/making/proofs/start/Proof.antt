@@ -17,7 +17,7 @@ use denote.Builtin.{u32, SliceRefMutOf}
 use denote.Slice.{slice_val, mut_slice_vals, mut_slice_Tells}
 use denote.Enum.Laws as EL
 use Rattle.finishing.specs.Finishing.{Starts}
-use Rattle.making.specs.Laws.Lent.{start-lent}
+use Rattle.making.proofs.Laws.Lent.{start-lent}
 use Rattle.plan.proofs.Columns.TheLaws as B'
 use Rattle.finishing.specs.contracts.Started as L
 use Rattle.finishing.proofs.Started.TheLaws as L'

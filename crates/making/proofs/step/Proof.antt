@@ -17,7 +17,7 @@ use denote.Builtin.{u32, i32, SliceRefMutOf}
 use denote.Slice.{slice_val, mut_slice_vals, mut_slice_Tells}
 use denote.Enum.Laws as EL
 use Rattle.finishing_step.specs.Stepping.{Steps}
-use Rattle.making.specs.Laws.Lent.{step-lent}
+use Rattle.making.proofs.Laws.Lent.{step-lent}
 use Rattle.plan.proofs.Columns.TheLaws as B'
 use Rattle.finishing_step.specs.contracts.Stepped as L
 use Rattle.finishing_step.proofs.Stepped.TheLaws as L'

@@ -1,5 +1,5 @@
 use native.Mathlib.Omega.{arith}
-use Rattle.mark_spec.specs.Laws.Marked.{full_by, wide_by}
+use Rattle.mark_spec.proofs.Laws.Marked.{full_by, wide_by}
 use Rattle.mark.proofs.by_width.Statement.{statement}
 use Rattle.mark.proofs.by_width.Tie as tie
 

@@ -4,7 +4,7 @@ use lib.ListN.{replicate}
 use lib.Seq.{length-take-le}
 use Rattle.plan.specs.Limits.{scratch_size}
 use Rattle.plan.specs.Columns.{table_of}
-use Rattle.mark_spec.specs.Laws.Marked.{short, long, kept_fit, kept, broken, refused}
+use Rattle.mark_spec.proofs.Laws.Marked.{short, long, kept_fit, kept, broken, refused}
 use borrow.Author.Rules.{rules}
 use Rattle.mark.proofs.mark.Statement.{statement}
 use Rattle.mark.proofs.mark.Tie as tie

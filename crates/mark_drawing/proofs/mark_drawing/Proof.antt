@@ -1,4 +1,4 @@
-use Rattle.mark_drawing.specs.Laws.Outcome.{outcome-placed, outcome-wrong, outcome-refused}
+use Rattle.mark_drawing.proofs.Laws.Outcome.{outcome-placed, outcome-wrong, outcome-refused}
 use Rattle.plan.specs.Columns.{table_of}
 use Rattle.plan.specs.Limits.{scratch_size}
 use lib.ListN.{length-replicate}

@@ -17,7 +17,7 @@ use denote.Builtin.{u32, i32, SliceRefOf, SliceRefMutOf}
 use denote.Slice.{slice_val, shr_slice_vals, mut_slice_vals, shr_slice_Tells, mut_slice_Tells}
 use denote.Enum.Laws as EL
 use Rattle.mark_spec.specs.Marked.{Marks}
-use Rattle.mark_entry.specs.Laws.Lent.{mark-lent}
+use Rattle.mark_entry.proofs.Laws.Lent.{mark-lent}
 use Rattle.plan.proofs.Columns.TheLaws as B'
 use Rattle.mark_spec.specs.contracts.Marked as L
 use Rattle.mark_spec.proofs.Marked.TheLaws as L'

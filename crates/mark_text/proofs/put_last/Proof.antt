@@ -1,4 +1,4 @@
-use Rattle.mark_text.specs.Laws.Text.{last_put}
+use Rattle.mark_text.proofs.Laws.Text.{last_put}
 use native.Mathlib.Omega.{arith}
 use borrow.Author.Rules.{rules}
 use Rattle.mark_text.proofs.put_last.Statement.{statement}

@@ -1,4 +1,4 @@
-use Rattle.mark_text.specs.Laws.Text.{pair_put}
+use Rattle.mark_text.proofs.Laws.Text.{pair_put}
 use native.Mathlib.Omega.{arith}
 use borrow.Author.Rules.{rules}
 use Rattle.mark_text.proofs.put_pair.Statement.{statement}

@@ -1,4 +1,4 @@
-use Rattle.mark_text.specs.Laws.Text.{counts_put}
+use Rattle.mark_text.proofs.Laws.Text.{counts_put}
 use native.Mathlib.Omega.{arith}
 use borrow.Author.Rules.{rules}
 use Rattle.mark_text.proofs.write_counts.Statement.{statement}

@@ -1,4 +1,4 @@
-use Rattle.mark_text.specs.Laws.Text.{full_put}
+use Rattle.mark_text.proofs.Laws.Text.{full_put}
 use native.Mathlib.Omega.{arith}
 use borrow.Author.Rules.{rules}
 use Rattle.mark_text.proofs.write_full.Statement.{statement}

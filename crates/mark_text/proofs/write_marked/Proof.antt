@@ -1,4 +1,4 @@
-use Rattle.mark_text.specs.Laws.Text.{marked-is, refused-put}
+use Rattle.mark_text.proofs.Laws.Text.{marked-is, refused-put}
 use native.Mathlib.Omega.{arith}
 use borrow.Author.Rules.{rules}
 use Rattle.mark_text.proofs.write_marked.Statement.{statement}

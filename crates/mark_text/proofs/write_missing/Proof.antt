@@ -1,4 +1,4 @@
-use Rattle.mark_text.specs.Laws.Text.{missing_put}
+use Rattle.mark_text.proofs.Laws.Text.{missing_put}
 use native.Mathlib.Omega.{arith}
 use borrow.Author.Rules.{rules}
 use Rattle.mark_text.proofs.write_missing.Statement.{statement}

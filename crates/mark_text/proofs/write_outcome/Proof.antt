@@ -1,4 +1,4 @@
-use Rattle.mark_text.specs.Laws.Text.{mark-put, unread-put}
+use Rattle.mark_text.proofs.Laws.Text.{mark-put, unread-put}
 use borrow.Author.Rules.{rules}
 use Rattle.mark_text.proofs.write_outcome.Statement.{statement}
 use Rattle.mark_text.proofs.write_outcome.Tie as tie

@@ -1,4 +1,4 @@
-use Rattle.mark_text.specs.Laws.Text.{unread-is, numbers-put, no-cell-put, far-put, long-put}
+use Rattle.mark_text.proofs.Laws.Text.{unread-is, numbers-put, no-cell-put, far-put, long-put}
 use native.Mathlib.Omega.{arith}
 use borrow.Author.Rules.{rules}
 use Rattle.mark_text.proofs.write_unread.Statement.{statement}

@@ -3,7 +3,7 @@ use mathlib.Core.Path.{◌≡◌}
 use lib.ListN.{length}
 use native.Mathlib.Omega.{arith}
 use Rattle.plan.specs.Limits.{most_cells}
-use Rattle.marks.specs.Laws.Marks.{Long, walking, marked, toured}
+use Rattle.marks.proofs.Laws.Marks.{Long, walking, marked, toured}
 use Rattle.marks.proofs.marks_of.Statement.{statement}
 use Rattle.marks.proofs.marks_of.Tie as tie
 

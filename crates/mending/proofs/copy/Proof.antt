@@ -3,8 +3,8 @@ use mathlib.Core.Path.{◌≡◌, refl}
 use native.Mathlib.Omega.{arith}
 use lib.ListN.{length, take, length-set}
 use Rattle.listing.specs.Put.{Put}
-use Rattle.listing.specs.Laws.Put.{put-start, put_all}
-use Rattle.mending.specs.Laws.Code.{put_next, put_whole}
+use Rattle.listing.proofs.Laws.Put.{put-start, put_all}
+use Rattle.mending.proofs.Laws.Code.{put_next, put_whole}
 use Rattle.mending.proofs.copy.Statement.{statement}
 use Rattle.mending.proofs.copy.Tie as tie
 

@@ -1,6 +1,6 @@
 use mathlib.Core.Path.{sym, ◌∙◌}
 use lib.ListN.{length}
-use Rattle.mending.specs.Laws.Code.{refused_short, refused_early, short_output, short_lines, let_on}
+use Rattle.mending.proofs.Laws.Code.{refused_short, refused_early, short_output, short_lines, let_on}
 use borrow.Author.Rules.{rules}
 use Rattle.mending.proofs.mend.Statement.{statement}
 use Rattle.mending.proofs.mend.Tie as tie

@@ -1,7 +1,7 @@
 use mathlib.Core.Path.{sym}
 use native.Mathlib.Omega.{arith}
 use lib.Seq.{length-take-le}
-use Rattle.mending.specs.Laws.Code.{size_fits, trailer_there, records_there, copy-taken, mended-length, refused-mended, read-refused, lines-whole, written}
+use Rattle.mending.proofs.Laws.Code.{size_fits, trailer_there, records_there, copy-taken, mended-length, refused-mended, read-refused, lines-whole, written}
 use borrow.Author.Rules.{rules}
 use Rattle.mending.proofs.mend_file.Statement.{statement}
 use Rattle.mending.proofs.mend_file.Tie as tie

@@ -2,7 +2,7 @@ use mathlib.Core.Path.{sym}
 use native.Mathlib.Omega.{arith}
 use lib.ListN.{length-replicate}
 use lib.Seq.{length-take-le}
-use Rattle.mending.specs.Laws.Code.{size_fits, trailer_there, records_there, copy-mended}
+use Rattle.mending.proofs.Laws.Code.{size_fits, trailer_there, records_there, copy-mended}
 use borrow.Author.Rules.{rules}
 use Rattle.mending.proofs.mended_copy.Statement.{statement}
 use Rattle.mending.proofs.mended_copy.Tie as tie

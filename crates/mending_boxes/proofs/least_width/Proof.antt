@@ -1,6 +1,6 @@
 use Rattle.plan.specs.Kinds.{about}
 use Rattle.mending_boxes.specs.Boxes.{least_width}
-use Rattle.mending_boxes.specs.Laws.Code.{least_known}
+use Rattle.mending_boxes.proofs.Laws.Code.{least_known}
 use borrow.Author.Rules.{rules}
 use Rattle.mending_boxes.proofs.least_width.Statement.{statement}
 use Rattle.mending_boxes.proofs.least_width.Tie as tie

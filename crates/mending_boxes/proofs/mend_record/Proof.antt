@@ -1,4 +1,4 @@
-use Rattle.mending_boxes.specs.Laws.Code.{record_mended}
+use Rattle.mending_boxes.proofs.Laws.Code.{record_mended}
 use borrow.Author.Rules.{rules}
 use Rattle.mending_boxes.proofs.mend_record.Statement.{statement}
 use Rattle.mending_boxes.proofs.mend_record.Tie as tie

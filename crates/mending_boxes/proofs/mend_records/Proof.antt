@@ -4,7 +4,7 @@ use native.Mathlib.Omega.{arith}
 use Rattle.plan.specs.Forms.{record_size}
 use Rattle.planfile_spec.specs.Format.{record_at}
 use Rattle.mending_boxes.specs.Raised.{mend_records}
-use Rattle.mending_boxes.specs.Laws.Code.{place-room, mends_start, mends_next, mends_as_long, mends_end}
+use Rattle.mending_boxes.proofs.Laws.Code.{place-room, mends_start, mends_next, mends_as_long, mends_end}
 use Rattle.mending_boxes.proofs.mend_records.Statement.{statement}
 use Rattle.mending_boxes.proofs.mend_records.Tie as tie
 

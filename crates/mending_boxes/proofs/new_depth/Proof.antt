@@ -1,5 +1,5 @@
 use mathlib.Core.Path.{sym, ◌∙◌}
-use Rattle.mending_boxes.specs.Laws.Code.{new_depth-raised, new_depth-left}
+use Rattle.mending_boxes.proofs.Laws.Code.{new_depth-raised, new_depth-left}
 use borrow.Author.Rules.{rules}
 use Rattle.mending_boxes.proofs.new_depth.Statement.{statement}
 use Rattle.mending_boxes.proofs.new_depth.Tie as tie

@@ -1,5 +1,5 @@
 use mathlib.Core.Path.{sym, ◌∙◌}
-use Rattle.mending_boxes.specs.Laws.Code.{new_width-raised, new_width-left}
+use Rattle.mending_boxes.proofs.Laws.Code.{new_width-raised, new_width-left}
 use borrow.Author.Rules.{rules}
 use Rattle.mending_boxes.proofs.new_width.Statement.{statement}
 use Rattle.mending_boxes.proofs.new_width.Tie as tie

@@ -1,6 +1,6 @@
 use native.Mathlib.Omega.{arith}
 use Rattle.planfile_spec.specs.Fields.{set_number, width_place}
-use Rattle.mending_boxes.specs.Laws.Code.{old_room, wide_room}
+use Rattle.mending_boxes.proofs.Laws.Code.{old_room, wide_room}
 use borrow.Author.Rules.{rules}
 use Rattle.mending_boxes.proofs.put_width.Statement.{statement}
 use Rattle.mending_boxes.proofs.put_width.Tie as tie

@@ -1,5 +1,5 @@
 use mathlib.Core.Path.{sym, ◌∙◌}
-use Rattle.mending_boxes.specs.Laws.Code.{depth_put, depth_kept}
+use Rattle.mending_boxes.proofs.Laws.Code.{depth_put, depth_kept}
 use borrow.Author.Rules.{rules}
 use Rattle.mending_boxes.proofs.raise_depth.Statement.{statement}
 use Rattle.mending_boxes.proofs.raise_depth.Tie as tie

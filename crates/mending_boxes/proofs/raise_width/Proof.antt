@@ -1,5 +1,5 @@
 use mathlib.Core.Path.{sym, ◌∙◌}
-use Rattle.mending_boxes.specs.Laws.Code.{least-byte, width-put, width-kept}
+use Rattle.mending_boxes.proofs.Laws.Code.{least-byte, width-put, width-kept}
 use borrow.Author.Rules.{rules}
 use Rattle.mending_boxes.proofs.raise_width.Statement.{statement}
 use Rattle.mending_boxes.proofs.raise_width.Tie as tie

@@ -1,6 +1,6 @@
 use mathlib.Core.Path.{sym, ◌∙◌}
 use native.Mathlib.Omega.{arith}
-use Rattle.mending_lines.specs.Laws.Code.{line-fits, line-put, no-line-put}
+use Rattle.mending_lines.proofs.Laws.Code.{line-fits, line-put, no-line-put}
 use borrow.Author.Rules.{rules}
 use Rattle.mending_lines.proofs.put_alteration.Statement.{statement}
 use Rattle.mending_lines.proofs.put_alteration.Tie as tie

@@ -6,8 +6,8 @@ use Rattle.plan.specs.Forms.{record_size}
 use Rattle.planfile_spec.specs.Format.{record_at}
 use Rattle.listing.specs.Put.{Put}
 use Rattle.mending_lines.specs.Steps.{line_room, alterations_text}
-use Rattle.mending_boxes.specs.Laws.Code.{place-room}
-use Rattle.mending_lines.specs.Laws.Code.{lines_start, lines_next, lines_end}
+use Rattle.mending_boxes.proofs.Laws.Code.{place-room}
+use Rattle.mending_lines.proofs.Laws.Code.{lines_start, lines_next, lines_end}
 use borrow.Author.Rules.{rules}
 use Rattle.mending_lines.proofs.put_lines.Statement.{statement}
 use Rattle.mending_lines.proofs.put_lines.Tie as tie

@@ -1,6 +1,6 @@
 use Rattle.std.proofs.Common.{sym, ◌∙◌, arith}
-use Rattle.whole.specs.Laws.Range.{says_within}
-use Rattle.whole.specs.Laws.Says.{holds}
+use Rattle.whole.proofs.Laws.Range.{says_within}
+use Rattle.whole.proofs.Laws.Says.{holds}
 use Rattle.outcomes.proofs.up.Goals as goal
 
 pub raise-requires : goal.raise-requires

@@ -1,4 +1,4 @@
-use Rattle.outline.specs.Laws.Outlined.{outline_short, outline-roomy}
+use Rattle.outline.proofs.Laws.Outlined.{outline_short, outline-roomy}
 use borrow.Author.Rules.{rules}
 use Rattle.outline.proofs.outline.Statement.{statement}
 use Rattle.outline.proofs.outline.Tie as tie

@@ -1,10 +1,10 @@
-use Rattle.outline_line.specs.Laws.Written.{put-length}
+use Rattle.outline_line.proofs.Laws.Written.{put-length}
 use Rattle.planfile_spec.specs.declared.Trailer.{Trailer}
 use lib.Seq.{length-take-le}
 use lib.ListN.{take}
 use mathlib.Core.Path.{refl, sym, ap, ◌∙◌}
 use native.Mathlib.Omega.{arith}
-use Rattle.outline.specs.Laws.Outlined.{outline-refused, outline_ready, outline-written, outline-long, outline-begin}
+use Rattle.outline.proofs.Laws.Outlined.{outline-refused, outline_ready, outline-written, outline-long, outline-begin}
 use borrow.Author.Rules.{rules}
 use Rattle.outline.proofs.outlining.Statement.{statement}
 use Rattle.outline.proofs.outlining.Tie as tie

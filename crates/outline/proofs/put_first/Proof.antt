@@ -1,5 +1,5 @@
 use native.Mathlib.Omega.{arith}
-use Rattle.outline.specs.Laws.Cells.{first-put}
+use Rattle.outline.proofs.Laws.Cells.{first-put}
 use borrow.Author.Rules.{rules}
 use Rattle.outline.proofs.put_first.Statement.{statement}
 use Rattle.outline.proofs.put_first.Tie as tie

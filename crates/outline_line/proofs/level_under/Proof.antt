@@ -1,7 +1,7 @@
 use native.Mathlib.Numerals.{add-one}
 use mathlib.Core.Path.{sym, ◌∙◌}
 use native.Mathlib.Omega.{arith}
-use Rattle.outline_line.specs.Laws.Written.{under-lower, under_none}
+use Rattle.outline_line.proofs.Laws.Written.{under-lower, under_none}
 use borrow.Author.Rules.{rules}
 use Rattle.outline_line.proofs.level_under.Statement.{statement}
 use Rattle.outline_line.proofs.level_under.Tie as tie

@@ -1,5 +1,5 @@
 use native.Mathlib.Omega.{arith}
-use Rattle.outline_line.specs.Laws.Written.{border-known, border_unknown}
+use Rattle.outline_line.proofs.Laws.Written.{border-known, border_unknown}
 use borrow.Author.Rules.{rules}
 use Rattle.outline_line.proofs.natural.Statement.{statement}
 use Rattle.outline_line.proofs.natural.Tie as tie

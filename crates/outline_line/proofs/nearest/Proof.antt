@@ -3,7 +3,7 @@ use native.Mathlib.Omega.{arith}
 use lib.ListN.{take, drop}
 use mathlib.Core.Path.{◌≡◌, refl, sym, ◌∙◌}
 use Rattle.outline_spec.specs.Outline.{nearest, last_less}
-use Rattle.outline_line.specs.Laws.Written.{less_start, less_more, less_end}
+use Rattle.outline_line.proofs.Laws.Written.{less_start, less_more, less_end}
 use borrow.Author.Rules.{rules}
 use Rattle.outline_line.proofs.nearest.Statement.{statement}
 use Rattle.outline_line.proofs.nearest.Tie as tie

@@ -4,7 +4,7 @@ use lib.Seq.{length-take-le}
 use lib.ListN.{length, take, drop, length-drop}
 use mathlib.Core.Path.{◌≡◌, refl, ◌∙◌}
 use native.Mathlib.Omega.{arith}
-use Rattle.outline_line.specs.Laws.Written.{put-length, line-put}
+use Rattle.outline_line.proofs.Laws.Written.{put-length, line-put}
 use borrow.Author.Rules.{rules}
 use Rattle.outline_line.proofs.put_cell.Statement.{statement}
 use Rattle.outline_line.proofs.put_cell.Tie as tie

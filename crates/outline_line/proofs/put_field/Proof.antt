@@ -1,5 +1,5 @@
 use native.Mathlib.Omega.{arith}
-use Rattle.outline_line.specs.Laws.Written.{field-none, field_put}
+use Rattle.outline_line.proofs.Laws.Written.{field-none, field_put}
 use borrow.Author.Rules.{rules}
 use Rattle.outline_line.proofs.put_field.Statement.{statement}
 use Rattle.outline_line.proofs.put_field.Tie as tie

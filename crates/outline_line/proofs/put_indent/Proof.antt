@@ -1,10 +1,10 @@
-use Rattle.outline_line.specs.Laws.Written.{put-length}
+use Rattle.outline_line.proofs.Laws.Written.{put-length}
 use mathlib.Core.Path.{◌≡◌}
 use Prim.Native.Nat.{◌-◌, ◌≤◌}
 use native.Mathlib.Omega.{arith}
 use Rattle.listing.specs.Put.{Put}
 use Rattle.outline_spec.specs.Outline.{indent}
-use Rattle.outline_line.specs.Laws.Written.{indent-none, indent-put, indent-place}
+use Rattle.outline_line.proofs.Laws.Written.{indent-none, indent-put, indent-place}
 use borrow.Author.Rules.{rules}
 use Rattle.outline_line.proofs.put_indent.Statement.{statement}
 use Rattle.outline_line.proofs.put_indent.Tie as tie

@@ -3,7 +3,7 @@ use lib.ListN.{length, take, drop, length-drop}
 use lib.Seq.{length-take-le}
 use mathlib.Core.Path.{◌≡◌}
 use native.Mathlib.Omega.{arith}
-use Rattle.outline_line.specs.Laws.Written.{label-none, label-put}
+use Rattle.outline_line.proofs.Laws.Written.{label-none, label-put}
 use borrow.Author.Rules.{rules}
 use Rattle.outline_line.proofs.put_label.Statement.{statement}
 use Rattle.outline_line.proofs.put_label.Tie as tie

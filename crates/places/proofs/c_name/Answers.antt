@@ -1,5 +1,5 @@
 use Rattle.std.proofs.Common.{arith}
-use Rattle.places.specs.Laws.Names.{c_name-put}
+use Rattle.places.proofs.Laws.Names.{c_name-put}
 use Rattle.places.proofs.c_name.Goals as goal
 
 pub returns : goal.returns

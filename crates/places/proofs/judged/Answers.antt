@@ -1,6 +1,6 @@
 use Rattle.std.proofs.Common.{ap}
 use Rattle.std.specs.Prelude.{not}
-use Rattle.places.specs.Laws.Places.{free, unknown, other, plain}
+use Rattle.places.proofs.Laws.Places.{free, unknown, other, plain}
 use Rattle.places.proofs.judged.Goals as goal
 
 pub returns-then-missing : goal.returns-then-missing

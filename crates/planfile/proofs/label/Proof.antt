@@ -1,6 +1,6 @@
 use mathlib.Core.Path.{refl}
 use native.Mathlib.Omega.{arith}
-use Rattle.planfile_spec.specs.Laws.Label.{part-inside}
+use Rattle.planfile_spec.proofs.Laws.Label.{part-inside}
 use borrow.Author.Rules.{rules}
 use Rattle.planfile.proofs.label.Statement.{statement}
 use Rattle.planfile.proofs.label.Tie as tie

@@ -1,4 +1,4 @@
-use Rattle.planfile_spec.specs.Laws.Label.{part-refused, part_given, trailer_there, record_there, record_is}
+use Rattle.planfile_spec.proofs.Laws.Label.{part-refused, part_given, trailer_there, record_there, record_is}
 use native.Mathlib.Omega.{arith}
 use mathlib.Core.Path.{◌∙◌}
 use borrow.Author.Rules.{rules}

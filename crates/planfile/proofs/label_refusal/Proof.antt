@@ -1,5 +1,5 @@
 use mathlib.Core.Path.{◌∙◌}
-use Rattle.planfile_spec.specs.Laws.Label.{label-stops, label-goes_on}
+use Rattle.planfile_spec.proofs.Laws.Label.{label-stops, label-goes_on}
 use borrow.Author.Rules.{rules}
 use Rattle.planfile.proofs.label_refusal.Statement.{statement}
 use Rattle.planfile.proofs.label_refusal.Tie as tie

@@ -1,5 +1,5 @@
 use mathlib.Core.Path.{◌∙◌}
-use Rattle.planfile_spec.specs.Laws.Label.{read_short, read-on}
+use Rattle.planfile_spec.proofs.Laws.Label.{read_short, read-on}
 use borrow.Author.Rules.{rules}
 use Rattle.planfile.proofs.read.Statement.{statement}
 use Rattle.planfile.proofs.read.Tie as tie

@@ -1,6 +1,6 @@
-use Rattle.planfile_spec.specs.Laws.Examined.{records-lower, records-flat}
+use Rattle.planfile_spec.proofs.Laws.Examined.{records-lower, records-flat}
 use Rattle.planfile_spec.specs.FileSteps.{columns_refusal}
-use Rattle.plan.specs.Laws.Questions.{stops, goes_on}
+use Rattle.plan.proofs.Laws.Questions.{stops, goes_on}
 use Rattle.planfile_body.proofs.body_refusal.Goals as goal
 
 pub returns-then-at_records-ne0 : goal.returns-then-at_records-ne0

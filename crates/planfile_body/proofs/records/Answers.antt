@@ -1,6 +1,6 @@
-use Rattle.planfile_spec.specs.Laws.Format.{filled_none, filled_more, filled-all}
+use Rattle.planfile_spec.proofs.Laws.Format.{filled_none, filled_more, filled-all}
 use Rattle.plan.specs.Forms.{record_size}
-use Rattle.plan.specs.Laws.Form.{record_inside}
+use Rattle.plan.proofs.Laws.Form.{record_inside}
 use native.Mathlib.Omega.{arith}
 use Rattle.planfile_body.proofs.records.Goals as goal
 

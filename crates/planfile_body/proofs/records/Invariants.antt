@@ -1,4 +1,4 @@
-use Rattle.planfile_spec.specs.Laws.Format.{Filled}
+use Rattle.planfile_spec.proofs.Laws.Format.{Filled}
 use Rattle.plan.specs.Forms.{record_size}
 use Rattle.planfile_spec.specs.Format.{record_at}
 use Prim.Native.Nat.{◌≤◌, ◌-◌}

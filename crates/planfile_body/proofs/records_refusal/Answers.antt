@@ -1,4 +1,4 @@
-use Rattle.plan.specs.Laws.Questions.{loop_starts, loop_stops, loop_goes_on, loop_ends}
+use Rattle.plan.proofs.Laws.Questions.{loop_starts, loop_stops, loop_goes_on, loop_ends}
 use native.Mathlib.Omega.{arith}
 use Rattle.planfile_body.proofs.records_refusal.Goals as goal
 

@@ -1,5 +1,5 @@
 use mathlib.Core.Path.{refl}
-use Rattle.planfile_spec.specs.Laws.Format.{read_trailer}
+use Rattle.planfile_spec.proofs.Laws.Format.{read_trailer}
 use Rattle.planfile_cursor.proofs.trailer.Goals as goal
 
 pub returns : goal.returns

@@ -1,4 +1,4 @@
-use Rattle.plan.specs.Laws.Form.{sizes, records_short}
+use Rattle.plan.proofs.Laws.Form.{sizes, records_short}
 use borrow.Author.Tests.{lt-leb, le-leb}
 use native.Mathlib.Omega.{arith}
 use Rattle.planfile_header.proofs.counted.Goals as goal

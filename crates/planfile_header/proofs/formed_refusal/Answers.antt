@@ -3,10 +3,10 @@ use native.Mathlib.Omega.{arith}
 use lib.ListN.{length}
 use Rattle.plan.specs.Forms.{marked, form_of}
 use Rattle.plan.specs.Questions.{asked}
-use Rattle.plan.specs.Laws.Questions.{stops, goes_on}
+use Rattle.plan.proofs.Laws.Questions.{stops, goes_on}
 use Rattle.planfile_spec.specs.FileSteps.{formed_refusal, counted}
 use Rattle.planfile_spec.specs.declared.Trailer.{Trailer}
-use Rattle.planfile_spec.specs.Laws.Examined.{sized-read}
+use Rattle.planfile_spec.proofs.Laws.Examined.{sized-read}
 use Rattle.planfile_header.proofs.formed_refusal.Goals as goal
 
 pub returns-then-sized-ne0 : goal.returns-then-sized-ne0

@@ -3,10 +3,10 @@ use native.Mathlib.Omega.{arith}
 use lib.ListN.{take}
 use Rattle.plan.specs.Limits.{between, first_letter, last_letter}
 use Rattle.plan.specs.Questions.{asked, every}
-use Rattle.plan.specs.Laws.Questions.{stops, goes_on}
+use Rattle.plan.proofs.Laws.Questions.{stops, goes_on}
 use Rattle.planfile_spec.specs.FileSteps.{header_refusal}
 use Rattle.planfile_spec.specs.declared.Trailer.{Trailer}
-use Rattle.planfile_spec.specs.Laws.Examined.{zero_of, formed_read}
+use Rattle.planfile_spec.proofs.Laws.Examined.{zero_of, formed_read}
 use Rattle.planfile_header.proofs.header_refusal.Goals as goal
 
 pub returns-then-formed-ne0 : goal.returns-then-formed-ne0

@@ -1,6 +1,6 @@
 use mathlib.Core.Path.{refl}
 use native.Mathlib.Omega.{arith}
-use Rattle.planfile_spec.specs.Laws.Every.{every_more, every-ends}
+use Rattle.planfile_spec.proofs.Laws.Every.{every_more, every-ends}
 use Rattle.planfile_header.proofs.letters_printable.Goals as goal
 
 pub loop-i-init : goal.loop-i-init

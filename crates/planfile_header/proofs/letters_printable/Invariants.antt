@@ -1,6 +1,6 @@
 use Prim.Native.Nat.{◌≤◌, ◌-◌}
 use Rattle.plan.specs.Limits.{between, first_letter, last_letter}
-use Rattle.planfile_spec.specs.Laws.Every.{Tested}
+use Rattle.planfile_spec.proofs.Laws.Every.{Tested}
 use Rattle.planfile_header.proofs.letters_printable.Given as goal
 
 abbrev pub invariant-loop-i : goal.invariant-loop-i

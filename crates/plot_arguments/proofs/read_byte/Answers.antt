@@ -1,5 +1,5 @@
 use mathlib.Core.Path.{sym, ◌∙◌}
-use Rattle.plot_arguments.specs.Laws.Lengths.{step-point, step-digit}
+use Rattle.plot_arguments.proofs.Laws.Lengths.{step-point, step-digit}
 use borrow.Author.Tests.{eq-eqb, ne_eqb, le-leb, lt-leb}
 use Rattle.plot_arguments.specs.Lengths.{step}
 use borrow.Author.Rules.{rules}

@@ -16,7 +16,7 @@ use denote.Slice.{shr_slice_vals, shr_slice_Tells}
 use denote.Struct.Laws as LL
 use denote.Enum.Laws as EL
 use Rattle.strokes.specs.Stroked.{stroked_of}
-use Rattle.plotting.specs.Laws.Lent.{stroke-lent}
+use Rattle.plotting.proofs.Laws.Lent.{stroke-lent}
 use Rattle.plan.proofs.Columns.TheLaws as B'
 use Rattle.plan.specs.contracts.Page as G
 use Rattle.plan.proofs.Page.TheLaws as G'

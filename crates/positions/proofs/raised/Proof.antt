@@ -7,7 +7,7 @@ use Rattle.plan.specs.Columns.{table_of}
 use Rattle.contours.specs.Sheet.{sheet}
 use Rattle.marks.specs.Marks.{Marked}
 use Rattle.positions.specs.Raised.{Raised}
-use Rattle.positions.specs.Laws.Raised.{counted, raised-start, Turn, turn}
+use Rattle.positions.proofs.Laws.Raised.{counted, raised-start, Turn, turn}
 use borrow.Author.Rules.{rules}
 use Rattle.positions.proofs.raised.Statement.{statement}
 use Rattle.positions.proofs.raised.Tie as tie

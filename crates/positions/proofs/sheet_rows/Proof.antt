@@ -2,7 +2,7 @@ use mathlib.Core.Path.{◌≡◌, ap}
 use Prim.Native.Nat.{ℕ, ◌+◌, ◌-◌, ◌≤◌}
 use lib.ListN.{get_or}
 use native.Mathlib.Omega.{arith}
-use Rattle.positions.specs.Laws.Measured.{Greatest, greatest-one, greatest-more, bottom-is}
+use Rattle.positions.proofs.Laws.Measured.{Greatest, greatest-one, greatest-more, bottom-is}
 use borrow.Author.Rules.{rules}
 use Rattle.positions.proofs.sheet_rows.Statement.{statement}
 use Rattle.positions.proofs.sheet_rows.Tie as tie

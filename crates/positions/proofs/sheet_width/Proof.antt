@@ -2,7 +2,7 @@ use mathlib.Core.Path.{◌≡◌}
 use Prim.Native.Nat.{◌+◌, ◌-◌, ◌≤◌}
 use lib.ListN.{get_or}
 use native.Mathlib.Omega.{arith}
-use Rattle.positions.specs.Laws.Measured.{Smallest, Greatest, smallest_one, greatest-one, smallest_more, greatest-more, width_is}
+use Rattle.positions.proofs.Laws.Measured.{Smallest, Greatest, smallest_one, greatest-one, smallest_more, greatest-more, width_is}
 use borrow.Author.Rules.{rules}
 use Rattle.positions.proofs.sheet_width.Statement.{statement}
 use Rattle.positions.proofs.sheet_width.Tie as tie

@@ -4,7 +4,7 @@ use Rattle.plan.specs.Limits.{farthest}
 use Rattle.rules.specs.Placement.{Placement}
 use Rattle.positions.specs.Raised.{Raised, Topped}
 use Rattle.positions.specs.Written.{written}
-use Rattle.positions.specs.Laws.Written.{written_none, written-put, lowered}
+use Rattle.positions.proofs.Laws.Written.{written_none, written-put, lowered}
 use mathlib.Core.Path.{◌≡◌, refl, ◌∙◌, ap}
 use Prim.Native.Nat.{◌-◌, ◌≤◌}
 use lib.ListN.{length, length-set}

@@ -2,7 +2,7 @@ use mir.Syntax.{w32}
 use mir.ValLaws.{to_z-of_z}
 use mathlib.Core.Path.{ap, ◌∙◌}
 use lib.IntN.{pos}
-use Rattle.positions.specs.Laws.Written.{less_none}
+use Rattle.positions.proofs.Laws.Written.{less_none}
 use borrow.Author.Rules.{rules}
 use Rattle.positions.proofs.y_of.Statement.{statement}
 use Rattle.positions.proofs.y_of.Tie as tie

@@ -1,6 +1,6 @@
 use mathlib.Core.Path.{◌∙◌, ap}
 use Rattle.listing.specs.Line.{line_of}
-use Rattle.printing.specs.Laws.Printing.{first-is}
+use Rattle.printing.proofs.Laws.Printing.{first-is}
 use borrow.Author.Rules.{rules}
 use Rattle.printing.proofs.first_line.Statement.{statement}
 use Rattle.printing.proofs.first_line.Tie as tie

@@ -1,6 +1,6 @@
 use mathlib.Core.Path.{refl}
 use native.Mathlib.Omega.{arith}
-use Rattle.printing.specs.Laws.Taken.{taken_few, label_inside, label_there}
+use Rattle.printing.proofs.Laws.Taken.{taken_few, label_inside, label_there}
 use borrow.Author.Rules.{rules}
 use Rattle.printing.proofs.label_at.Statement.{statement}
 use Rattle.printing.proofs.label_at.Tie as tie

@@ -1,7 +1,7 @@
 use mir.Syntax.{w32}
 use mir.ValLaws.{to_z-of_z}
-use Rattle.printing.specs.Laws.Printing.{label_short, cell_is}
-use Rattle.printing.specs.Laws.Taken.{line_given}
+use Rattle.printing.proofs.Laws.Printing.{label_short, cell_is}
+use Rattle.printing.proofs.Laws.Taken.{line_given}
 use borrow.Author.Rules.{rules}
 use Rattle.printing.proofs.line_at.Statement.{statement}
 use Rattle.printing.proofs.line_at.Tie as tie

@@ -1,4 +1,4 @@
-use Rattle.printing.specs.Laws.Taken.{listed_short, listed-text}
+use Rattle.printing.proofs.Laws.Taken.{listed_short, listed-text}
 use borrow.Author.Rules.{rules}
 use Rattle.printing.proofs.list.Statement.{statement}
 use Rattle.printing.proofs.list.Tie as tie

@@ -4,7 +4,7 @@ use native.Mathlib.Omega.{arith}
 use lib.ListN.{length}
 use Rattle.listing.specs.Put.{Put}
 use Rattle.printing.specs.Printing.{cells_text, cell_size}
-use Rattle.printing.specs.Laws.Taken.{put-no-cells, put-cell, cells-done}
+use Rattle.printing.proofs.Laws.Taken.{put-no-cells, put-cell, cells-done}
 use borrow.Author.Rules.{rules}
 use Rattle.printing.proofs.put_cells.Statement.{statement}
 use Rattle.printing.proofs.put_cells.Tie as tie

@@ -1,5 +1,5 @@
 use native.Mathlib.Omega.{arith}
-use Rattle.printing.specs.Laws.Taken.{put_short, refusal-done}
+use Rattle.printing.proofs.Laws.Taken.{put_short, refusal-done}
 use borrow.Author.Rules.{rules}
 use Rattle.printing.proofs.write_listing.Statement.{statement}
 use Rattle.printing.proofs.write_listing.Tie as tie

@@ -1,6 +1,6 @@
 use native.Mathlib.Omega.{arith}
-use Rattle.printing.specs.Laws.Printing.{drawn_measured, drawn_placed}
-use Rattle.printing.specs.Laws.Taken.{taken_few, taken_drawable, put_short, sheet-done}
+use Rattle.printing.proofs.Laws.Printing.{drawn_measured, drawn_placed}
+use Rattle.printing.proofs.Laws.Taken.{taken_few, taken_drawable, put_short, sheet-done}
 use borrow.Author.Rules.{rules}
 use Rattle.printing.proofs.write_sheet.Statement.{statement}
 use Rattle.printing.proofs.write_sheet.Tie as tie

@@ -1,6 +1,6 @@
 use native.Mathlib.Omega.{arith}
 use borrow.Author.Rules.{rules}
-use Rattle.read_entry.specs.Laws.Read.{parse_refused, parse_plan, parse_count}
+use Rattle.read_entry.proofs.Laws.Read.{parse_refused, parse_plan, parse_count}
 use Rattle.read_entry.proofs.parse.Statement.{statement}
 use Rattle.read_entry.proofs.parse.Tie as tie
 

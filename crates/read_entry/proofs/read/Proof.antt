@@ -20,7 +20,7 @@ use denote.Slice.{slice_val}
 use denote.Enum.Laws as EL
 use denote.Struct.Laws as LL
 use Rattle.read_entry.specs.Read.{Reads, read_of}
-use Rattle.read_entry.specs.Laws.Read.{parsed_fits, parsed_reads}
+use Rattle.read_entry.proofs.Laws.Read.{parsed_fits, parsed_reads}
 use Rattle.planfile_spec.specs.declared.Reading.{Reading}
 use Rattle.read_entry.specs.declared.ReadAnswer.{ReadAnswer}
 use Rattle.read_entry.specs.declared.Parsed.{Parsed}

@@ -1,7 +1,7 @@
 use Rattle.std.proofs.Common.{ap, ◌∙◌, length}
 use Rattle.plan.specs.declared.Lettered.{Lettered}
 use Rattle.records.specs.Apart.{clipped}
-use Rattle.records.specs.Laws.Apart.{lettering-columns}
+use Rattle.records.proofs.Laws.Apart.{lettering-columns}
 use Rattle.records.proofs.columns_of.Goals as goal
 
 pub returns : goal.returns

@@ -1,5 +1,5 @@
 use Rattle.std.proofs.Common.{arith}
-use Rattle.records.specs.Laws.Together.{filled_none, filled_more}
+use Rattle.records.proofs.Laws.Together.{filled_none, filled_more}
 use Rattle.records.proofs.fill.Goals as goal
 
 pub loop-c-init : goal.loop-c-init

@@ -1,5 +1,5 @@
 use Rattle.std.proofs.Common.{arith, length, ◌∙◌}
-use Rattle.records.specs.Laws.Apart.{lettering-none, lettering-more}
+use Rattle.records.proofs.Laws.Apart.{lettering-none, lettering-more}
 use Rattle.records.proofs.lettered_of.Goals as goal
 
 pub loop-c-init : goal.loop-c-init

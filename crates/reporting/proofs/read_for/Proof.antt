@@ -4,8 +4,8 @@ use native.Mathlib.Omega.{arith}
 use lib.Dec.{leb}
 use Rattle.plan.specs.Questions.{asked}
 use Rattle.planfile_spec.specs.declared.Trailer.{Trailer}
-use Rattle.planfile_spec.specs.Laws.Examined.{zero_of, formed_read}
-use Rattle.reporting.specs.Laws.Reporting.{long-stops, formed_stops, placed-stops, goes_to_read}
+use Rattle.planfile_spec.proofs.Laws.Examined.{zero_of, formed_read}
+use Rattle.reporting.proofs.Laws.Reporting.{long-stops, formed_stops, placed-stops, goes_to_read}
 use borrow.Author.Rules.{rules}
 use Rattle.reporting.proofs.read_for.Statement.{statement}
 use Rattle.reporting.proofs.read_for.Tie as tie

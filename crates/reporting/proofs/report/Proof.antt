@@ -3,7 +3,7 @@ use native.Mathlib.Omega.{arith}
 use lib.ListN.{length}
 use lib.Seq.{length-take-le}
 use Rattle.plan.specs.Limits.{scratch_size}
-use Rattle.reporting.specs.Laws.Reporting.{scratch-enough, plan_few, drawable, measures_small, refused, unrefused, reported}
+use Rattle.reporting.proofs.Laws.Reporting.{scratch-enough, plan_few, drawable, measures_small, refused, unrefused, reported}
 use borrow.Author.Rules.{rules}
 use Rattle.reporting.proofs.report.Statement.{statement}
 use Rattle.reporting.proofs.report.Tie as tie

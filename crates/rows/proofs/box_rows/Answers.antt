@@ -3,7 +3,7 @@ use native.Mathlib.Omega.{arith}
 use mathlib.Core.Path.{◌≡◌, refl}
 use lib.ListN.{length-set}
 use Rattle.rows.specs.Rows.{box_to}
-use Rattle.rows.specs.Laws.Rows.{box_to-more}
+use Rattle.rows.proofs.Laws.Rows.{box_to-more}
 use Rattle.rows.proofs.box_rows.Goals as goal
 
 pub loop-j-init : goal.loop-j-init

@@ -2,7 +2,7 @@ use borrow.Author.Rules.{rules}
 use native.Mathlib.Omega.{arith}
 use mathlib.Core.Path.{◌≡◌, refl}
 use Rattle.rows.specs.Rows.{clash_to}
-use Rattle.rows.specs.Laws.Rows.{clash_to-more}
+use Rattle.rows.proofs.Laws.Rows.{clash_to-more}
 use Rattle.rows.proofs.clash.Goals as goal
 
 pub loop-j-init : goal.loop-j-init

@@ -2,7 +2,7 @@ use borrow.Author.Rules.{rules}
 use native.Mathlib.Omega.{arith}
 use mathlib.Core.Path.{◌≡◌, refl}
 use Rattle.rows.specs.Rows.{max_to}
-use Rattle.rows.specs.Laws.Rows.{max_to-more}
+use Rattle.rows.proofs.Laws.Rows.{max_to-more}
 use Rattle.rows.proofs.column_max.Goals as goal
 
 pub loop-j-init : goal.loop-j-init

@@ -4,7 +4,7 @@ use Prim.Native.Nat.{◌≤◌, ◌+◌, ◌*◌}
 use mathlib.Core.Path.{◌≡◌, refl}
 use lib.ListN.{length}
 use Rattle.rows.specs.Rows.{put_to}
-use Rattle.rows.specs.Laws.Rows.{unread, beyond-more}
+use Rattle.rows.proofs.Laws.Rows.{unread, beyond-more}
 use Rattle.rows.proofs.join_beyond.Goals as goal
 
 pub loop-j-init : goal.loop-j-init

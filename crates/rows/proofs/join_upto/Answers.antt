@@ -4,7 +4,7 @@ use Prim.Native.Nat.{◌≤◌, ◌*◌}
 use mathlib.Core.Path.{◌≡◌, refl, ◌∙◌, ap}
 use lib.ListN.{length}
 use Rattle.rows.specs.Rows.{extent, put_to}
-use Rattle.rows.specs.Laws.Rows.{put_to-above, upto-more}
+use Rattle.rows.proofs.Laws.Rows.{put_to-above, upto-more}
 use Rattle.rows.proofs.join_upto.Goals as goal
 
 pub loop-j-init : goal.loop-j-init

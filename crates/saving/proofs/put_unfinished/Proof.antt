@@ -1,6 +1,6 @@
 use native.Mathlib.Omega.{arith}
 use borrow.Author.Rules.{rules}
-use Rattle.saving.specs.Laws.Names.{unfinished-put}
+use Rattle.saving.proofs.Laws.Names.{unfinished-put}
 use Rattle.saving.proofs.put_unfinished.Statement.{statement}
 use Rattle.saving.proofs.put_unfinished.Tie as tie
 

@@ -1,5 +1,5 @@
 use Rattle.std.proofs.Common.{◌∙◌}
-use Rattle.season.specs.Laws.Pool.{adds_none, adds-nothing, adds-pool}
+use Rattle.season.proofs.Laws.Pool.{adds_none, adds-nothing, adds-pool}
 use Rattle.season.proofs.add.Goals as goal
 
 pub returns-in_default : goal.returns-in_default

@@ -1,4 +1,4 @@
-use Rattle.season.specs.Laws.Pool.{refuses, both_small, gives}
+use Rattle.season.proofs.Laws.Pool.{refuses, both_small, gives}
 use borrow.Author.Rules.{rules}
 use Rattle.season.proofs.pool.Goals as goal
 

@@ -1,8 +1,8 @@
 use mathlib.Core.Path.{sym, ap, ◌∙◌}
 use native.Mathlib.Omega.{arith}
 use Rattle.plan.specs.Questions.{asked}
-use Rattle.plan.specs.Laws.Questions.{stops, goes_on}
-use Rattle.season.specs.Laws.Pool.{asked_small, refusal_is}
+use Rattle.plan.proofs.Laws.Questions.{stops, goes_on}
+use Rattle.season.proofs.Laws.Pool.{asked_small, refusal_is}
 use borrow.Author.Rules.{rules}
 use Rattle.season.proofs.pool_refusal.Goals as goal
 

@@ -1,5 +1,5 @@
 use native.Mathlib.Omega.{arith}
-use Rattle.season.specs.Laws.Report.{area_most, report_single}
+use Rattle.season.proofs.Laws.Report.{area_most, report_single}
 use Rattle.season.proofs.single.Goals as goal
 
 pub overflow_mul-result : goal.overflow_mul-result

@@ -2,7 +2,7 @@
 use mir.Syntax.{w32}
 use denote.Enum.Laws as EL
 use Rattle.checker.specs.Checked.{checked_of}
-use Rattle.sheet_entry.specs.Laws.Lent.{check-lent}
+use Rattle.sheet_entry.proofs.Laws.Lent.{check-lent}
 use Rattle.checker.specs.contracts.Checked as L
 use Rattle.checker.proofs.Checked.TheLaws as L'
 use Rattle.sheet_entry.proofs.Three.{meets-three}

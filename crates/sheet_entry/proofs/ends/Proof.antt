@@ -2,7 +2,7 @@
 use mir.Syntax.{w64}
 use denote.Enum.Laws as EL
 use Rattle.ends.specs.Ended.{ended_of}
-use Rattle.sheet_entry.specs.Laws.Lent.{ends-lent}
+use Rattle.sheet_entry.proofs.Laws.Lent.{ends-lent}
 use Rattle.ends.specs.contracts.Ended as L
 use Rattle.ends.proofs.Ended.TheLaws as L'
 use Rattle.sheet_entry.proofs.Three.{meets-three}

@@ -1,6 +1,6 @@
 use Prim.Native.Nat.{◌-◌}
 use Rattle.spans.proofs.Folding.{folding_starts, size_fits, folding_turns, folding_ends}
-use Rattle.plan.specs.Laws.Tables.{parent_lower}
+use Rattle.plan.proofs.Laws.Tables.{parent_lower}
 use native.Mathlib.Omega.{arith}
 use Rattle.spans.proofs.measure.Goals as goal
 

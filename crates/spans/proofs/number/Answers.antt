@@ -1,5 +1,5 @@
 use Rattle.spans.proofs.Numbering.{numbering_starts, many_fits, place-fits, numbering_turns, numbering_ends}
-use Rattle.plan.specs.Laws.Tables.{parent_lower}
+use Rattle.plan.proofs.Laws.Tables.{parent_lower}
 use native.Mathlib.Omega.{arith}
 use Rattle.spans.proofs.number.Goals as goal
 

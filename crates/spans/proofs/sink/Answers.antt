@@ -1,5 +1,5 @@
 use Rattle.spans.proofs.Sinking.{sinking_starts, sinking_turns, sinking_ends}
-use Rattle.plan.specs.Laws.Tables.{parent_lower}
+use Rattle.plan.proofs.Laws.Tables.{parent_lower}
 use native.Mathlib.Omega.{arith}
 use borrow.Author.Rules.{rules}
 use Rattle.spans.proofs.sink.Goals as goal

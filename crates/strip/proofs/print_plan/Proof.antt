@@ -1,4 +1,4 @@
-use Rattle.strip.specs.Laws.Sizes.{laid_narrow}
+use Rattle.strip.proofs.Laws.Sizes.{laid_narrow}
 use borrow.Author.Rules.{rules}
 use Rattle.strip.proofs.print_plan.Statement.{statement}
 use Rattle.strip.proofs.print_plan.Tie as tie

@@ -17,7 +17,7 @@ use denote.Builtin.{u8, u32, i32, SliceRefOf, SliceRefMutOf}
 use denote.Slice.{slice_val, shr_slice_vals, mut_slice_vals, shr_slice_Tells, mut_slice_Tells}
 use denote.Struct.Laws as LL
 use Rattle.strips.specs.Stripped.{Strips}
-use Rattle.strip_entry.specs.Laws.Lent.{strip-lent}
+use Rattle.strip_entry.proofs.Laws.Lent.{strip-lent}
 use Rattle.plan.proofs.Columns.TheLaws as B'
 use Rattle.plan.specs.contracts.Refusal as L
 use Rattle.plan.proofs.Refusal.TheLaws as L'

@@ -1,4 +1,4 @@
-use Rattle.strips.specs.Laws.Puts.{Cleared, cleared-starts, cleared-turns, cleared-ends}
+use Rattle.strips.proofs.Laws.Puts.{Cleared, cleared-starts, cleared-turns, cleared-ends}
 use lib.ListN.{length}
 use native.Mathlib.Omega.{arith}
 use Prim.Native.Nat.{◌-◌}

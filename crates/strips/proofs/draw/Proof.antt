@@ -1,6 +1,6 @@
-use Rattle.strips.specs.Laws.Sheet.{Drawing, drawing-starts, drawing-turns, drawing-done, painted_long}
-use Rattle.corners.specs.Laws.Corners.{spot, left_low}
-use Rattle.plan.specs.Laws.Tables.{count-some, count_few}
+use Rattle.strips.proofs.Laws.Sheet.{Drawing, drawing-starts, drawing-turns, drawing-done, painted_long}
+use Rattle.corners.proofs.Laws.Corners.{spot, left_low}
+use Rattle.plan.proofs.Laws.Tables.{count-some, count_few}
 use lib.ListN.{length}
 use Prim.Native.Nat.{◌-◌}
 use borrow.Author.Rules.{rules}

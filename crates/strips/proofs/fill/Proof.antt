@@ -1,4 +1,4 @@
-use Rattle.strips.specs.Laws.Puts.{Filled, filled-starts, filled-turns, filled-ends}
+use Rattle.strips.proofs.Laws.Puts.{Filled, filled-starts, filled-turns, filled-ends}
 use Prim.Native.Nat.{◌-◌}
 use borrow.Author.Rules.{rules}
 use Rattle.strips.proofs.fill.Statement.{statement}

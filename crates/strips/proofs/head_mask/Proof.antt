@@ -1,4 +1,4 @@
-use Rattle.strips.specs.Laws.Bits.{head_mask}
+use Rattle.strips.proofs.Laws.Bits.{head_mask}
 use borrow.Author.Rules.{rules}
 use Rattle.strips.proofs.head_mask.Statement.{statement}
 use Rattle.strips.proofs.head_mask.Tie as tie

@@ -1,4 +1,4 @@
-use Rattle.strips.specs.Laws.Puts.{one_comes, one_not}
+use Rattle.strips.proofs.Laws.Puts.{one_comes, one_not}
 use borrow.Author.Rules.{rules}
 use Rattle.strips.proofs.one_from.Statement.{statement}
 use Rattle.strips.proofs.one_from.Tie as tie

@@ -1,4 +1,4 @@
-use Rattle.strips.specs.Laws.Bits.{one_mask}
+use Rattle.strips.proofs.Laws.Bits.{one_mask}
 use borrow.Author.Rules.{rules}
 use Rattle.strips.proofs.one_mask.Statement.{statement}
 use Rattle.strips.proofs.one_mask.Tie as tie

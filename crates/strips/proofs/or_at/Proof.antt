@@ -1,4 +1,4 @@
-use Rattle.strips.specs.Laws.Puts.{or_past}
+use Rattle.strips.proofs.Laws.Puts.{or_past}
 use mathlib.Core.Path.{refl}
 use Rattle.strips.specs.Picture.{or_at}
 use borrow.Author.Rules.{rules}

@@ -1,4 +1,4 @@
-use Rattle.strips.specs.Laws.Puts.{and_of}
+use Rattle.strips.proofs.Laws.Puts.{and_of}
 use borrow.Author.Rules.{rules}
 use Rattle.strips.proofs.part_mask.Statement.{statement}
 use Rattle.strips.proofs.part_mask.Tie as tie

@@ -1,4 +1,4 @@
-use Rattle.strips.specs.Laws.Puts.{box-above, box-below, box-top, box-base, box_sides}
+use Rattle.strips.proofs.Laws.Puts.{box-above, box-below, box-top, box-base, box_sides}
 use borrow.Author.Rules.{rules}
 use Rattle.strips.proofs.put_box.Statement.{statement}
 use Rattle.strips.proofs.put_box.Tie as tie

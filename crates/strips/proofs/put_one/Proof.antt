@@ -1,4 +1,4 @@
-use Rattle.strips.specs.Laws.Puts.{one-put}
+use Rattle.strips.proofs.Laws.Puts.{one-put}
 use borrow.Author.Rules.{rules}
 use Rattle.strips.proofs.put_one.Statement.{statement}
 use Rattle.strips.proofs.put_one.Tie as tie

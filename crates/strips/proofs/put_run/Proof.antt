@@ -1,4 +1,4 @@
-use Rattle.strips.specs.Laws.Puts.{run_in_one, run_in_more}
+use Rattle.strips.proofs.Laws.Puts.{run_in_one, run_in_more}
 use borrow.Author.Rules.{rules}
 use Rattle.strips.proofs.put_run.Statement.{statement}
 use Rattle.strips.proofs.put_run.Tie as tie

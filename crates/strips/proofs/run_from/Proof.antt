@@ -1,4 +1,4 @@
-use Rattle.strips.specs.Laws.Puts.{run_not, run_cut, run_comes}
+use Rattle.strips.proofs.Laws.Puts.{run_not, run_cut, run_comes}
 use borrow.Author.Rules.{rules}
 use Rattle.strips.proofs.run_from.Statement.{statement}
 use Rattle.strips.proofs.run_from.Tie as tie

@@ -1,4 +1,4 @@
-use Rattle.strips.specs.Laws.Stripped.{accepted, refused_leaves, drawn_leaves}
+use Rattle.strips.proofs.Laws.Stripped.{accepted, refused_leaves, drawn_leaves}
 use borrow.Author.Rules.{rules}
 use Rattle.strips.proofs.strip.Statement.{statement}
 use Rattle.strips.proofs.strip.Tie as tie

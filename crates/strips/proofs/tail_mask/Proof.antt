@@ -1,4 +1,4 @@
-use Rattle.strips.specs.Laws.Bits.{tail_mask}
+use Rattle.strips.proofs.Laws.Bits.{tail_mask}
 use borrow.Author.Rules.{rules}
 use Rattle.strips.proofs.tail_mask.Statement.{statement}
 use Rattle.strips.proofs.tail_mask.Tie as tie

@@ -1,6 +1,6 @@
 use mathlib.Core.Path.{◌∙◌}
 use Rattle.strokes.specs.Raised.{box_at}
-use Rattle.strokes.specs.Laws.Raised.{rest_five}
+use Rattle.strokes.proofs.Laws.Raised.{rest_five}
 use borrow.Author.Rules.{rules}
 use Rattle.strokes.proofs.box_stroke.Statement.{statement}
 use Rattle.strokes.proofs.box_stroke.Tie as tie

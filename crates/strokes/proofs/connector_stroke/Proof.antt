@@ -1,6 +1,6 @@
 use mathlib.Core.Path.{◌∙◌}
 use Rattle.strokes.specs.Raised.{connector_at}
-use Rattle.strokes.specs.Laws.Raised.{rest-two}
+use Rattle.strokes.proofs.Laws.Raised.{rest-two}
 use borrow.Author.Rules.{rules}
 use Rattle.strokes.proofs.connector_stroke.Statement.{statement}
 use Rattle.strokes.proofs.connector_stroke.Tie as tie

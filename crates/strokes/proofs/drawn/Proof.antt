@@ -1,6 +1,6 @@
-use Rattle.strokes.specs.Laws.Raised.{boxed, box_drawn, connector_drawn, connector_cell}
-use Rattle.corners.specs.Laws.Corners.{spot}
-use Rattle.plan.specs.Laws.Tables.{count-some, count_few, parent_lower}
+use Rattle.strokes.proofs.Laws.Raised.{boxed, box_drawn, connector_drawn, connector_cell}
+use Rattle.corners.proofs.Laws.Corners.{spot}
+use Rattle.plan.proofs.Laws.Tables.{count-some, count_few, parent_lower}
 use native.Mathlib.Omega.{arith}
 use mathlib.Core.Path.{◌∙◌}
 use borrow.Author.Rules.{rules}

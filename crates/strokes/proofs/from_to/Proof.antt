@@ -1,4 +1,4 @@
-use Rattle.plan.specs.Laws.Questions.{and_yes, and_no}
+use Rattle.plan.proofs.Laws.Questions.{and_yes, and_no}
 use mathlib.Core.Path.{sym}
 use Rattle.plan.specs.Pages.{from_to}
 use Rattle.strokes.proofs.from_to.Statement.{statement}

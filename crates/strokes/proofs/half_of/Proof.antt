@@ -1,4 +1,4 @@
-use Rattle.strokes.specs.Laws.Raised.{half_low}
+use Rattle.strokes.proofs.Laws.Raised.{half_low}
 use borrow.Author.Rules.{rules}
 use Rattle.strokes.proofs.half_of.Statement.{statement}
 use Rattle.strokes.proofs.half_of.Tie as tie

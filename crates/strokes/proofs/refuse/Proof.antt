@@ -1,7 +1,7 @@
-use Rattle.strokes.specs.Laws.Stroked.{lent_counts}
-use Rattle.plan.specs.Laws.Calls.{stroke-refusal}
-use Rattle.plan.specs.Laws.Questions.{stops, goes_on}
-use Rattle.plan.specs.Laws.Tables.{length-is}
+use Rattle.strokes.proofs.Laws.Stroked.{lent_counts}
+use Rattle.plan.proofs.Laws.Calls.{stroke-refusal}
+use Rattle.plan.proofs.Laws.Questions.{stops, goes_on}
+use Rattle.plan.proofs.Laws.Tables.{length-is}
 use Rattle.plan.specs.Steps.{near_refusal}
 use Rattle.plan.specs.Questions.{asked, strokes_of}
 use Rattle.plan.specs.Columns.{table_of}

@@ -1,4 +1,4 @@
-use Rattle.strokes.specs.Laws.Stroked.{accepted, unless-refused, unless-none}
+use Rattle.strokes.proofs.Laws.Stroked.{accepted, unless-refused, unless-none}
 use Rattle.strokes.specs.Stroked.{stroked_of}
 use borrow.Author.Rules.{rules}
 use Rattle.strokes.proofs.stroke_at.Statement.{statement}

@@ -1,5 +1,5 @@
 use native.Mathlib.Omega.{arith}
-use Rattle.listing.specs.Laws.Put.{then}
+use Rattle.listing.proofs.Laws.Put.{then}
 use Rattle.summary.specs.Summary.{sums_lines}
 use borrow.Author.Rules.{rules}
 use Rattle.summary.proofs.put_sums.Goals as goal

@@ -1,5 +1,5 @@
 use native.Mathlib.Omega.{arith}
-use Rattle.listing.specs.Laws.Put.{then}
+use Rattle.listing.proofs.Laws.Put.{then}
 use Rattle.summary.specs.Summary.{report_lines}
 use borrow.Author.Rules.{rules}
 use Rattle.summary.proofs.write_report.Goals as goal

@@ -4,13 +4,13 @@ use native.Mathlib.Omega.{arith}
 use lib.ListN.{length}
 use Rattle.listing.specs.Put.{Put}
 use Rattle.plan.specs.Columns.{table_of}
-use Rattle.plan.specs.Laws.Tables.{count_few}
+use Rattle.plan.proofs.Laws.Tables.{count_few}
 use Rattle.rules.specs.Placement.{placed}
 use Rattle.pen.specs.Strokes.{strokes}
 use Rattle.svg.specs.Drawing.{labels_text}
 use Rattle.svg_labels.specs.Sizes.{label_size}
-use Rattle.printing.specs.Laws.Printing.{label_short}
-use Rattle.svg.specs.Laws.Drawing.{some-count, numbered, labels-start, labels-put, labels-done}
+use Rattle.printing.proofs.Laws.Printing.{label_short}
+use Rattle.svg.proofs.Laws.Drawing.{some-count, numbered, labels-start, labels-put, labels-done}
 use borrow.Author.Rules.{rules}
 use Rattle.svg.proofs.put_labels.Statement.{statement}
 use Rattle.svg.proofs.put_labels.Tie as tie

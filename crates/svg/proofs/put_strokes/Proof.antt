@@ -4,12 +4,12 @@ use native.Mathlib.Omega.{arith}
 use lib.ListN.{length, take}
 use Rattle.listing.specs.Put.{Put}
 use Rattle.plan.specs.Columns.{table_of}
-use Rattle.plan.specs.Laws.Tables.{count_few}
+use Rattle.plan.proofs.Laws.Tables.{count_few}
 use Rattle.rules.specs.Placement.{placed}
 use Rattle.pen.specs.Strokes.{strokes}
 use Rattle.svg.specs.Drawing.{strokes_text}
 use Rattle.svg_strokes.specs.Sizes.{stroke_size}
-use Rattle.svg.specs.Laws.Drawing.{some-count, many_is, within, beyond, numbered, strokes-start, strokes-put, strokes-done}
+use Rattle.svg.proofs.Laws.Drawing.{some-count, many_is, within, beyond, numbered, strokes-start, strokes-put, strokes-done}
 use borrow.Author.Rules.{rules}
 use Rattle.svg.proofs.put_strokes.Statement.{statement}
 use Rattle.svg.proofs.put_strokes.Tie as tie

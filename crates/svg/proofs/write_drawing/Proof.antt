@@ -1,6 +1,6 @@
 use native.Mathlib.Omega.{arith}
-use Rattle.svg_labels.specs.Laws.Labels.{put_as}
-use Rattle.svg.specs.Laws.Drawing.{drawing-refused, drawing_unfair, drawing-sheet, unfair, is-fair}
+use Rattle.svg_labels.proofs.Laws.Labels.{put_as}
+use Rattle.svg.proofs.Laws.Drawing.{drawing-refused, drawing_unfair, drawing-sheet, unfair, is-fair}
 use borrow.Author.Rules.{rules}
 use Rattle.svg.proofs.write_drawing.Statement.{statement}
 use Rattle.svg.proofs.write_drawing.Tie as tie

@@ -1,6 +1,6 @@
 use native.Mathlib.Omega.{arith}
-use Rattle.printing.specs.Laws.Taken.{taken_few, taken_drawable}
-use Rattle.svg.specs.Laws.Drawing.{taken_fit, taken-near, drawn_ours, wide_is, high_is, ours_are, sheet-put}
+use Rattle.printing.proofs.Laws.Taken.{taken_few, taken_drawable}
+use Rattle.svg.proofs.Laws.Drawing.{taken_fit, taken-near, drawn_ours, wide_is, high_is, ours_are, sheet-put}
 use borrow.Author.Rules.{rules}
 use Rattle.svg.proofs.write_sheet.Statement.{statement}
 use Rattle.svg.proofs.write_sheet.Tie as tie

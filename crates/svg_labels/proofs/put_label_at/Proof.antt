@@ -1,6 +1,6 @@
 use native.Mathlib.Omega.{arith}
 use Rattle.svg_labels.specs.Labels.{label_at}
-use Rattle.listing.specs.Laws.Put.{then}
+use Rattle.listing.proofs.Laws.Put.{then}
 use borrow.Author.Rules.{rules}
 use Rattle.svg_labels.proofs.put_label_at.Statement.{statement}
 use Rattle.svg_labels.proofs.put_label_at.Tie as tie

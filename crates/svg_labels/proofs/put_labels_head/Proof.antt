@@ -1,6 +1,6 @@
 use native.Mathlib.Omega.{arith}
 use Rattle.svg_labels.specs.Labels.{labels_head}
-use Rattle.listing.specs.Laws.Put.{then}
+use Rattle.listing.proofs.Laws.Put.{then}
 use borrow.Author.Rules.{rules}
 use Rattle.svg_labels.proofs.put_labels_head.Statement.{statement}
 use Rattle.svg_labels.proofs.put_labels_head.Tie as tie

@@ -4,7 +4,7 @@ use native.Mathlib.Omega.{arith}
 use lib.ListN.{length, take}
 use Rattle.listing.specs.Put.{Put}
 use Rattle.svg_labels.specs.Labels.{escaped}
-use Rattle.svg_labels.specs.Laws.Labels.{letters-start, letters-more, letters-done}
+use Rattle.svg_labels.proofs.Laws.Labels.{letters-start, letters-more, letters-done}
 use borrow.Author.Rules.{rules}
 use Rattle.svg_labels.proofs.put_letters.Statement.{statement}
 use Rattle.svg_labels.proofs.put_letters.Tie as tie

@@ -1,6 +1,6 @@
 use native.Mathlib.Omega.{arith}
 use Rattle.svg_strokes.specs.Strokes.{head_text}
-use Rattle.listing.specs.Laws.Put.{then}
+use Rattle.listing.proofs.Laws.Put.{then}
 use borrow.Author.Rules.{rules}
 use Rattle.svg_strokes.proofs.put_head.Statement.{statement}
 use Rattle.svg_strokes.proofs.put_head.Tie as tie

@@ -1,6 +1,6 @@
 use native.Mathlib.Omega.{arith}
 use Rattle.svg_strokes.specs.Strokes.{point_text}
-use Rattle.listing.specs.Laws.Put.{then}
+use Rattle.listing.proofs.Laws.Put.{then}
 use borrow.Author.Rules.{rules}
 use Rattle.svg_strokes.proofs.put_point.Statement.{statement}
 use Rattle.svg_strokes.proofs.put_point.Tie as tie

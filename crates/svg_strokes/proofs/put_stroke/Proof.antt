@@ -1,8 +1,8 @@
 use mathlib.Core.Path.{sym}
 use native.Mathlib.Omega.{arith}
 use Rattle.svg_strokes.specs.Strokes.{stroke_text}
-use Rattle.listing.specs.Laws.Put.{then}
-use Rattle.svg_strokes.specs.Laws.Strokes.{stroke_as}
+use Rattle.listing.proofs.Laws.Put.{then}
+use Rattle.svg_strokes.proofs.Laws.Strokes.{stroke_as}
 use borrow.Author.Rules.{rules}
 use Rattle.svg_strokes.proofs.put_stroke.Statement.{statement}
 use Rattle.svg_strokes.proofs.put_stroke.Tie as tie

@@ -1,7 +1,7 @@
 use Rattle.sweeping.proofs.Passing.{said-no, said}
 use Rattle.sweeping.proofs.Deciding.{ready, rows, small, decided, kept_alone, kept-clear, kept-beside}
 use borrow.Author.Tests.{not-true, not-false}
-use Rattle.whole.specs.Laws.Says.{holds, fails, is_true}
+use Rattle.whole.proofs.Laws.Says.{holds, fails, is_true}
 use Rattle.sweeping.proofs.all_kept.Statement.{statement}
 use Rattle.sweeping.proofs.all_kept.Tie as tie
 

@@ -2,7 +2,7 @@ use Rattle.sweeping.proofs.Passing.{said_yes, said-no, Upto, upto-none, upto_nex
 use Rattle.looking_sights.specs.Sights.{view_in}
 use Prim.Native.Nat.{◌-◌}
 use borrow.Author.Tests.{not-true, not-false}
-use Rattle.whole.specs.Laws.Says.{holds, fails}
+use Rattle.whole.proofs.Laws.Says.{holds, fails}
 use Rattle.sweeping.specs.Swept.{BesideAt}
 use Rattle.spans.specs.Spans.{at}
 use borrow.Author.Rules.{rules}

@@ -1,6 +1,6 @@
 use Rattle.sweeping.proofs.Passing.{said_yes, said-no, said, from_low, sibling_low, beside_none, beside-one, not_ends, not_starts, overlaps}
 use native.Mathlib.Omega.{arith}
-use Rattle.whole.specs.Laws.Says.{holds, says_le, is_true}
+use Rattle.whole.proofs.Laws.Says.{holds, says_le, is_true}
 use borrow.Author.Rules.{rules}
 use Rattle.sweeping.proofs.beside_at.Statement.{statement}
 use Rattle.sweeping.proofs.beside_at.Tie as tie

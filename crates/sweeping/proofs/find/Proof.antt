@@ -1,5 +1,5 @@
-use Rattle.looking.specs.Laws.Found.{kept-found}
-use Rattle.whole.specs.Laws.Says.{holds}
+use Rattle.looking.proofs.Laws.Found.{kept-found}
+use Rattle.whole.proofs.Laws.Says.{holds}
 use borrow.Author.Rules.{rules}
 use Rattle.sweeping.proofs.find.Statement.{statement}
 use Rattle.sweeping.proofs.find.Tie as tie

@@ -22,7 +22,7 @@ use denote.Slice.{slice_val, mut_slice_vals, mut_slice_Tells}
 use denote.Enum.Laws as EL
 use denote.Struct.Laws as LL
 use Rattle.reporting.specs.Reporting.{Drafts, Reports}
-use Rattle.tallying.specs.Laws.Report.{draft_fits, draft_reports}
+use Rattle.tallying.proofs.Laws.Report.{draft_fits, draft_reports}
 use Rattle.planfile_spec.specs.declared.Reading.{Reading}
 use Rattle.reporting.specs.declared.Draft.{Draft}
 use Rattle.season.specs.declared.Reported.{Reported}

@@ -1,6 +1,6 @@
 use native.Mathlib.Omega.{arith}
-use Rattle.printing.specs.Laws.Printing.{label_short}
-use Rattle.printing.specs.Laws.Taken.{taken_few}
+use Rattle.printing.proofs.Laws.Printing.{label_short}
+use Rattle.printing.proofs.Laws.Taken.{taken_few}
 use borrow.Author.Rules.{rules}
 use Rattle.transcript.proofs.line_at.Statement.{statement}
 use Rattle.transcript.proofs.line_at.Tie as tie

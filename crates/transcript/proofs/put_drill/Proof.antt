@@ -1,6 +1,6 @@
 use native.Mathlib.Omega.{arith}
-use Rattle.printing.specs.Laws.Taken.{put_short}
-use Rattle.transcript.specs.Laws.Transcript.{put_last}
+use Rattle.printing.proofs.Laws.Taken.{put_short}
+use Rattle.transcript.proofs.Laws.Transcript.{put_last}
 use borrow.Author.Rules.{rules}
 use Rattle.transcript.proofs.put_drill.Statement.{statement}
 use Rattle.transcript.proofs.put_drill.Tie as tie

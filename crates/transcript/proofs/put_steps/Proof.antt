@@ -4,7 +4,7 @@ use native.Mathlib.Omega.{arith}
 use lib.ListN.{length, take}
 use Rattle.listing.specs.Put.{Put}
 use Rattle.transcript.specs.Transcript.{steps_text}
-use Rattle.transcript.specs.Laws.Transcript.{put-no-steps, put_step, steps-done}
+use Rattle.transcript.proofs.Laws.Transcript.{put-no-steps, put_step, steps-done}
 use borrow.Author.Rules.{rules}
 use Rattle.transcript.proofs.put_steps.Statement.{statement}
 use Rattle.transcript.proofs.put_steps.Tie as tie

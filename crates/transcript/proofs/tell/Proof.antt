@@ -1,6 +1,6 @@
 use native.Mathlib.Omega.{arith}
-use Rattle.printing.specs.Laws.Taken.{put_short}
-use Rattle.transcript.specs.Laws.Transcript.{in_finished, in_spent, in_wrong, in_full, tell_needs, tell_finished, tell_spent, tell_wrong, tell_full, tell_refused}
+use Rattle.printing.proofs.Laws.Taken.{put_short}
+use Rattle.transcript.proofs.Laws.Transcript.{in_finished, in_spent, in_wrong, in_full, tell_needs, tell_finished, tell_spent, tell_wrong, tell_full, tell_refused}
 use borrow.Author.Rules.{rules}
 use Rattle.transcript.proofs.tell.Statement.{statement}
 use Rattle.transcript.proofs.tell.Tie as tie

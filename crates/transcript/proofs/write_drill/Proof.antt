@@ -1,4 +1,4 @@
-use Rattle.transcript.specs.Laws.Transcript.{answered, answered-done}
+use Rattle.transcript.proofs.Laws.Transcript.{answered, answered-done}
 use borrow.Author.Rules.{rules}
 use Rattle.transcript.proofs.write_drill.Statement.{statement}
 use Rattle.transcript.proofs.write_drill.Tie as tie

@@ -1,6 +1,6 @@
 use native.Mathlib.Omega.{arith}
-use Rattle.printing.specs.Laws.Taken.{put_short}
-use Rattle.transcript.specs.Laws.Transcript.{unread-done}
+use Rattle.printing.proofs.Laws.Taken.{put_short}
+use Rattle.transcript.proofs.Laws.Transcript.{unread-done}
 use borrow.Author.Rules.{rules}
 use Rattle.transcript.proofs.write_transcript.Statement.{statement}
 use Rattle.transcript.proofs.write_transcript.Tie as tie

@@ -3,8 +3,8 @@ use mathlib.Core.Path.{ap, sym, ◌∙◌}
 use Prim.Native.Nat.{◌*◌}
 use Rattle.plan.specs.Columns.{table_of}
 use Rattle.plan.specs.Limits.{scratch_size, most_cells}
-use Rattle.least.specs.Asked.{layout-asks}
-use Rattle.layout.specs.Laws.Laid.{nothing}
+use Rattle.least.proofs.Asked.{layout-asks}
+use Rattle.layout.proofs.Laws.Laid.{nothing}
 use Rattle.plan.specs.declared.Refusal.{Refusal}
 use Rattle.turns.proofs.show.Statement.{statement}
 use Rattle.turns.proofs.show.Tie as tie

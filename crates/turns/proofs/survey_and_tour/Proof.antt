@@ -1,6 +1,6 @@
 use borrow.Author.Rules.{rules}
 use mathlib.Core.Path.{refl}
-use Rattle.layout.specs.Laws.Laid.{fit_lower, fit_flat}
+use Rattle.layout.proofs.Laws.Laid.{fit_lower, fit_flat}
 use Rattle.turns.proofs.survey_and_tour.Statement.{statement}
 use Rattle.turns.proofs.survey_and_tour.Tie as tie
 

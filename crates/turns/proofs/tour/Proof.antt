@@ -3,8 +3,8 @@ use mathlib.Core.Path.{◌≡◌, refl}
 use lib.ListN.{length}
 use native.Mathlib.Omega.{arith}
 use Rattle.plan.specs.Limits.{most_cells}
-use Rattle.marks.specs.Laws.Marks.{Long, walking}
-use Rattle.layout.specs.Laws.Laid.{markable}
+use Rattle.marks.proofs.Laws.Marks.{Long, walking}
+use Rattle.layout.proofs.Laws.Laid.{markable}
 use Rattle.turns.proofs.tour.Statement.{statement}
 use Rattle.turns.proofs.tour.Tie as tie
 

@@ -1,12 +1,12 @@
 use borrow.Author.Rules.{rules}
 use Rattle.walk.specs.Falls.{Falls, fallen}
-use Rattle.walk.specs.Laws.Falls.{Fell, fall}
-use Rattle.walk.specs.Laws.Walked.{Keeps, keeps_start, keeps_turning, keeps_turn, keeps_less}
+use Rattle.walk.proofs.Laws.Falls.{Fell, fall}
+use Rattle.walk.proofs.Laws.Walked.{Keeps, keeps_start, keeps_turning, keeps_turn, keeps_less}
 use Rattle.walk.specs.Opened.{Visiting}
 use Rattle.walk.specs.Turns.{state_of}
-use Rattle.walk.specs.Laws.Turns.{stack_of-length}
+use Rattle.walk.proofs.Laws.Turns.{stack_of-length}
 use Rattle.walk.specs.Machine.{Chart, chart, State}
-use Rattle.walk.specs.Laws.Machine.{most_turns, turns}
+use Rattle.walk.proofs.Laws.Machine.{most_turns, turns}
 use Rattle.joining.specs.Joining.{memory_of}
 use lib.ListN.{length}
 use mathlib.Core.Path.{◌≡◌, refl, ◌∙◌}

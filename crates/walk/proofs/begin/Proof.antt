@@ -1,7 +1,7 @@
 use borrow.Author.Rules.{rules}
 use mathlib.Core.Path.{refl}
 use Rattle.walk.specs.Turns.{stack_of}
-use Rattle.walk.specs.Laws.Visits.{visiting_start}
+use Rattle.walk.proofs.Laws.Visits.{visiting_start}
 use Rattle.walk.proofs.begin.Statement.{statement}
 use Rattle.walk.proofs.begin.Tie as tie
 

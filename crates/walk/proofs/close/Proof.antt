@@ -2,8 +2,8 @@ use borrow.Author.Rules.{rules}
 use Prim.Native.Nat.{◌*◌}
 use mathlib.Core.Path.{refl}
 use Rattle.walk.specs.Machine.{Chart, chart}
-use Rattle.walk.specs.Laws.Turns.{child_ready, close_found}
-use Rattle.walk.specs.Laws.Stretch.{only-stretch}
+use Rattle.walk.proofs.Laws.Turns.{child_ready, close_found}
+use Rattle.walk.proofs.Laws.Stretch.{only-stretch}
 use Rattle.walk.proofs.Parts.{part-seen, part-rest}
 use Rattle.walk.proofs.close.Statement.{statement}
 use Rattle.walk.proofs.close.Tie as tie

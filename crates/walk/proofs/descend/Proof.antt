@@ -1,5 +1,5 @@
 use Rattle.walk.specs.Falls.{fallen}
-use Rattle.walk.specs.Laws.Falls.{Falling, falling_room, falling_on, falling_done, visiting_down}
+use Rattle.walk.proofs.Laws.Falls.{Falling, falling_room, falling_on, falling_done, visiting_down}
 use Rattle.walk.specs.Turns.{stack_of}
 use lib.ListN.{length, length-set}
 use native.Mathlib.Omega.{arith}

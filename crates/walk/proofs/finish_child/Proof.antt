@@ -1,6 +1,6 @@
 use borrow.Author.Rules.{rules}
 use Rattle.joining.specs.Joining.{memory_of}
-use Rattle.walk.specs.Laws.Turns.{settle_ready, finish-found}
+use Rattle.walk.proofs.Laws.Turns.{settle_ready, finish-found}
 use Rattle.walk.proofs.finish_child.Statement.{statement}
 use Rattle.walk.proofs.finish_child.Tie as tie
 

@@ -1,6 +1,6 @@
 use borrow.Author.Rules.{rules}
 use Rattle.joining.specs.Joining.{memory_of}
-use Rattle.walk.specs.Laws.Turns.{root_found}
+use Rattle.walk.proofs.Laws.Turns.{root_found}
 use Rattle.walk.proofs.finish_root.Statement.{statement}
 use Rattle.walk.proofs.finish_root.Tie as tie
 

@@ -5,7 +5,7 @@ use native.Mathlib.Omega.{arith}
 use lib.ListN.{get_or}
 use Rattle.joining.specs.Joining.{memory_of}
 use Rattle.walk.specs.Machine.{Chart, chart, Closing, Ending}
-use Rattle.walk.specs.Laws.Turns.{turn_close, turn_end, shut_two, shut_one, turn_some}
+use Rattle.walk.proofs.Laws.Turns.{turn_close, turn_end, shut_two, shut_one, turn_some}
 use Rattle.walk.proofs.shut.Statement.{statement}
 use Rattle.walk.proofs.shut.Tie as tie
 

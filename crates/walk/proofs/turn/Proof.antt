@@ -2,7 +2,7 @@ use borrow.Author.Rules.{rules}
 use mathlib.Core.Path.{◌≡◌}
 use Prim.Native.Nat.{◌+◌, ◌-◌}
 use native.Mathlib.Omega.{arith}
-use Rattle.walk.specs.Laws.Falls.{turn_found, visiting_turn}
+use Rattle.walk.proofs.Laws.Falls.{turn_found, visiting_turn}
 use Rattle.walk.specs.Turns.{state_of}
 use Rattle.walk.specs.Machine.{Chart, chart, Turning}
 use Rattle.walk.proofs.turn.Statement.{statement}

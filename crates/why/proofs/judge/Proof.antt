@@ -8,7 +8,7 @@ use denote.Enum.Declared.{tag_of}
 use Rattle.checker.specs.contracts.Checked as declared
 use Rattle.checker.specs.declared.Checked.{Checked}
 use Rattle.checker.specs.declared.Checked.TheVariants.{Kept}
-use Rattle.why.specs.Laws.Judges.{kept-asked, kept_judged, other_judged}
+use Rattle.why.proofs.Laws.Judges.{kept-asked, kept_judged, other_judged}
 use borrow.Author.Rules.{rules}
 use Rattle.why.proofs.judge.Statement.{statement}
 use Rattle.why.proofs.judge.Tie as tie

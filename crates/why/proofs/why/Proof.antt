@@ -1,4 +1,4 @@
-use Rattle.why.specs.Laws.Shows.{is-refused, is-asked, is-shown}
+use Rattle.why.proofs.Laws.Shows.{is-refused, is-asked, is-shown}
 use borrow.Author.Rules.{rules}
 use Rattle.why.proofs.why.Statement.{statement}
 use Rattle.why.proofs.why.Tie as tie

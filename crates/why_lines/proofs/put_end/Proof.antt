@@ -1,5 +1,5 @@
-use Rattle.why_lines.specs.Laws.Printed.{named}
-use Rattle.why_lines.specs.Laws.Steps.{end-named}
+use Rattle.why_lines.proofs.Laws.Printed.{named}
+use Rattle.why_lines.proofs.Laws.Steps.{end-named}
 use borrow.Author.Rules.{rules}
 use Rattle.why_lines.proofs.put_end.Statement.{statement}
 use Rattle.why_lines.proofs.put_end.Tie as tie

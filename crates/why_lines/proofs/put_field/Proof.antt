@@ -1,5 +1,5 @@
 use native.Mathlib.Omega.{arith}
-use Rattle.listing.specs.Laws.Put.{then}
+use Rattle.listing.proofs.Laws.Put.{then}
 use borrow.Author.Rules.{rules}
 use Rattle.why_lines.proofs.put_field.Statement.{statement}
 use Rattle.why_lines.proofs.put_field.Tie as tie

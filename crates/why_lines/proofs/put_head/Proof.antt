@@ -1,6 +1,6 @@
 use native.Mathlib.Omega.{arith}
-use Rattle.listing.specs.Laws.Put.{then}
-use Rattle.why_lines.specs.Laws.Printed.{head_line-is, named}
+use Rattle.listing.proofs.Laws.Put.{then}
+use Rattle.why_lines.proofs.Laws.Printed.{head_line-is, named}
 use borrow.Author.Rules.{rules}
 use Rattle.why_lines.proofs.put_head.Statement.{statement}
 use Rattle.why_lines.proofs.put_head.Tie as tie

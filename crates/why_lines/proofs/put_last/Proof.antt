@@ -1,6 +1,6 @@
 use native.Mathlib.Omega.{arith}
-use Rattle.listing.specs.Laws.Put.{then}
-use Rattle.why_lines.specs.Laws.Printed.{last_line-is, named}
+use Rattle.listing.proofs.Laws.Put.{then}
+use Rattle.why_lines.proofs.Laws.Printed.{last_line-is, named}
 use borrow.Author.Rules.{rules}
 use Rattle.why_lines.proofs.put_last.Statement.{statement}
 use Rattle.why_lines.proofs.put_last.Tie as tie

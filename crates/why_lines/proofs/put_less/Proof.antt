@@ -1,5 +1,5 @@
 use native.Mathlib.Omega.{arith}
-use Rattle.why_lines.specs.Laws.Printed.{less_put, more-put}
+use Rattle.why_lines.proofs.Laws.Printed.{less_put, more-put}
 use borrow.Author.Rules.{rules}
 use Rattle.why_lines.proofs.put_less.Statement.{statement}
 use Rattle.why_lines.proofs.put_less.Tie as tie

@@ -1,5 +1,5 @@
-use Rattle.why_lines.specs.Laws.Printed.{named}
-use Rattle.why_lines.specs.Laws.Steps.{step-named}
+use Rattle.why_lines.proofs.Laws.Printed.{named}
+use Rattle.why_lines.proofs.Laws.Steps.{step-named}
 use borrow.Author.Rules.{rules}
 use Rattle.why_lines.proofs.put_step.Statement.{statement}
 use Rattle.why_lines.proofs.put_step.Tie as tie

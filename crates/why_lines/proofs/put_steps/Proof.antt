@@ -4,7 +4,7 @@ use Prim.Native.Nat.{◌+◌, ◌-◌, ◌*◌, ◌≤◌}
 use lib.ListN.{length}
 use Rattle.listing.specs.Put.{Put}
 use Rattle.why_lines.specs.Steps.{link_size, steps_text}
-use Rattle.why_lines.specs.Laws.Steps.{put-no-steps, put_step, put-steps-done}
+use Rattle.why_lines.proofs.Laws.Steps.{put-no-steps, put_step, put-steps-done}
 use borrow.Author.Rules.{rules}
 use Rattle.why_lines.proofs.put_steps.Statement.{statement}
 use Rattle.why_lines.proofs.put_steps.Tie as tie

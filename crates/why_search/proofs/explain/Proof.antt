@@ -1,6 +1,6 @@
 use Rattle.why_search.proofs.Explaining.{explains_none, count_less, cells-inside, explains_found}
 use native.Mathlib.Omega.{arith}
-use Rattle.plan.specs.Laws.Tables.{count-some, count_few}
+use Rattle.plan.proofs.Laws.Tables.{count-some, count_few}
 use borrow.Author.Rules.{rules}
 use Rattle.why_search.proofs.explain.Statement.{statement}
 use Rattle.why_search.proofs.explain.Tie as tie

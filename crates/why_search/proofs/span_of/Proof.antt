@@ -1,4 +1,4 @@
-use Rattle.why_search.specs.Laws.Extremes.{extremes_start, extremes_turn, extremes_end}
+use Rattle.why_search.proofs.Laws.Extremes.{extremes_start, extremes_turn, extremes_end}
 use Prim.Native.Nat.{◌-◌, ◌≤◌}
 use native.Mathlib.Omega.{arith}
 use Rattle.plan.specs.Limits.{most_cells}

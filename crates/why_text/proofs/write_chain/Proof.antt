@@ -1,6 +1,6 @@
 use native.Mathlib.Omega.{arith}
-use Rattle.plan.specs.Laws.Tables.{count_few}
-use Rattle.why_text.specs.Laws.Text.{few, x_small, all-put}
+use Rattle.plan.proofs.Laws.Tables.{count_few}
+use Rattle.why_text.proofs.Laws.Text.{few, x_small, all-put}
 use borrow.Author.Rules.{rules}
 use Rattle.why_text.proofs.write_chain.Statement.{statement}
 use Rattle.why_text.proofs.write_chain.Tie as tie

@@ -1,6 +1,6 @@
 use native.Mathlib.Omega.{arith}
-use Rattle.printing.specs.Laws.Taken.{taken_drawable}
-use Rattle.why_text.specs.Laws.Text.{plan-asked, plan_reasoned, plan-text}
+use Rattle.printing.proofs.Laws.Taken.{taken_drawable}
+use Rattle.why_text.proofs.Laws.Text.{plan-asked, plan_reasoned, plan-text}
 use borrow.Author.Rules.{rules}
 use Rattle.why_text.proofs.write_plan.Statement.{statement}
 use Rattle.why_text.proofs.write_plan.Tie as tie

@@ -1,5 +1,5 @@
 use native.Mathlib.Omega.{arith}
-use Rattle.why_text.specs.Laws.Text.{refusal-text}
+use Rattle.why_text.proofs.Laws.Text.{refusal-text}
 use borrow.Author.Rules.{rules}
 use Rattle.why_text.proofs.write_reason.Statement.{statement}
 use Rattle.why_text.proofs.write_reason.Tie as tie

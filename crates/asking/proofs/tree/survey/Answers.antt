@@ -6,7 +6,7 @@ use lib.ListN.{get_or, replicate, get_or-replicate, length-set}
 use Rattle.plan.specs.Limits.{most_cells}
 use Rattle.plan.specs.Plan.{level, row}
 use Rattle.plan.specs.Columns.{table}
-use Rattle.plan.specs.Laws.Trees.{parent_few, seen, seen_most, seen_more, seen-children, level_small, level_value, level-more, row_value, row_more, row_small, first-only}
+use Rattle.plan.proofs.Laws.Trees.{parent_few, seen, seen_most, seen_more, seen-children, level_small, level_value, level-more, row_value, row_more, row_small, first-only}
 use Rattle.asking.proofs.tree.survey.Goals as goal
 
 pub loop-c-smaller : goal.loop-c-smaller

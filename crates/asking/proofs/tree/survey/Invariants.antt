@@ -5,7 +5,7 @@ use lib.ListN.{length, get_or}
 use Rattle.plan.specs.Limits.{most_cells}
 use Rattle.plan.specs.Plan.{level, row}
 use Rattle.plan.specs.Columns.{table}
-use Rattle.plan.specs.Laws.Trees.{seen}
+use Rattle.plan.proofs.Laws.Trees.{seen}
 use Rattle.asking.proofs.tree.survey.Given as goal
 
 abbrev pub invariant-loop-c : goal.invariant-loop-c

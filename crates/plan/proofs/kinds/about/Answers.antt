@@ -1,6 +1,6 @@
 use mathlib.Core.Path.{◌∙◌, sym}
 use Rattle.plan.specs.Kinds.{about}
-use Rattle.plan.specs.Laws.Kinds.{about-none}
+use Rattle.plan.proofs.Laws.Kinds.{about-none}
 use borrow.Author.Rules.{rules}
 use Rattle.plan.proofs.kinds.about.Goals as goal
 

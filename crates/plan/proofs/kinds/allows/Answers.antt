@@ -1,4 +1,4 @@
-use Rattle.plan.specs.Laws.Kinds.{allows-known}
+use Rattle.plan.proofs.Laws.Kinds.{allows-known}
 use Rattle.plan.specs.Kinds.{allows, about}
 use mathlib.Core.Path.{◌∙◌, sym}
 use borrow.Author.Rules.{rules}

@@ -1,5 +1,5 @@
 use mathlib.Core.Path.{sym}
-use Rattle.plan.specs.Laws.Kinds.{bordered-known}
+use Rattle.plan.proofs.Laws.Kinds.{bordered-known}
 use Rattle.plan.specs.Kinds.{bordered, about}
 use borrow.Author.Rules.{rules}
 use Rattle.plan.proofs.kinds.bordered.Goals as goal

@@ -1,4 +1,4 @@
-use Rattle.planfile_spec.specs.Laws.Examined.{zero_of, header_read, room-read, count-read, body_is, plan-examined, file-passed, header_stops, examined-refused}
+use Rattle.planfile_spec.proofs.Laws.Examined.{zero_of, header_read, room-read, count-read, body_is, plan-examined, file-passed, header_stops, examined-refused}
 use native.Mathlib.Omega.{arith}
 use mathlib.Core.Path.{◌∙◌}
 use borrow.Author.Rules.{rules}

@@ -1,5 +1,5 @@
 use mathlib.Core.Path.{◌∙◌}
-use Rattle.planfile_spec.specs.Laws.Format.{read_old}
+use Rattle.planfile_spec.proofs.Laws.Format.{read_old}
 use borrow.Author.Rules.{rules}
 use Rattle.planfile_cursor.proofs.Cursor.old_entry.Goals as goal
 

@@ -1,5 +1,5 @@
 use native.Mathlib.Omega.{arith}
-use Rattle.planfile_spec.specs.Laws.Format.{read_wide}
+use Rattle.planfile_spec.proofs.Laws.Format.{read_wide}
 use Rattle.planfile_cursor.proofs.Cursor.wide_entry.Goals as goal
 
 pub returns : goal.returns

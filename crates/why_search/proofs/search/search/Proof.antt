@@ -1,4 +1,4 @@
-use Rattle.why_search.specs.Laws.Explained.{Searching, searching_starts, searching_turns, searching_stops, searching_ends}
+use Rattle.why_search.proofs.Laws.Explained.{Searching, searching_starts, searching_turns, searching_stops, searching_ends}
 use Prim.Native.Nat.{◌+◌, ◌-◌, ◌≤◌}
 use native.Mathlib.Omega.{arith}
 use Rattle.plan.specs.Limits.{most_cells}

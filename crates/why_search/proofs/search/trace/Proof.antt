@@ -1,8 +1,8 @@
-use Rattle.why_search.specs.Laws.Explained.{Tracing, tracing_starts, tracing_turns, tracing_ends, tracing_holds}
+use Rattle.why_search.proofs.Laws.Explained.{Tracing, tracing_starts, tracing_turns, tracing_ends, tracing_holds}
 use Prim.Native.Nat.{◌≤◌, ◌<◌}
 use native.Mathlib.Omega.{arith}
 use Rattle.plan.specs.Limits.{most_cells}
-use Rattle.spans.specs.Laws.Columns.{all, all-long}
+use Rattle.spans.proofs.Laws.Columns.{all, all-long}
 use Rattle.looking_sights.specs.Sights.{view_in}
 use borrow.Author.Rules.{rules}
 use Rattle.why_search.proofs.search.trace.Statement.{statement}

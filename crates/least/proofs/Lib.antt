@@ -1,0 +1,4 @@
+pub mod Laws
+pub mod Asked
+pub mod Constraints
+pub mod Theorems
