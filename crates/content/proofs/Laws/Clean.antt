@@ -111,7 +111,7 @@ records_bytes-length form (r ∷ rs) = length-append (record_bytes form r) (reco
 pub entries-length : (s : ℕ) (is : List Item) → length (entries s is) ≡ length is
 unfolding entries
 entries-length s [] = refl
-entries-length s (i ∷ is) = ap suc (entries-length _ is)
+entries-length s (i ∷ is) = ap suc (entries-length (s + length i.text) is)
 
 -- ---- the form
 pub mark-form : (form : Form) → form_of (mark_of form) ≡ form
@@ -124,7 +124,7 @@ unfolding all_narrow narrow entries AllRanked Ranked record_of
 narrow-ranked s [] h = tt
 narrow-ranked s (i ∷ is) h =
     let n : T (narrow i) = and_left (narrow i) (all_narrow is) h in
-    (eqb→eq i.cell.rank 0 (and_right (leb i.cell.width old_width) (eqb i.cell.rank 0) n), narrow-ranked _ is (and_right (narrow i) (all_narrow is) h))
+    (eqb→eq i.cell.rank 0 (and_right (leb i.cell.width old_width) (eqb i.cell.rank 0) n), narrow-ranked (s + length i.text) is (and_right (narrow i) (all_narrow is) h))
 
 wide-ranked : (rs : List Record) → AllRanked Wide rs
 unfolding AllRanked Ranked
@@ -172,7 +172,7 @@ items-here letters pre post (i ∷ is) s e q =
 pub bare-entries : (s : ℕ) (is : List Item) → cells_of (entries s is) ≡ map (λ (i : Item). i.cell) is
 unfolding entries cells_of record_of bare
 bare-entries s [] = refl
-bare-entries s (i ∷ is) = ap (λ (x : List Cell). i.cell ∷ x) (bare-entries _ is)
+bare-entries s (i ∷ is) = ap (λ (x : List Cell). i.cell ∷ x) (bare-entries (s + length i.text) is)
 
 -- ---- the clean copy
 module _ (c : Content) where
