@@ -88,7 +88,7 @@ other-rows : (room c s : ℕ) (seen : List ℕ) (is : List Item) → AllWritable
 unfolding rows.rows_refusal entries record_of
 other-rows room c s seen [] h = other_none
 other-rows room c s seen (i ∷ is) h =
-    other_or _ _ (other_row room c i.cell.parent i.cell.kind i.cell.width i.cell.depth (length i.text) s h.0.is_lower h.0.is_Known)
+    other_or _ _ (other_row room c i.cell.parent i.cell.kind i.cell.width i.cell.depth (length i.text) s h.0.is_lower h.0.is_known)
     (other-rows room (suc c) (s + length i.text) (seen ++ (level_under seen i.cell.parent ∷ [])) is h.1)
 
 labels-fine : (c : ℕ) (seen : List ℕ) (is : List Item) → AllWritable c seen is → T (every letter (labels is))
