@@ -11,7 +11,7 @@ use Rattle.whole.proofs.Laws.Whole.{whole, neg-plus, neg-minus}
 use Rattle.whole.specs.Bias.{bias}
 use Rattle.whole.specs.Range.{InRange}
 use Rattle.plan.specs.Limits.{farthest}
-use Rattle.plan.specs.Plan.{Is, parent, box_depth}
+use Rattle.plan.specs.Plan.{Is, box_depth}
 use Rattle.plan.proofs.Laws.Plan.{children_few}
 use Rattle.plan.specs.Fit.{Fit}
 use Rattle.plan.specs.Near.{Near}

@@ -1,4 +1,6 @@
 // What the rules read of each cell, made of a table and a placement, and read back.
+#![tactic(auto)]
+
 ghost use Rattle.std.specs.Prelude.{◌≡◌, ◌+◌, ◌*◌, ◌<◌, length, get_or};
 ghost use Rattle.plan.specs.Limits.{most_cells};
 ghost use Rattle.plan.specs.Columns.{«table_of»};
