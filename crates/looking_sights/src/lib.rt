@@ -17,7 +17,7 @@ use plan::Columns;
 use spans::{lay, measure, number, sink};
 
 // The numbers of one cell, coordinates moved up so that none is negative.
-#[derive(Drop)]
+#[derive(Clone, Copy)]
 pub struct View {
     pub parent: u32,
     pub nth: u32,
