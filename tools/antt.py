@@ -4,6 +4,8 @@ import re
 
 HEAD = re.compile(r'^(?P<flags>(?:(?:pub|abbrev|unfoldable)\s+)*)(?:(?P<type>record|data|ruleset)\s+(?P<tname>[^\s(){}:=]+)|(?P<name>[^\s(){}:]+)(?:\s+\{ℓ[^}]*\})?\s+:(?:\s|$))')
 TOKEN = re.compile(r'«[^»]*»|\.?[^\s(){}\[\],;.«»⌜⌝\\]+|\.|\[\]')
+# pages of statements, which stand in proofs/ beside the laws that prove them
+PAGES = {'Asked', 'Calls', 'Constraints', 'Halves', 'Listed', 'Promised', 'Stretch', 'Theorems', 'Visits', 'Walks', 'Why'}
 USE = re.compile(r'^(?P<ghost>ghost |unfoldable pub |pub )?use (?P<mod>[^\s{;]+?)(?:\.\{(?P<names>[^}]*)\})?(?: as (?P<alias>[^\s;]+))?(?P<semi>;?)\s*$')
 
 
@@ -244,22 +246,34 @@ def binders(d):
 def bare(name):
     """the tokens that show that an imported name is used"""
     name = name.split(' as ')[-1].strip('«»')
-    if '_' in name and not re.match(r'^[A-Za-z]\w*$', name):
-        return [p for p in name.split('_') if p]
+    if '◌' in name:
+        return [p for p in name.split('◌') if p]
     return [name]
 
 
 def spec_module(mod):
-    """(crate, 'File' or 'laws.File') of a module of one of our crates' specs, else None"""
-    m = re.match(r'^Rattle·([a-z_0-9]+)(?:·specs)?\.specs\.(.+)$', mod)
-    if not m or m[2].startswith('declared'):
+    """(crate, 'File' or 'Laws.File') of a module of one of our crates that holds definitions, laws or statements, else None"""
+    m = re.match(r'^Rattle\.([a-z_0-9]+)\.(specs|proofs)\.(.+)$', mod)
+    if not m or m[1] == 'std' or m[3].startswith(('declared', 'contracts')):
         return None
-    return m[1], m[2]
+    if m[2] == 'proofs' and not m[3].startswith('Laws.') and m[3] not in PAGES:
+        return None
+    return m[1], m[3]
+
+
+def stated(parts):
+    """the module's name below specs/, or that of a law or a page of statements below proofs/, of a file's path from crates/ on; else None"""
+    if parts[-1] in ('Lib.antt', 'Laws.antt'):
+        return None
+    name = '.'.join(parts[2:])[:-5]
+    if parts[1] == 'specs' or parts[1] == 'proofs' and (parts[2] == 'Laws' or name in PAGES):
+        return name
+    return None
 
 
 def antt_files(root):
     for base, dirs, files in os.walk(os.path.join(root, 'crates')):
-        dirs.sort()
+        dirs[:] = sorted(d for d in dirs if d != 'out')
         for f in sorted(files):
             if f.endswith('.antt'):
                 yield os.path.join(base, f)
@@ -267,10 +281,33 @@ def antt_files(root):
 
 def rt_files(root):
     for base, dirs, files in os.walk(os.path.join(root, 'crates')):
-        dirs.sort()
+        dirs[:] = sorted(d for d in dirs if d != 'out')
         for f in sorted(files):
             if f.endswith('.rt'):
                 yield os.path.join(base, f)
+
+
+
+CLAUSE = re.compile(r'(?:requires|ensures|ghost)\*?(?:\s+\w+:?)?\s*$')
+
+
+def body_at(text):
+    """where the brace of a function's body stands, or the end of a function without one: a clause's braces are passed over"""
+    i = 0
+    while i < len(text):
+        if text[i] == ';':
+            return i
+        if text[i] == '{':
+            if not CLAUSE.search(text, 0, i):
+                return i
+            depth = 0
+            while True:
+                depth += (text[i] == '{') - (text[i] == '}')
+                if not depth:
+                    break
+                i += 1
+        i += 1
+    return len(text)
 
 
 def rt_functions(text):
@@ -289,10 +326,10 @@ def rt_functions(text):
             i += 1
             continue
         start = i
-        if not lines[i].endswith(' {') :
-            while lines[i] not in (m[1] + '{', m[1] + ') {') and not lines[i].endswith(' {}'):
-                i += 1
-        yield owner * bool(m[1]) + m[3], bool(m[2]), '\n'.join(lines[start:i + (1 if start == i else 0)])
+        rest = '\n'.join(lines[i:])
+        at = body_at(rest)
+        i += rest.count('\n', 0, at)
+        yield owner * bool(m[1]) + m[3], bool(m[2]), rest[:at].rstrip() + (' {' if start == i else '')
         i += 1
 
 
@@ -306,9 +343,9 @@ def load(root):
     for p in antt_files(root):
         rel = os.path.relpath(p, os.path.join(root, 'crates'))
         parts = rel.split('/')
-        if parts[1] != 'specs' or parts[-1] == 'Lib.antt' or rel.endswith('specs/laws.antt'):
+        name = stated(parts)
+        if name is None:
             continue
-        name = '.'.join(parts[2:])[:-5]
         files[(parts[0], name)] = File(p, open(p).read())
     return files
 
@@ -351,12 +388,12 @@ class Graph:
             for n in u['names'] or []:
                 d = self.find(sm + (n.strip('«»'),))
                 if d is not None:
-                    for b in [''.join(bare(n))] if '_' in n else [n.strip('«»')]:
+                    for b in [''.join(bare(n))] if '◌' in n else [n.strip('«»')]:
                         names[b] = d
         if key:
             for d in self.files[key].decls():
                 for n in d.exported():
-                    names[n if '_' not in n else n.replace('_', '')] = d
+                    names[n.replace('◌', '')] = d
         return names, aliases
 
     def refs(self, text, scope, bound=()):

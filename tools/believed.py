@@ -5,7 +5,7 @@
     tools/believed.py --write    put it into docs/PROOF.md, between its two marks
     tools/believed.py --check    exit 1 where the page is out of date, or a file directly under specs/ holds a proof
 
-A file directly under a crate's specs/ holds definitions, and statements whose proof is one line (a name of specs/laws/, or a computation). What a
+A file directly under a crate's specs/ holds definitions, and statements whose proof is one line (a name of proofs/Laws/, or a computation). What a
 reader must believe is each definition that is reached from what a user relies on: the contracts of `capi` and of the functions that `engine` re-exports, and the statements. Reached
 means named there, or named in a definition that is reached. The walk's statements (E5, and the stretch of rows that is written) are listed apart: they reach the machine, which nothing else does.
 Listed apart too is what is reached only from the contracts of the functions that the programs (crates with a src/main.rt, the tests aside) call.
@@ -27,7 +27,7 @@ WALK = {'Visits', 'Walks', 'Stretch'}  # the files of the statements about the w
 TOLD = {
     ('finishing_cell', 'Made', 'made'): (
         {'Holds', 'StepAt'}, 'the numbers of both scratches after k steps, of a table, an allowance and k: what the calls of E9 hand on from one to the next',
-        ['start-begins', 'after-exists', 'after-step', 'after-any', 'after-holds', 'after-told', 'after-answers', 'after-done', 'after-writes', 'after-waits', 'reach-final', 'reach-waits']),
+        ['start-begins', 'after_exists', 'after-step', 'after_any', 'after_holds', 'after-told', 'after_answers', 'after-done', 'after_writes', 'after_waits', 'reach-final', 'reach_waits']),
 }
 
 
@@ -67,7 +67,7 @@ def one_line(d):
 
 def main():
     g = Graph(ROOT)
-    plain = {k: f for k, f in g.files.items() if not k[1].startswith('laws.')}
+    plain = {k: f for k, f in g.files.items() if not k[1].startswith('Laws.')}
     stated, walk, proofs = set(), set(), []
     for key, f in plain.items():
         for d in f.decls():
@@ -89,7 +89,7 @@ def main():
     def files(found):
         return sorted({d.key for d in found if (d.is_def or d in stated or d in walk) and d not in told})
 
-    misplaced = [f'{k[0]}/specs/laws/{k[1][5:]}.antt' for k in files(first | second | third) if k[1].startswith('laws.')]
+    misplaced = [f'{k[0]}/proofs/Laws/{k[1][5:]}.antt' for k in files(first | second | third) if k[1].startswith('Laws.')]
     main_, more = [k for k in files(first) if k in plain], []
     more = [k for k in files(second) if k in plain and k not in main_]
     printed = [k for k in files(third) if k in plain and k not in main_ and k not in more]

@@ -1,5 +1,5 @@
 #!/usr/bin/env python3
-"""Laws and definitions that nothing needs: neither a proof in proofs/, nor a contract, nor a statement directly under specs/, nor what one of these needs.
+"""Laws and definitions that nothing needs: neither a proof in proofs/, nor a contract, nor a statement on a page of proofs/, nor what one of these needs.
 
     tools/dead.py          print them, file by file; exit 1 if there are any
     tools/dead.py --fix NAME ..   take these of them out (then tools/unused.py --fix, rt fmt, rt check)
@@ -10,12 +10,12 @@ A row is a place to look: a law that says what a definition means, or that a mus
 import os
 import sys
 sys.path.insert(0, os.path.dirname(os.path.abspath(__file__)))
-from antt import Graph, antt_files, rt_files, Module
+from antt import Graph, antt_files, rt_files, stated, Module
 
 ROOT = os.path.dirname(os.path.dirname(os.path.abspath(__file__)))
 # laws that hold a definition fast in its own crate: a must-fail edit is refused by them
-KEEP = {'separation-least', 'appointed-half', 'appointed-choice', 'appointed-within', 'rows-plan', 'value-decimal', 'only-stretch', 'one-no', 'read-then-label', 'read-then-layout',
-        'child-before', 'child-tie', 'children-level', 'children-only', 'limits', 'no-nan', 'edges', 'left-least', 'left-reached', 'rows', 'unfinished-spelled', 'modes-told'}
+KEEP = {'separation-least', 'appointed-half', 'appointed_choice', 'appointed-within', 'rows-plan', 'value_decimal', 'only-stretch', 'one-no', 'read-then-label', 'read-then-layout',
+        'child-before', 'child_tie', 'children-level', 'children-only', 'limits', 'no-nan', 'edges', 'left-least', 'left-reached', 'rows', 'unfinished_spelled', 'modes_told'}
 
 
 def main():
@@ -29,7 +29,7 @@ def main():
                 todo.append(d)
     for path in list(antt_files(ROOT)) + list(rt_files(ROOT)):
         parts = os.path.relpath(path, os.path.join(ROOT, 'crates')).split('/')
-        if parts[1] == 'specs':
+        if parts[1] == 'specs' or stated(parts) is not None:
             continue
         text = open(path).read()
         lines = text.split('\n')
@@ -37,7 +37,7 @@ def main():
         need(g.refs('\n'.join(l for l in lines if not l.startswith(('use ', 'ghost use '))), scope))
     for key, f in g.files.items():
         for d in f.decls():
-            if not key[1].startswith('laws.') and not d.is_def or d.name in KEEP:
+            if not key[1].startswith('Laws.') and not d.is_def or d.name in KEEP:
                 need({d})
     while todo:
         d = todo.pop()
@@ -49,7 +49,7 @@ def main():
         gone = [d for d in f.decls() if d not in live and d.type != 'mod' and ('--fix' not in sys.argv or d.name in sys.argv)]
         if gone:
             total += len(gone)
-            print(f'{key[0]}/specs/{key[1].replace(".", "/")}.antt: ' + ', '.join(d.name for d in gone))
+            print(os.path.relpath(f.path, os.path.join(ROOT, 'crates')) + ': ' + ', '.join(d.name for d in gone))
             if '--fix' in sys.argv:
                 def left(tree):
                     out = []
@@ -67,7 +67,7 @@ def main():
                     continue
                 os.remove(f.path)
                 folder, name = os.path.split(f.path)
-                lib = folder + '.antt' if os.path.basename(folder) == 'laws' else os.path.join(folder, 'Lib.antt')
+                lib = folder + '.antt' if os.path.basename(folder) == 'Laws' else os.path.join(folder, 'Lib.antt')
                 mods = [l for l in open(lib).read().split('\n') if l != f'pub mod {name[:-5]}']
                 open(lib, 'w').write('\n'.join(mods))
     print(f'{total} laws and definitions that nothing needs')

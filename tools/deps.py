@@ -4,7 +4,7 @@
     tools/deps.py --check    exit 1 where a line of crates.txt names a crate too many or too few
     tools/deps.py --write    put the right names into crates.txt; comments and the order of the lines stay
 
-A file of antt names a crate by its facade, `Rattle·NAME.`, a file of Rattle also by a path, `NAME::`.
+A file of antt names a crate by its facade, `Rattle.NAME.`, a file of Rattle also by a path, `NAME::`.
 """
 import glob
 import os
@@ -12,7 +12,7 @@ import re
 import sys
 
 ROOT = os.path.dirname(os.path.dirname(os.path.abspath(__file__)))
-KIT = ('check', 'io', 'libc', 'os', 'bytes')  # libraries of the toolchain
+KIT = ('io', 'anyhow', 'thiserror')  # libraries of the toolchain
 LINE = re.compile(r'^([a-z_0-9]+):(.*)$')
 
 
@@ -25,10 +25,10 @@ def text_of(path):
 def named(crate, crates):
     """The crates that the files of this one name."""
     found = set()
-    for path in glob.glob(os.path.join(ROOT, 'crates', crate, '**', '*'), recursive=True):
+    for path in [p for d in ('src', 'specs', 'proofs') for p in glob.glob(os.path.join(ROOT, 'crates', crate, d, '**', '*'), recursive=True)]:
         if path.endswith(('.rt', '.antt')):
             text = text_of(path)
-            found |= set(re.findall(r'Rattle·([a-z_0-9]+)\.', text))
+            found |= set(re.findall(r'Rattle\.([a-z_0-9]+)\.', text))
             if path.endswith('.rt'):
                 found |= set(re.findall(r'(?<![\w:])([a-z_0-9]+)::', text))
     return found & (crates | set(KIT)) - {crate}

@@ -13,14 +13,14 @@ import tempfile
 from pathlib import Path
 
 ROOT = Path(__file__).resolve().parent.parent
-PLAN, PLAN_LAWS = "plan/specs/Plan.antt", "plan/specs/laws/Plan.antt"
-PLACEMENT, RULES, EXTENTS = "rules/specs/Placement.antt", "rules/specs/Rules.antt", "rules/specs/laws/Extents.antt"
+PLAN, PLAN_LAWS = "plan/specs/Plan.antt", "plan/proofs/Laws/Plan.antt"
+PLACEMENT, RULES, EXTENTS = "rules/specs/Placement.antt", "rules/specs/Rules.antt", "rules/proofs/Laws/Extents.antt"
 VERDICT, TESTS = "rules/specs/Verdict.antt", "rules/specs/Tests.antt"
-VERDICT_LAWS, AGREEMENT = "rules/specs/laws/Verdict.antt", "rules/specs/laws/Agreement.antt"
-CONTOUR, CONTOUR_LAWS = "contours/specs/Contour.antt", "contours/specs/laws/Contour.antt"
-SHEET, SHEET_LAWS, SPAN_LAWS = "contours/specs/Sheet.antt", "contours/specs/laws/Sheet.antt", "contours/specs/laws/Spans.antt"
+VERDICT_LAWS, AGREEMENT = "rules/proofs/Laws/Verdict.antt", "rules/proofs/Laws/Agreement.antt"
+CONTOUR, CONTOUR_LAWS = "contours/specs/Contour.antt", "contours/proofs/Laws/Contour.antt"
+SHEET, SHEET_LAWS, SPAN_LAWS = "contours/specs/Sheet.antt", "contours/proofs/Laws/Sheet.antt", "contours/proofs/Laws/Spans.antt"
 
-PARTS = "max (max s3-ends s3-starts) (max s4 s5)"
+PARTS = "max (max s3_ends s3_starts) (max s4 s5)"
 
 # a file, what stands there (text, or a pattern), what is put in its place; None: the file is removed
 
@@ -34,7 +34,7 @@ def appoint(choice, rest):
         (PLAN, "cond (eqb kind 4) 1 ((k + 1 + 1) / 2)", f"cond (eqb kind {choice}) 1 ({rest})"),
         (PLAN_LAWS, "use native.Mathlib.Decide.{ℕ-discrete}\n", "use mathlib.Core.Bool.{Bool, true, false, cond}\n"),
         (PLAN_LAWS, "pred, _+_, max", "pred, _+_, _-_, _/_, max"),
-        (PLAN_LAWS, re.compile(r"pub appointed-choice : .*?(?=-- its place, from 0)", re.S), law),
+        (PLAN_LAWS, re.compile(r"pub appointed_choice : .*?(?=-- its place, from 0)", re.S), law),
         ("plan/src/kinds.rt", re.compile(r"\n// THE appointed child.*", re.S), ""),
         ("plan/proofs/kinds/appointed/Proof.antt", None, None),
     ]
@@ -45,13 +45,13 @@ MUTATIONS = {
         (RULES, "T (within t u a) → right t p a <ℤ p .x v", "T (within t u a) → right t p a ≤ℤ p .x v"),
         (VERDICT, "T (within t u a) → right t p a <ℤ p .x b", "T (within t u a) → right t p a ≤ℤ p .x b"),
         (TESTS, "only (after-one t a b) (ltZ", "only (after-one t a b) (leZ"),
-        (VERDICT_LAWS, "(says-some (λ u. next t u b) (path t a)) (says-ltZ", "(says-some (λ u. next t u b) (path t a)) (says-leZ"),
+        (VERDICT_LAWS, "(says-some (λ u. next t u b) (path t a)) (says_lt_z", "(says-some (λ u. next t u b) (path t a)) (says_le_z"),
     ],
     "S3's second half not strict": [
         (RULES, "T (within t v b) → p .x u <ℤ p .x b", "T (within t v b) → p .x u ≤ℤ p .x b"),
         (VERDICT, "T (within t v b) → p .x a <ℤ p .x b", "T (within t v b) → p .x a ≤ℤ p .x b"),
-        (TESTS, "only (before-one t a b) (ltZ", "only (before-one t a b) (leZ"),
-        (VERDICT_LAWS, "(says-some (λ v. next t a v) (path t b)) (says-ltZ", "(says-some (λ v. next t a v) (path t b)) (says-leZ"),
+        (TESTS, "only (before_one t a b) (ltZ", "only (before_one t a b) (leZ"),
+        (VERDICT_LAWS, "(says-some (λ v. next t a v) (path t b)) (says_lt_z", "(says-some (λ v. next t a v) (path t b)) (says_le_z"),
     ],
     "S4 on boxes only: no row is a stem's": [
         (PLACEMENT, "pub low : ρ ≤ℤ bottom a", "pub low : ρ ≤ℤ base a"),
@@ -73,13 +73,13 @@ MUTATIONS = {
         (EXTENTS, re.compile(r"    where\n      low : .*?\n\n", re.S), "\n"),
     ],
     "the separation without S3's first half": [
-        (CONTOUR, PARTS, "max s3-starts (max s4 s5)"),
+        (CONTOUR, PARTS, "max s3_starts (max s4 s5)"),
         (CONTOUR_LAWS, "  pub ends : greatest (o .right) + 1 ≤ d\n", ""),
         (CONTOUR_LAWS, "      ends = omega arith;\n", ""),
         (SPAN_LAWS, "        ends = omega arith;\n", ""),
     ],
     "the separation without S3's second half": [
-        (CONTOUR, PARTS, "max s3-ends (max s4 s5)"),
+        (CONTOUR, PARTS, "max s3_ends (max s4 s5)"),
         (CONTOUR_LAWS, "  pub starts : greatest (p .left) + 1 ≤ d\n", ""),
         (CONTOUR_LAWS, "      starts = omega arith;\n", ""),
         (CONTOUR_LAWS, re.compile(r"→ v ≡ 0\n  unfolding lefts stride separation\n.*?\n\n", re.S), "→ v ≡ v\n  lefts-next o os P X j v g h = refl\n\n"),
@@ -88,14 +88,14 @@ MUTATIONS = {
         (SPAN_LAWS, re.compile(r"  span W D m os =.*", re.S), "  span W D m os = omega arith\n"),
     ],
     "the separation without S4": [
-        (CONTOUR, PARTS, "max (max s3-ends s3-starts) s5"),
+        (CONTOUR, PARTS, "max (max s3_ends s3_starts) s5"),
         (CONTOUR_LAWS, "      rows = λ j r l a b. omega (arith, clash-at (o .right) (p .left) j r l a b);\n", ""),
         (CONTOUR_LAWS, "  pub rows : (j r l : ℕ) → At (o .right) j r → At (p .left) j l → r + l + 1 ≤ d\n", ""),
-        (CONTOUR_LAWS, "omega (arith, clash-le (o .right) (p .left) d (h .rows))", "omega arith"),
-        (SPAN_LAWS, "        rows = λ j r l a b. omega (arith, greatest-le (o .right) j r a, greatest-le (p .left) j l b);\n", ""),
+        (CONTOUR_LAWS, "omega (arith, clash_le (o .right) (p .left) d (h .rows))", "omega arith"),
+        (SPAN_LAWS, "        rows = λ j r l a b. omega (arith, greatest_le (o .right) j r a, greatest_le (p .left) j l b);\n", ""),
     ],
     "the separation without S5": [
-        (CONTOUR, PARTS, "max (max s3-ends s3-starts) (max s4 0)"),
+        (CONTOUR, PARTS, "max (max s3_ends s3_starts) (max s4 0)"),
         (CONTOUR_LAWS, "  pub overlap : greatest (o .right) + greatest (p .left) + 1 ≤ d + al\n", ""),
         (CONTOUR_LAWS, "      overlap = omega arith;\n", ""),
         (SPAN_LAWS, "        overlap = omega arith;\n", ""),

@@ -12,7 +12,7 @@ import os
 import re
 import sys
 sys.path.insert(0, os.path.dirname(os.path.abspath(__file__)))
-from antt import File, antt_files, rt_files, rt_functions, strip_comment
+from antt import File, antt_files, rt_files, rt_functions, stated, strip_comment
 
 
 def flat(lines):
@@ -31,7 +31,7 @@ def main():
     out = set()
     for p in antt_files(root):
         parts = os.path.relpath(p, os.path.join(root, 'crates')).split('/')
-        if parts[1] != 'specs':
+        if stated(parts) is None:
             continue
         for d in File(p, open(p).read()).decls():
             if d.type == 'mod':

@@ -5,7 +5,7 @@
     tools/unused.py --fix      take them out
 
 A name is used where it stands as a word of its own outside comments and `use` lines: not as a field (`.name`), nor as a part of a longer word.
-An operator (`_+_`) is used where each of its signs stands, or the operator itself. So what is printed is unused; a few that are shadowed may be missed.
+An operator (`◌+◌`) is used where each of its signs stands, or the operator itself. So what is printed is unused; a few that are shadowed may be missed.
 A crate's re-exports (`pub use`) count as used. Run `rt check` after --fix: a name may be wanted by the checker and written nowhere.
 """
 import os
@@ -22,8 +22,8 @@ def words(text):
 
 def parts(name):
     name = name.split(' as ')[-1].strip('«»')
-    if '_' in name and not re.fullmatch(r'[A-Za-z]\w*', name):
-        return [p for p in name.split('_') if p]
+    if '◌' in name:
+        return [p for p in name.split('◌') if p]
     return [name]
 
 
@@ -72,7 +72,7 @@ def rewritten(text, ghost):
 def main():
     fix, total = '--fix' in sys.argv[1:], 0
     for base, dirs, files in os.walk(os.path.join(ROOT, 'crates')):
-        dirs.sort()
+        dirs[:] = sorted(d for d in dirs if d != 'out')
         for name in sorted(files):
             if not name.endswith(('.antt', '.rt')):
                 continue
