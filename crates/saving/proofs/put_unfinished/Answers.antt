@@ -1,5 +1,5 @@
 use Rattle.std.proofs.Common.{arith}
-use Rattle.saving.specs.Laws.Names.{unfinished-put}
+use Rattle.saving.proofs.Laws.Names.{unfinished-put}
 use Rattle.saving.proofs.put_unfinished.Goals as goal
 
 pub returns : goal.returns
