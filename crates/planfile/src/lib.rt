@@ -1,4 +1,6 @@
 // The plan file: Read, Label and Label's refusal.
+#![tactic(auto)]
+
 pub mod questions;
 
 ghost use Rattle.std.specs.Prelude.{◌≡◌};

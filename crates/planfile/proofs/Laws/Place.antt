@@ -14,20 +14,20 @@ module _ (file : Bor (List ℕ)) (c : ℕ) (r : Bor (List ℕ)) (l : Subslice fi
   f = file.now
 
   pub label_given : label_refusal f c ≡ none
-      → (r.ref_ptr ≡ (file.ptr.0, file.ptr.1 + (entry f c).label_start)) × (length r.now ≡ (entry f c).label_length) × (r.now ≡ take (entry f c).label_length (drop (entry f c).label_start f))
+      → (r.ref_ptr ≡ (file.ref_ptr.0, file.ref_ptr.1 + (entry f c).label_start)) × (length r.now ≡ (entry f c).label_length) × (r.now ≡ take (entry f c).label_length (drop (entry f c).label_start f))
   label_given z =
       let s = (entry f c).label_start in
       let n = (entry f c).label_length in
       let p = part_of_record f c z in
-      let q : r.ptr.1 ≡ file.ptr.1 + s = l.place ∙ rw p in
+      let q : r.ref_ptr.1 ≡ file.ref_ptr.1 + s = l.place ∙ rw p in
       let e : s + n - s ≡ n = omega arith in
       let b : r.now ≡ take n (drop s f) = l.bytes ∙ rw (p, e) in
       let h : s + n ≤ length f = rw p at (part-inside f c).1 in
       let m : n ≤ length (drop s f) = omega (arith, length-drop s f) in
       ((λ i. (l.block i, q i)), ap length b ∙ length-take-le n (drop s f) m, b)
 
-  pub label-refused : ¬ ((label_refusal f c).number ≡ 0) → (r.ref_ptr ≡ file.ptr) × (r.now ≡ [])
+  pub label-refused : ¬ ((label_refusal f c).number ≡ 0) → (r.ref_ptr ≡ file.ref_ptr) × (r.now ≡ [])
   label-refused z =
       let p = part_none f c z in
-      let q : r.ptr.1 ≡ file.ptr.1 = l.place ∙ rw p (omega arith) in
+      let q : r.ref_ptr.1 ≡ file.ref_ptr.1 = l.place ∙ rw p (omega arith) in
       ((λ i. (l.block i, q i)), l.bytes ∙ rw p)
