@@ -1,7 +1,6 @@
 use mathlib.Core.Path.{refl}
 use native.Mathlib.Omega.{arith}
 use Rattle.planfile_spec.proofs.Laws.Label.{part-inside}
-use borrow.Author.Rules.{rules}
 use Rattle.planfile.proofs.label.Goals as goal
 
 pub slice_bounds-result-count : goal.slice_bounds-result-count

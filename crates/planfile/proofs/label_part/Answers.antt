@@ -1,7 +1,6 @@
 use Rattle.planfile_spec.proofs.Laws.Label.{part-refused, part_given, trailer_there, record_there, record_is}
 use native.Mathlib.Omega.{arith}
 use mathlib.Core.Path.{◌∙◌}
-use borrow.Author.Rules.{rules}
 use Rattle.planfile.proofs.label_part.Goals as goal
 
 pub returns-then-refusal-ne0 : goal.returns-then-refusal-ne0

@@ -1,6 +1,5 @@
 use mathlib.Core.Path.{◌∙◌}
 use Rattle.planfile_spec.proofs.Laws.Label.{label-stops, label-goes_on}
-use borrow.Author.Rules.{rules}
 use Rattle.planfile.proofs.label_refusal.Goals as goal
 
 pub returns-then-refusal-ne0 : goal.returns-then-refusal-ne0

@@ -1,6 +1,5 @@
 use mathlib.Core.Path.{◌∙◌}
 use Rattle.planfile_spec.proofs.Laws.Label.{read_short, read-on}
-use borrow.Author.Rules.{rules}
 use Rattle.planfile.proofs.read.Goals as goal
 
 pub returns-then-long-ne0 : goal.returns-then-long-ne0

@@ -1,7 +1,6 @@
 use Rattle.planfile_spec.proofs.Laws.Examined.{zero_of, header_read, room-read, count-read, body_is, plan-examined, file-passed, header_stops, examined-refused}
 use native.Mathlib.Omega.{arith}
 use mathlib.Core.Path.{◌∙◌}
-use borrow.Author.Rules.{rules}
 use Rattle.planfile.proofs.questions.examined.Goals as goal
 
 pub returns-then-at_header-ne0 : goal.returns-then-at_header-ne0
