@@ -2,6 +2,7 @@
 //
 // In the calls, rows begins with the child's top row; at and at + 1 are the columns of its parent f, at + 2 and at + 3 its own; hf and hs are
 // the rows of either.
+#![tactic(auto)]
 
 ghost use Rattle.std.specs.Prelude.{◌≡◌};
 ghost use Rattle.joining.specs.Joining.{memory_of, settled_apart, settled_first, settled_by, settled, Settling};
