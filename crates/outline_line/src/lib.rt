@@ -1,4 +1,6 @@
 // The line of a cell in an outline, written into a buffer. The functions write a part at a place, and hand the next place back.
+#![tactic(auto)]
+
 ghost use Rattle.std.specs.Prelude.{◌≡◌, ◌++◌, ◌∷◌, [], cond, ◌+◌, ◌≤◌, ◌<◌, ltb, length, take, drop};
 ghost use Rattle.plan.specs.Limits.{most_label};
 ghost use Rattle.listing.specs.Put.{Put};
