@@ -1,4 +1,6 @@
 // The parts of a line of an outline, each read from a place on: blanks, words, numbers, fields, a label.
+#![tactic(auto)]
+
 ghost use Rattle.std.specs.Prelude.{◌≡◌, ◌≤◌, length, drop};
 ghost use Rattle.outline_spec.specs.Understood.{number_from, number, indented, parted, or_usual};
 ghost use Rattle.compose_fields.specs.Steps.{begins, «word_at», Numbers, Levels, Options, Labels, Names, given_of};
