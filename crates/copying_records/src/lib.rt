@@ -1,4 +1,6 @@
 // The records of a plan file, written from columns: each at a place, and the next place handed back.
+#![tactic(auto)]
+
 ghost use Rattle.std.specs.Prelude.{◌≡◌, ◌∷◌, [], ◌+◌, ◌*◌, ◌≤◌, ◌<◌, length};
 ghost use Rattle.plan.specs.Limits.{old_width};
 ghost use Rattle.plan.specs.Forms.{record_size};
