@@ -1,5 +1,7 @@
 // All five rules decided at once: each cell with its parent, each with the sibling right before it, and a sweep of the cells in preorder over the
 // rows. Only where that fails is the lowest pair searched for.
+#![tactic(auto)]
+
 ghost use Rattle.std.specs.Prelude.{◌≡◌, true, false, ◌+◌, ◌-◌, ◌^◌, ◌≤◌, ◌<◌, length, get_or};
 ghost use Rattle.whole.specs.Says.{Says};
 ghost use Rattle.plan.specs.Limits.{farthest, «last_row», most_cells};
