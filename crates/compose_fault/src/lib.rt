@@ -1,4 +1,6 @@
 // The line that is printed of a fault of an outline.
+#![tactic(auto)]
+
 ghost use Rattle.std.specs.Prelude.{◌+◌, ◌≤◌, length};
 ghost use Rattle.listing.specs.Put.{Put};
 ghost use Rattle.outline_spec.specs.Faults.{advice, fault_of, fault_line};
