@@ -1,4 +1,6 @@
 // JOIN (document 02, E10): a second plan hung under a cell of a first, over columns.
+#![tactic(auto)]
+
 ghost use Rattle.std.specs.Prelude.{◌≡◌, ◌+◌, ◌-◌, ◌≤◌, ◌<◌, get_or};
 ghost use Rattle.plan.specs.Limits.{most_cells};
 ghost use Rattle.plan.specs.Columns.{table_of};

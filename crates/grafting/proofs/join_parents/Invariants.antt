@@ -1,0 +1,14 @@
+use Prim.Native.Nat.{◌≤◌, ◌-◌}
+use mathlib.Core.Path.{◌≡◌}
+use native.Mathlib.Omega.{arith}
+use Rattle.planfile_spec.specs.Reading.{column}
+use Rattle.grafting.specs.Grafted.{picked_parent}
+use Rattle.grafting.proofs.Laws.Grafted.{column-none, column-more, column-all, hangs_at}
+use borrow.Author.Rules.{rules}
+use Rattle.grafting.proofs.join_parents.Given as goal
+
+abbrev pub invariant-loop-i : goal.invariant-loop-i
+invariant-loop-i l = (l.i ≤ l.k) × (l.all ≡ column (picked_parent l.n l.cell l.first l.second) l.i)
+
+abbrev pub decreases-loop-i : goal.decreases-loop-i
+decreases-loop-i l = l.k - l.i
