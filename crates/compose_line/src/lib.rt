@@ -1,4 +1,6 @@
 // A cell as its line in an outline tells it.
+#![tactic(auto)]
+
 ghost use Rattle.std.specs.Prelude.{◌≡◌, ◌*◌, ◌≤◌, length, take, drop};
 ghost use Rattle.plan.specs.Questions.{lower};
 ghost use Rattle.outline_spec.specs.Understood.{«fields_read», named, kinds};
