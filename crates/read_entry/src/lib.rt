@@ -1,4 +1,6 @@
 // READ, over a lent file and a lent table to fill. It asks nothing of its caller.
+#![tactic(auto)]
+
 ghost use Rattle.std.specs.Prelude.{◌≡◌};
 ghost use Rattle.read_entry.specs.Read.{Reads, «read_of»};
 
