@@ -1,4 +1,5 @@
 // The walk of the tree: a loop over the chain of open cells. Each cell is opened, its children are joined one after another, and it is closed.
+#![tactic(auto)]
 
 ghost use Rattle.std.specs.Prelude.{◌≡◌, ◌+◌, ◌<◌, ◌≤◌, length, get_or, [], ◌∷◌};
 ghost use Rattle.links.specs.Links.{link};
@@ -215,7 +216,7 @@ pub fn turn(
     ensures onward { Onward (chart links.now widths.now depths.now tops.now allowance) chain.cells chain.count next rows.old marks.old result.open_cells.cells result.open_cells.count result.next rows.new marks.new }
 {
     let mut c = chain;
-    let level = descend(links, &mut c.cells, chain.count, next) - 1;
+    let level = descend(links, &mut c.cells, c.count, next) - 1;
     c.count = level;
     let n = shut(
         links, widths, depths, tops, allowance, &c.cells, level, rows, marks,

@@ -1,0 +1,27 @@
+use Prim.Native.Nat.{◌*◌}
+use mathlib.Core.Path.{refl}
+use Rattle.walk.specs.Machine.{Chart, chart}
+use Rattle.walk.proofs.Laws.Turns.{child_ready, close_found}
+use Rattle.walk.proofs.Laws.Stretch.{only-stretch}
+use Rattle.walk.proofs.Parts.{part-seen, part-rest}
+use Rattle.walk.proofs.close.Goals as goal
+use Rattle.walk.proofs.close.Goals.{Start}
+
+abbrev board : Start → Chart
+board s = let a = s.args in chart a.links.now a.widths.now a.depths.now a.tops.now a.allowance
+
+pub joined_rows-requires : goal.joined_rows-requires
+joined_rows-requires c = let h = c.requires in (h.theirs, h.own, rw c.number-d.ensures h.small)
+
+pub finish_child-requires : goal.finish_child-requires
+finish_child-requires c =
+    let a = c.args in
+    let b = board (goal.at.finish_child-requires c).Start in
+    child_ready b a.level a.f a.c a.rows.now a.marks.now c.requires c.number-d.ensures c.width_of-w.ensures refl c.row_of-start.ensures c.joined_rows.ensures (part-seen a.rows.now (64 * c.row_of-start.result) (64 * c.joined_rows.result))
+
+pub returns : goal.returns
+returns c =
+    let a = c.args in
+    let b = board (goal.at.returns c).Start in
+    let e = close_found b a.level a.f a.c a.rows.now a.marks.now c.number-d.ensures c.width_of-w.ensures c.row_of-start.ensures c.joined_rows.ensures c.link_of-place.ensures c.link_of-apt.ensures (part-seen a.rows.now (64 * c.row_of-start.result) (64 * c.joined_rows.result)) c.finish_child.ensures (part-rest a.rows.now (64 * c.row_of-start.result) (64 * c.joined_rows.result)) refl in
+    record { marks_after = e; only_stretch = only-stretch b a.level a.f a.c a.rows.now a.marks.now c.requires _ _ e }
