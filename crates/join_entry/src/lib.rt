@@ -1,4 +1,6 @@
 // JOIN, over two lent tables and a table to fill. It asks nothing of its caller.
+#![tactic(auto)]
+
 ghost use Rattle.grafting.specs.Joins.{Joins};
 ghost use Rattle.join_entry.specs.Hung.{Hangs};
 

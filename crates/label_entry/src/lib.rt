@@ -1,4 +1,6 @@
 // LABEL, over a lent file. It asks nothing of its caller.
+#![tactic(auto)]
+
 ghost use Rattle.std.specs.Prelude.{◌≡◌};
 ghost use Rattle.planfile_spec.specs.Reading.{label_refusal};
 ghost use Rattle.label_entry.specs.Label.{Labels};
