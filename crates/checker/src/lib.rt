@@ -1,4 +1,6 @@
 // Check: "kept" with width and rows, or "broken" with the lowest rule, then the lowest a, then the lowest b; or a refusal.
+#![tactic(auto)]
+
 ghost use Rattle.std.specs.Prelude.{◌≡◌, ◌≤◌};
 ghost use Rattle.plan.specs.Limits.{most_allowance};
 ghost use Rattle.plan.specs.Columns.{«table_of»};
