@@ -1,4 +1,6 @@
 // The labels and the trailer of a plan file, written at a place, with the next place handed back; and the form that a plan takes.
+#![tactic(auto)]
+
 ghost use Rattle.std.specs.Prelude.{◌≡◌, [], ◌&&◌, ◌+◌, ◌*◌, ◌≤◌, ◌<◌, leb, eqb, length, take, drop};
 ghost use Rattle.plan.specs.Limits.{most_cells, most_label, old_width};
 ghost use Rattle.content.specs.Clean.{«mark_of», two};
