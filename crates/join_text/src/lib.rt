@@ -1,4 +1,6 @@
 // WHAT THE PROGRAM `join` PRINTS: nothing where the joined file is written, else one line, the refusal, and before it which of the two plans was refused.
+#![tactic(auto)]
+
 ghost use Rattle.std.specs.Prelude.{◌++◌, ◌≤◌, length};
 ghost use Rattle.listing.specs.Printed.{refused_line};
 ghost use Rattle.listing.specs.Put.{Put};
