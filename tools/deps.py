@@ -13,7 +13,7 @@ import sys
 
 ROOT = os.path.dirname(os.path.dirname(os.path.abspath(__file__)))
 KIT = ('io', 'anyhow', 'thiserror')  # libraries of the toolchain
-LINE = re.compile(r'^([a-z_0-9]+):(.*)$')
+LINE = re.compile(r'^([a-z_0-9]+)( [^:]*)?:(.*)$')  # a name, what it is besides (`staticlib`), what it stands on
 
 
 def text_of(path):
@@ -44,12 +44,12 @@ def main():
         if not m:
             continue
         want = named(m.group(1), set(order))
-        have = m.group(2).split('#')[0].split()
+        have = m.group(3).split('#')[0].split()
         if set(have) != want or len(have) != len(want):
             wrong += 1
             if '--write' in sys.argv:
                 names = [d for d in KIT if d in want] + [d for d in order if d in want]
-                lines[i] = ' '.join([m.group(1) + ':'] + names)
+                lines[i] = ' '.join([m.group(1) + (m.group(2) or '') + ':'] + names)
             else:
                 print(f'crates.txt: {m.group(1)}: too many: {sorted(set(have) - want)}, too few: {sorted(want - set(have))}')
     if '--write' in sys.argv:
