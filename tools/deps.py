@@ -30,7 +30,8 @@ def named(crate, crates):
             text = text_of(path)
             found |= set(re.findall(r'Rattle\.([a-z_0-9]+)\.', text))
             if path.endswith('.rt'):
-                found |= set(re.findall(r'(?<![\w:])([a-z_0-9]+)::', text))
+                of_std = {m for group in re.findall(r'use std::(?:\{([^}]*)\}|([a-z_]+))', text) for part in group for m in re.findall(r'[a-z_]+', part)}
+                found |= set(re.findall(r'(?<![\w:])([a-z_0-9]+)::', text)) - of_std
     return found & (crates | set(KIT)) - {crate}
 
 
