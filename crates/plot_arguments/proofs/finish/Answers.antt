@@ -1,5 +1,4 @@
 use Rattle.plot_arguments.specs.Lengths.{finish}
-use borrow.Author.Rules.{rules}
 use Rattle.plot_arguments.proofs.finish.Goals as goal
 
 pub returns-then-d : goal.returns-then-d

@@ -1,6 +1,5 @@
 use borrow.Author.Tests.{eq-eqb, ne_eqb}
 use Rattle.plot_arguments.specs.Lengths.{next_place}
-use borrow.Author.Rules.{rules}
 use Rattle.plot_arguments.proofs.next_place.Goals as goal
 
 pub returns-then-place-eq0 : goal.returns-then-place-eq0

@@ -2,7 +2,6 @@ use mathlib.Core.Path.{sym, ◌∙◌}
 use Rattle.plot_arguments.proofs.Laws.Lengths.{step-point, step-digit}
 use borrow.Author.Tests.{eq-eqb, ne_eqb, le-leb, lt-leb}
 use Rattle.plot_arguments.specs.Lengths.{step}
-use borrow.Author.Rules.{rules}
 use Rattle.plot_arguments.proofs.read_byte.Goals as goal
 
 pub returns-then-d : goal.returns-then-d

@@ -1,9 +1,4 @@
-use mathlib.Core.Path.{◌≡◌}
-use Prim.Native.Nat.{◌-◌, ◌≤◌}
-use lib.ListN.{length, drop}
-use Rattle.plot_arguments.specs.Lengths.{most, start, run}
 use Rattle.plot_arguments.proofs.Laws.Lengths.{go_on, ended}
-use borrow.Author.Rules.{rules}
 use Rattle.plot_arguments.proofs.read_length.Goals as goal
 
 pub loop-i-preserved : goal.loop-i-preserved

@@ -1,6 +1,5 @@
 use borrow.Author.Tests.{le-leb, lt-leb, eq-eqb, ne_eqb}
 use Rattle.plot_arguments.specs.Lengths.{thousandths}
-use borrow.Author.Rules.{rules}
 use Rattle.plot_arguments.proofs.thousandths.Goals as goal
 
 pub returns-then-place-le1 : goal.returns-then-place-le1

@@ -1,6 +1,5 @@
 use borrow.Author.Tests.{lt-ltb, le-ltb}
 use Rattle.plot_arguments.specs.Lengths.{with_digit}
-use borrow.Author.Rules.{rules}
 use Rattle.plot_arguments.proofs.with_digit.Goals as goal
 
 pub returns-then-d-gt3 : goal.returns-then-d-gt3

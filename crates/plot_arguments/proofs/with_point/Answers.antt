@@ -1,6 +1,5 @@
 use borrow.Author.Tests.{eq-eqb, ne_eqb}
 use Rattle.plot_arguments.specs.Lengths.{with_point}
-use borrow.Author.Rules.{rules}
 use Rattle.plot_arguments.proofs.with_point.Goals as goal
 
 pub returns-then-d-eq0 : goal.returns-then-d-eq0

@@ -1,5 +1,4 @@
 use Rattle.whole.proofs.Machine.{difference_fits, difference_is}
-use borrow.Author.Rules.{rules}
 use Rattle.whole.proofs.difference.Goals as goal
 
 pub overflow_sub-result : goal.overflow_sub-result

@@ -1,7 +1,6 @@
 use mathlib.Core.Path.{refl}
 use native.Mathlib.Omega.{arith}
 use Rattle.whole.proofs.Machine.{raise_fits, raise_is, raise_low}
-use borrow.Author.Rules.{rules}
 use Rattle.whole.proofs.raise.Goals as goal
 
 pub overflow_add-result : goal.overflow_add-result

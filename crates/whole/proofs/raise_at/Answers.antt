@@ -1,7 +1,6 @@
 use mathlib.Core.Path.{◌∙◌, ap}
 use Rattle.whole.specs.Bias.{bias}
 use Rattle.whole.proofs.Machine.{back}
-use borrow.Author.Rules.{rules}
 use Rattle.whole.proofs.raise_at.Goals as goal
 
 pub raise-requires : goal.raise-requires

@@ -1,5 +1,4 @@
 use Rattle.whole.proofs.Machine.{low_fits, low_fails, high_fails, passes}
-use borrow.Author.Rules.{rules}
 use Rattle.whole.proofs.within.Goals as goal
 
 pub overflow_sub-high : goal.overflow_sub-high

@@ -1,7 +1,6 @@
 use mathlib.Core.Path.{◌∙◌, sym}
 use Rattle.plan.specs.Kinds.{about}
 use Rattle.plan.proofs.Laws.Kinds.{about-none}
-use borrow.Author.Rules.{rules}
 use Rattle.plan.proofs.kinds.about.Goals as goal
 
 pub returns-in-1 : goal.returns-in-1

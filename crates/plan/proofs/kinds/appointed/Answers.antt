@@ -1,5 +1,4 @@
 use Rattle.plan.specs.Plan.{appointed}
-use borrow.Author.Rules.{rules}
 use borrow.Author.Tests.{ne_eqb}
 use Rattle.plan.proofs.kinds.appointed.Goals as goal
 
