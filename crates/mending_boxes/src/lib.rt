@@ -1,4 +1,6 @@
 // One record's box: whether it is mended, and to what; the bytes of its width and depth; and those of all records.
+#![tactic(auto)]
+
 ghost use Rattle.std.specs.Prelude.{◌≡◌, ◌+◌, ◌*◌, ◌≤◌, ◌<◌, length, set};
 ghost use Rattle.plan.specs.Limits.{most_cells};
 ghost use Rattle.plan.specs.Forms.{record_size};
