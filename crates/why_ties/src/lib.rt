@@ -1,4 +1,6 @@
 // The links that two cells just keep: each rule's distance against the one that they have.
+#![tactic(auto)]
+
 ghost use Rattle.std.specs.Prelude.{◌≡◌, ◌^◌, ◌<◌};
 ghost use Rattle.plan.specs.Limits.{most_cells};
 ghost use Rattle.why_ties.specs.Ties.{appoints, tie2, tie3_ends, tie3_starts, tie4_box, tie4_stem, tie5, rule_of, Ready};
