@@ -1,4 +1,5 @@
 // The engine's core: what Layout needs to know of every cell of a table that keeps the questions.
+#![tactic(auto)]
 
 ghost use Rattle.std.specs.Prelude.{◌≡◌};
 ghost use Rattle.plan.specs.Columns.{table_of};
