@@ -1,79 +1,91 @@
 // Check and Ends for the cases on standard input: a line for each, its name and the answer. After a table (crate cases) a case is two lines:
 // `check` with the allowance, or `ends` with a cell, and how many numbers of the positions are lent; then the positions.
+#![tactic(auto)]
+
 use cases::{after, byte_at, first, latest, positions, print_name, second, table};
 use checker::{Checked, check};
 use ends::{Ended, ends};
 use outcomes::{end_line, pair, points, triple};
 use plan::Columns;
+use std::io;
 
-fn show(r: Checked) {
+fn show(rt: &impl Print, r: Checked) -> io::Result<()> {
     match r {
-        Checked::Kept(w, h) => pair(b" kept", w, h),
-        Checked::Broken(rule, a, b) => triple(b" broken", rule as u32, a as u32, b as u32),
-        Checked::Refused(k, c) => pair(b" refused", k as u32, c as u32),
+        Checked::Kept(w, h) => pair(rt, b" kept", w, h),
+        Checked::Broken(rule, a, b) => triple(rt, b" broken", rule as u32, a as u32, b as u32),
+        Checked::Refused(k, c) => pair(rt, b" refused", k as u32, c as u32),
     }
 }
 
-fn show_ends(r: Ended) {
+fn show_ends(rt: &impl Print, r: Ended) -> io::Result<()> {
     match r {
-        Ended::Joined(x, y, u, v) => points(b" joined", x, y, u, v),
-        Ended::Refused(k, c) => pair(b" refused", k as u32, c as u32),
+        Ended::Joined(x, y, u, v) => points(rt, b" joined", x, y, u, v),
+        Ended::Refused(k, c) => pair(rt, b" refused", k as u32, c as u32),
     }
 }
 
-fn show_check(t: Columns, xs: &[i32], allowance: u32) {
-    show(check(t, xs, allowance));
+fn show_check(rt: &impl Print, t: Columns, xs: &[i32], allowance: u32) -> io::Result<()> {
+    show(rt, check(t, xs, allowance))
 }
 
-fn show_joined(t: Columns, xs: &[i32], cell: u32) {
-    show_ends(ends(t, xs, cell as usize));
+fn show_joined(rt: &impl Print, t: Columns, xs: &[i32], cell: u32) -> io::Result<()> {
+    show_ends(rt, ends(t, xs, cell as usize))
 }
 
 // The answer, with the first numbers of the positions lent.
-fn answer(word: u8, t: Columns, n: u32, xs: &[i32], lent: usize) {
+fn answer(
+    rt: &impl Print,
+    word: u8,
+    t: Columns,
+    n: u32,
+    xs: &[i32],
+    lent: usize,
+) -> io::Result<()> {
     if xs.len() < lent {
-        return;
+        return Ok(());
     }
     if word == b'c' {
-        show_check(t, &xs[0..lent], n);
+        show_check(rt, t, &xs[0..lent], n)
     } else {
-        show_joined(t, &xs[0..lent], n);
+        show_joined(rt, t, &xs[0..lent], n)
     }
 }
 
 // The case in a line, where it has one, of the table at another.
-fn run(text: &[u8], line: usize, tabled: usize) {
+fn run(rt: &impl Print, text: &[u8], line: usize, tabled: usize) -> io::Result<()> {
     let word = byte_at(text, line);
     if word != b'c' && word != b'e' {
-        return;
+        return Ok(());
     }
     let xs = positions(text, after(text, line, b'\n'));
-    print_name(text, line);
+    print_name(rt, text, line)?;
     answer(
+        rt,
         word,
         table(text, tabled),
         first(text, line),
         &xs,
         second(text, line) as usize,
-    );
-    end_line();
+    )?;
+    end_line(rt)
 }
 
 // Line by line.
-fn run_all(text: &[u8]) {
+fn run_all(rt: &impl Print, text: &[u8]) -> io::Result<()> {
     let mut line: usize = 0;
     let mut tabled: usize = 0;
-    let mut turns: usize = 0;
-    while turns < 1000 {
+    for _ in 0..1000 {
         tabled = latest(text, line, tabled);
-        run(text, line, tabled);
+        run(rt, text, line, tabled)?;
         line = after(text, line, b'\n');
-        turns += 1;
     }
+    Ok(())
 }
 
-fn main() {
+fn main(rt: HostRuntime) -> io::Result<()> {
+    let mut from = rt.stdin();
     let mut text = [0u8; 16384];
-    let n = io::read_full(0, &mut text);
-    run_all(&text[..n]);
+    let input = input::read_whole(&mut from, &mut text);
+    let n = input.length;
+    run_all(&rt, &text[..n])
 }

@@ -1,49 +1,54 @@
 // frame_program SQUARES: the least allowance with which the plan on standard input fits a frame of so many squares, on one line of standard output; or `none`; or its refusal.
 // Trouble is told in one line on standard error. One byte more than a plan file may have is read, so that a longer one is refused.
+#![tactic(auto)]
+
 use argument_number::{NO_NUMBER, number_in};
 use frame_text::{FRAME_SIZE, write_frame};
-use libc::{STDERR_FILENO, STDIN_FILENO, STDOUT_FILENO};
 use plan::limits::MOST_FILE;
+use std::io::Read;
+use std::rt::Env;
 
-fn trouble(line: &[u8]) {
-    io::write_all(STDERR_FILENO, line);
+fn trouble(err: &impl Print, line: &[u8]) {
+    err.write_all(line).is_ok();
 }
 
 // The number that the one argument tells.
-fn squares() -> u64 {
-    if os::arg_count() != 2 {
+fn squares<R: Env>(rt: &R) -> u64 {
+    if input::argument_count(rt) != 2 {
         return NO_NUMBER;
     }
-    let mut text = io::buffer();
-    let n = os::arg(1, &mut text);
+    let mut text = [0u8; 4096];
+    let n = input::argument(rt, 1, &mut text);
     number_in(&text[..n])
 }
 
-fn print_frame(file: &[u8], squares: u32) {
-    let mut out = [0u8; FRAME_SIZE];
-    let length = write_frame(file, squares, &mut out);
-    if !io::write_all(STDOUT_FILENO, &out[..length]) {
-        trouble(b"frame: the line could not be written whole\n");
+fn print_frame(out: &impl Print, err: &impl Print, file: &[u8], squares: u32) {
+    let mut text = [0u8; FRAME_SIZE];
+    let length = write_frame(file, squares, &mut text);
+    if out.write_all(&text[..length]).is_err() {
+        trouble(err, b"frame: the line could not be written whole\n");
     }
 }
 
 // Reads the plan, and stops where that fails.
-fn frame_plan(squares: u32) {
+fn frame_plan<F: Read>(out: &impl Print, err: &impl Print, from: &mut F, squares: u32) {
     let mut file = [0u8; MOST_FILE + 1];
-    let input = input::read_whole(STDIN_FILENO, &mut file);
+    let input = input::read_whole(from, &mut file);
     if input::failed(input) {
-        trouble(b"frame: the plan cannot be read\n");
+        trouble(err, b"frame: the plan cannot be read\n");
         return;
     }
     let n = input.length;
-    print_frame(&file[..n], squares);
+    print_frame(out, err, &file[..n], squares);
 }
 
-fn main() {
-    let told = squares();
+fn main(rt: HostRuntime) {
+    let err = rt.stderr();
+    let told = squares(&rt);
     if NO_NUMBER <= told {
-        trouble(b"frame: the frame is a number of squares\n");
+        trouble(&err, b"frame: the frame is a number of squares\n");
         return;
     }
-    frame_plan(told as u32);
+    let mut from = rt.stdin();
+    frame_plan(&rt.stdout(), &err, &mut from, told as u32);
 }

@@ -1,10 +1,13 @@
 // Layout for the cases on standard input: a line for each, its name and the answer, then of a sheet the x's of a small plan or the checksum of all
 // positions (crate outcomes). After a table (crate cases) a case is one line: `layout` with the allowance, and how many numbers of scratch and of
 // positions are lent.
+#![tactic(auto)]
+
 use cases::{after, byte_at, first, latest, print_name, second, table};
 use layout::{Laid, layout};
 use outcomes::{pair, print_placed};
 use plan::Columns;
+use std::io;
 
 // Layout on the first s numbers of a scratch and p of positions.
 fn lay(t: Columns, allowance: u32, xs: &mut [u32], s: usize, ps: &mut [i32], p: usize) -> Laid {
@@ -15,59 +18,62 @@ fn lay(t: Columns, allowance: u32, xs: &mut [u32], s: usize, ps: &mut [i32], p: 
 }
 
 // The answer, and how many cells were placed: all n or none.
-fn print_answer(r: Laid, n: usize) -> usize {
+fn print_answer(rt: &impl Print, r: Laid, n: usize) -> io::Result<usize> {
     match r {
         Laid::Sheet(w, h) => {
-            pair(b" sheet", w, h);
-            n
+            pair(rt, b" sheet", w, h)?;
+            Ok(n)
         }
         Laid::Refused(k, c) => {
-            pair(b" refused", k as u32, c as u32);
-            0
+            pair(rt, b" refused", k as u32, c as u32)?;
+            Ok(0)
         }
     }
 }
 
 // The same on a scratch of nothing but 7 and positions of nothing but 9.
-fn run(t: Columns, allowance: u32, s: usize, p: usize) {
+fn run(rt: &impl Print, t: Columns, allowance: u32, s: usize, p: usize) -> io::Result<()> {
     let mut scratch = [7u32; 16384];
     let mut positions = [9i32; 512];
     let n = t.count;
     let laid = lay(t, allowance, &mut scratch, s, &mut positions, p);
-    print_placed(print_answer(laid, n), &scratch, &positions);
+    let placed = print_answer(rt, laid, n)?;
+    print_placed(rt, placed, &scratch, &positions)
 }
 
 // The case in a line, where it has one, of the table at another.
-fn answer(text: &[u8], line: usize, tabled: usize) {
+fn answer(rt: &impl Print, text: &[u8], line: usize, tabled: usize) -> io::Result<()> {
     if byte_at(text, line) != b'l' {
-        return;
+        return Ok(());
     }
-    print_name(text, line);
+    print_name(rt, text, line)?;
     let t = table(text, tabled);
     let sizes = after(text, line, b' ');
     run(
+        rt,
         t,
         first(text, line),
         first(text, sizes) as usize,
         second(text, sizes) as usize,
-    );
+    )
 }
 
 // Line by line.
-fn run_all(text: &[u8]) {
+fn run_all(rt: &impl Print, text: &[u8]) -> io::Result<()> {
     let mut line: usize = 0;
     let mut tabled: usize = 0;
-    let mut turns: usize = 0;
-    while turns < 1000 {
+    for _ in 0..1000 {
         tabled = latest(text, line, tabled);
-        answer(text, line, tabled);
+        answer(rt, text, line, tabled)?;
         line = after(text, line, b'\n');
-        turns += 1;
     }
+    Ok(())
 }
 
-fn main() {
+fn main(rt: HostRuntime) -> io::Result<()> {
+    let mut from = rt.stdin();
     let mut text = [0u8; 32768];
-    let n = io::read_full(0, &mut text);
-    run_all(&text[..n]);
+    let input = input::read_whole(&mut from, &mut text);
+    let n = input.length;
+    run_all(&rt, &text[..n])
 }

@@ -1,13 +1,19 @@
 // mark_program PLAN DRAWING..: a line for each drawing, its name and its mark, or what is wrong with its text; of several drawings a last line with the counts.
 // A plan that is refused: its name and the refusal, and no more. A file that cannot be read is told on standard error; then there are no counts, since they would not be those of the sitting.
-ghost use Rattle.std.specs.Prelude.{◌≤◌, length};
+#![tactic(auto)]
 
+ghost use Rattle.std.specs.Prelude.{◌≤◌, length, IfOk};
+
+use input::End;
 use mark_drawing::mark_drawing;
 use mark_text::{Counts, counted, write_counts, write_outcome};
 use plan::Columns;
 use plan::limits::{MOST_CELLS, MOST_FILE};
 use planfile_spec::Reading;
 use progress::tell_progress;
+use std::io;
+use std::io::{IsTerminal, Read};
+use std::rt::{Env, Files};
 use summary::write_named;
 
 // Bytes of a drawing that are read: one more than it may have, as of the plan, so that a longer one is told apart.
@@ -15,13 +21,6 @@ const DRAWING_SIZE: usize = 65537;
 
 // Bytes of a line's buffer: a path of 4,096 and a mark.
 const TEXT_SIZE: usize = 4352;
-
-// What was read of a file.
-#[derive(Drop)]
-struct Got {
-    read: bool,
-    size: usize,
-}
 
 // The sitting so far: whether each file could be read and each line written, and the counts.
 #[derive(Drop)]
@@ -32,42 +31,50 @@ struct Sitting {
 }
 
 // A file by its name, into a buffer.
-fn get(path: &[u8], buffer: &mut [u8]) -> Got
-    ensures { result.size ≤ length buffer.old }
+fn get<R: Files>(rt: &R, path: &[u8], buffer: &mut [u8]) -> io::Result<usize>
+    ensures { IfOk result (λ n. n ≤ length buffer.old) }
 {
-    let fd = os::open_read(path);
-    if fd < 0 {
-        return Got {
-            read: false,
-            size: 0,
-        };
-    }
-    let input = input::read_whole(fd, buffer);
-    libc::close(fd);
-    let read = !input::failed(input);
-    Got {
-        read,
-        size: input.length,
+    let opened = input::open(rt, path)?;
+    get_from(opened, buffer)
+}
+
+// The same from an open file, which is closed.
+fn get_from<F: Read + Drop>(opened: F, buffer: &mut [u8]) -> io::Result<usize>
+    ensures { IfOk result (λ n. n ≤ length buffer.old) }
+{
+    let mut from = opened;
+    let input = input::read_whole(&mut from, buffer);
+    match input.end {
+        End::Failed(e) => Err(e),
+        End::Whole => Ok(input.length),
+        End::Longer => Ok(input.length),
     }
 }
 
 // The line of a refused plan.
-fn tell_refused(path: &[u8], number: u8, cell: u16) -> bool
+fn tell_refused(out: &impl Print, path: &[u8], number: u8, cell: u16) -> bool
     requires { length path.now ≤ 4096 }
 {
-    let mut out = [0u8; TEXT_SIZE];
-    let n = write_named(path, number as u64, cell as u64, &mut out);
-    io::write_all(1, &out[..n])
+    let mut text = [0u8; TEXT_SIZE];
+    let n = write_named(path, number as u64, cell as u64, &mut text);
+    out.write_all(&text[..n]).is_ok()
 }
 
 // The line of a drawing, and the counts with it.
-fn tell(path: &[u8], columns: Columns, allowance: u32, text: &[u8], sum: Sitting) -> Sitting
+fn tell(
+    out: &impl Print,
+    path: &[u8],
+    columns: Columns,
+    allowance: u32,
+    drawing: &[u8],
+    sum: Sitting,
+) -> Sitting
     requires { length path.now ≤ 4096 }
 {
-    let outcome = mark_drawing(columns, allowance, text);
-    let mut out = [0u8; TEXT_SIZE];
-    let n = write_outcome(path, outcome, &mut out);
-    let written = io::write_all(1, &out[..n]);
+    let outcome = mark_drawing(columns, allowance, drawing);
+    let mut text = [0u8; TEXT_SIZE];
+    let n = write_outcome(path, outcome, &mut text);
+    let written = out.write_all(&text[..n]).is_ok();
     let counts = counted(sum.counts, outcome);
     Sitting {
         read: sum.read,
@@ -77,29 +84,36 @@ fn tell(path: &[u8], columns: Columns, allowance: u32, text: &[u8], sum: Sitting
 }
 
 // Argument number i is marked.
-fn marked(columns: Columns, allowance: u32, i: usize, sum: Sitting) -> Sitting {
-    let mut path = io::buffer();
-    let n = os::arg(i, &mut path);
-    let mut text = [0u8; DRAWING_SIZE];
-    let got = get(&path[..n], &mut text);
-    if !got.read {
-        os::fail(&path[..n]);
-        let counts = sum.counts;
-        return Sitting {
-            read: false,
-            written: sum.written,
-            counts,
-        };
+fn marked<R: Env + Files>(
+    rt: &R,
+    out: &impl Print,
+    err: &impl Print,
+    columns: Columns,
+    allowance: u32,
+    i: usize,
+    sum: Sitting,
+) -> Sitting {
+    let mut path = [0u8; 4096];
+    let n = input::argument(rt, i, &mut path);
+    let mut drawing = [0u8; DRAWING_SIZE];
+    match get(rt, &path[..n], &mut drawing) {
+        Ok(size) => tell(out, &path[..n], columns, allowance, &drawing[..size], sum),
+        Err(e) => {
+            input::tell_unread(err, &path[..n], e).is_ok();
+            Sitting {
+                read: false,
+                written: sum.written,
+                counts: sum.counts,
+            }
+        }
     }
-    let size = got.size;
-    tell(&path[..n], columns, allowance, &text[..size], sum)
 }
 
 // The counts.
-fn tell_counts(counts: Counts) -> bool {
-    let mut out = [0u8; TEXT_SIZE];
-    let n = write_counts(counts, &mut out);
-    io::write_all(1, &out[..n])
+fn tell_counts(out: &impl Print, counts: Counts) -> bool {
+    let mut text = [0u8; TEXT_SIZE];
+    let n = write_counts(counts, &mut text);
+    out.write_all(&text[..n]).is_ok()
 }
 
 fn nobody() -> Counts {
@@ -114,17 +128,24 @@ fn nobody() -> Counts {
 }
 
 // The drawings from argument 2 on.
-fn sit(columns: Columns, allowance: u32, count: usize) -> bool {
+fn sit<R: Env + Files>(
+    rt: &R,
+    out: &impl Print,
+    err: &(impl Print + IsTerminal),
+    columns: Columns,
+    allowance: u32,
+    count: usize,
+) -> bool
+    requires { 2 ≤ count }
+{
     let mut sum = Sitting {
         read: true,
         written: true,
         counts: nobody(),
     };
-    let mut i = 2;
-    while i < count {
-        sum = marked(columns, allowance, i, sum);
-        tell_progress(b"mark", i - 1, count - 2);
-        i += 1;
+    for i in 2..count {
+        sum = marked(rt, out, err, columns, allowance, i, sum);
+        tell_progress(err, b"mark", i - 1, count - 2);
     }
     if !sum.read {
         return sum.written;
@@ -133,38 +154,51 @@ fn sit(columns: Columns, allowance: u32, count: usize) -> bool {
         return sum.written;
     }
     let counts = sum.counts;
-    let written = tell_counts(counts);
+    let written = tell_counts(out, counts);
     sum.written & written
 }
 
-fn main() {
-    let count = os::arg_count();
-    if count < 3 {
-        io::write_all(
-            2,
-            b"mark: it takes the plan's file and at least one drawing\n",
-        );
-        return;
-    }
-    let mut path = io::buffer();
-    let n = os::arg(1, &mut path);
-    let mut file = [0u8; MOST_FILE + 1];
-    let got = get(&path[..n], &mut file);
-    if !got.read {
-        os::fail(&path[..n]);
-        return;
-    }
-    let size = got.size;
-    let plan: Reading = planfile::read(&file[..size], MOST_CELLS);
+// The plan in these bytes and the drawings; whether each line was written.
+fn mark_all<R: Env + Files>(
+    rt: &R,
+    out: &impl Print,
+    err: &(impl Print + IsTerminal),
+    path: &[u8],
+    file: &[u8],
+    count: usize,
+) -> bool
+    requires path { length path.now ≤ 4096 }
+    requires drawings { 2 ≤ count }
+{
+    let plan: Reading = planfile::read(file, MOST_CELLS);
     let refusal = plan.refusal;
-    let columns = plan.columns;
-    let mut written = true;
     if refusal.number != 0 {
-        written = tell_refused(&path[..n], refusal.number, refusal.cell);
-    } else {
-        written = sit(columns, plan.allowance as u32, count);
+        return tell_refused(out, path, refusal.number, refusal.cell);
     }
-    if !written {
-        io::write_all(2, b"mark: the marks could not be written whole\n");
+    sit(rt, out, err, plan.columns, plan.allowance as u32, count)
+}
+
+fn main(rt: HostRuntime) {
+    let out = rt.stdout();
+    let err = rt.stderr();
+    let count = input::argument_count(&rt);
+    if count < 3 {
+        err.write_all(b"mark: it takes the plan's file and at least one drawing\n")
+            .is_ok();
+        return;
+    }
+    let mut path = [0u8; 4096];
+    let n = input::argument(&rt, 1, &mut path);
+    let mut file = [0u8; MOST_FILE + 1];
+    match get(&rt, &path[..n], &mut file) {
+        Ok(size) => {
+            if !mark_all(&rt, &out, &err, &path[..n], &file[..size], count) {
+                err.write_all(b"mark: the marks could not be written whole\n")
+                    .is_ok();
+            }
+        }
+        Err(e) => {
+            input::tell_unread(&err, &path[..n], e).is_ok();
+        }
     }
 }

@@ -1,9 +1,13 @@
 // What Read and Label answer for each case on standard input. A case is three numbers of two bytes, low byte first, and a file:
 // the file's length, the length of the table to fill, and the cell whose label is asked for.
+#![tactic(auto)]
+
 ghost use Rattle.std.specs.Prelude.{◌<◌};
 
 use plan::{Columns, Refusal};
 use planfile_spec::Reading;
+use std::io;
+use std::io::Read;
 
 fn number(low: u8, high: u8) -> usize {
     (low as usize) + 256 * (high as usize)
@@ -16,124 +20,132 @@ fn field(head: &[u8; 6], i: usize) -> usize
     number(head[i], head[i + 1])
 }
 
-fn print(n: u64, after: u8) {
-    io::print_decimal(1, n);
-    io::write_all(1, &[after]);
+fn print(rt: &impl Print, n: u64, after: u8) -> io::Result<()> {
+    rt.print(n)?;
+    rt.write_all(&[after])
 }
 
-fn print16(n: u16, after: u8) {
-    print(n as u64, after);
+fn print16(rt: &impl Print, n: u16, after: u8) -> io::Result<()> {
+    print(rt, n as u64, after)
 }
 
-fn print8(n: u8, after: u8) {
-    print(n as u64, after);
+fn print8(rt: &impl Print, n: u8, after: u8) -> io::Result<()> {
+    print(rt, n as u64, after)
 }
 
 // A word, the number and the cell of a refusal.
-fn print_refusal(word: &[u8], refusal: Refusal, after: u8) {
-    io::write_all(1, word);
-    print8(refusal.number, b' ');
-    print16(refusal.cell, after);
+fn print_refusal(rt: &impl Print, word: &[u8], refusal: Refusal, after: u8) -> io::Result<()> {
+    rt.write_all(word)?;
+    print8(rt, refusal.number, b' ')?;
+    print16(rt, refusal.cell, after)
 }
 
 // The numbers of a cell: parent, kind, rank, W, D.
-fn print_cell(t: Columns, c: usize)
+fn print_cell(rt: &impl Print, t: Columns, c: usize) -> io::Result<()>
     requires { c < 256 }
 {
-    print16(t.parent[c], b' ');
-    print8(t.kind[c], b' ');
-    print8(t.rank[c], b' ');
-    print16(t.width[c], b' ');
-    print8(t.depth[c], b' ');
+    print16(rt, t.parent[c], b' ')?;
+    print8(rt, t.kind[c], b' ')?;
+    print8(rt, t.rank[c], b' ')?;
+    print16(rt, t.width[c], b' ')?;
+    print8(rt, t.depth[c], b' ')
 }
 
 // The same, its label's length and start, and the label itself.
-fn print_record(plan: Reading, file: &[u8], c: usize)
+fn print_record(rt: &impl Print, plan: Reading, file: &[u8], c: usize) -> io::Result<()>
     requires { c < 256 }
 {
-    print_cell(plan.columns, c);
-    print8(plan.label_length[c], b' ');
-    print16(plan.label_start[c], b' ');
-    io::write_all(1, planfile::label(file, c));
-    io::write_all(1, b"\n");
+    print_cell(rt, plan.columns, c)?;
+    print8(rt, plan.label_length[c], b' ')?;
+    print16(rt, plan.label_start[c], b' ')?;
+    rt.write_all(planfile::label(file, c))?;
+    rt.write_all(b"\n")
 }
 
 // The first four records and the one after the last, which is blank.
-fn print_records(plan: Reading, file: &[u8], n: usize) {
-    let mut c: usize = 0;
-    while c < 4 {
+fn print_records(rt: &impl Print, plan: Reading, file: &[u8], n: usize) -> io::Result<()> {
+    for c in 0..4 {
         if c <= n {
-            print_record(plan, file, c);
+            print_record(rt, plan, file, c)?;
         }
-        c += 1;
     }
+    Ok(())
 }
 
-fn print_reading(file: &[u8], room: usize) {
+fn print_reading(rt: &impl Print, file: &[u8], room: usize) -> io::Result<()> {
     let plan = planfile::read(file, room);
     let refusal = plan.refusal;
     if refusal.number != 0 {
-        print_refusal(b"refused ", refusal, b'\n');
-        return;
+        return print_refusal(rt, b"refused ", refusal, b'\n');
     }
     let columns = plan.columns;
     let n = columns.count;
-    io::write_all(1, b"plan ");
-    print(n as u64, b' ');
-    print(plan.allowance as u64, b'\n');
-    print_records(plan, file, n);
+    rt.write_all(b"plan ")?;
+    print(rt, n as u64, b' ')?;
+    print(rt, plan.allowance as u64, b'\n')?;
+    print_records(rt, plan, file, n)
 }
 
-fn print_label(file: &[u8], cell: usize) {
-    print_refusal(b"label ", planfile::label_refusal(file, cell), b' ');
-    io::write_all(1, planfile::label(file, cell));
-    io::write_all(1, b"\n");
+fn print_label(rt: &impl Print, file: &[u8], cell: usize) -> io::Result<()> {
+    print_refusal(rt, b"label ", planfile::label_refusal(file, cell), b' ')?;
+    rt.write_all(planfile::label(file, cell))?;
+    rt.write_all(b"\n")
 }
 
 // Reads so many bytes; false where the input ends before.
-fn filled(space: &mut [u8], size: usize) -> bool {
+fn filled<F: Read>(from: &mut F, space: &mut [u8], size: usize) -> bool {
     if space.len() < size {
         return false;
     }
-    let n = io::read_full(0, &mut space[..size]);
-    size <= n
+    from.read_exact(&mut space[..size]).is_ok()
 }
 
-fn print_case(space: &[u8], size: usize, room: usize, cell: usize) {
+fn print_case(
+    rt: &impl Print,
+    space: &[u8],
+    size: usize,
+    room: usize,
+    cell: usize,
+) -> io::Result<()> {
     if space.len() < size {
-        return;
+        return Ok(());
     }
     let file = &space[..size];
-    print_reading(file, room);
-    print_label(file, cell);
+    print_reading(rt, file, room)?;
+    print_label(rt, file, cell)
 }
 
 // The case with this head; false where the input ends before.
-fn answer_to(head: &[u8; 6], space: &mut [u8]) -> bool {
+fn answer_to<F: Read>(
+    rt: &impl Print,
+    from: &mut F,
+    head: &[u8; 6],
+    space: &mut [u8],
+) -> io::Result<bool> {
     let size = field(head, 0);
-    if !filled(space, size) {
-        return false;
+    if !filled(from, space, size) {
+        return Ok(false);
     }
-    print_case(space, size, field(head, 2), field(head, 4));
-    true
+    print_case(rt, space, size, field(head, 2), field(head, 4))?;
+    Ok(true)
 }
 
 // One case; false where the input has ended.
-fn answer(space: &mut [u8]) -> bool {
+fn answer<F: Read>(rt: &impl Print, from: &mut F, space: &mut [u8]) -> io::Result<bool> {
     let mut head = [0u8; 6];
-    if io::read_full(0, &mut head) < 6 {
-        return false;
+    if from.read_exact(&mut head).is_err() {
+        return Ok(false);
     }
-    answer_to(&head, space)
+    answer_to(rt, from, &head, space)
 }
 
-fn main() {
+fn main(rt: HostRuntime) -> io::Result<()> {
+    let mut from = rt.stdin();
     let mut space = [0u8; 16400];
-    let mut turns: usize = 500;
-    while 0 < turns {
-        if !answer(&mut space) {
-            return;
+    for _ in 0..500 {
+        if !answer(&rt, &mut from, &mut space)? {
+            return Ok(());
         }
-        turns -= 1;
     }
+    Ok(())
 }

@@ -1,49 +1,52 @@
 // Prints the sheet of each plan file on standard input. A file comes after its length, a number of two bytes, low byte first.
+#![tactic(auto)]
+
 use plan::limits::LISTING_SIZE;
+use std::io;
+use std::io::Read;
 
 fn number(low: u8, high: u8) -> usize {
     (low as usize) + 256 * (high as usize)
 }
 
 // Reads so many bytes; false where the input ends before.
-fn filled(space: &mut [u8], size: usize) -> bool {
+fn filled<F: Read>(from: &mut F, space: &mut [u8], size: usize) -> bool {
     if space.len() < size {
         return false;
     }
-    let n = io::read_full(0, &mut space[..size]);
-    size <= n
+    from.read_exact(&mut space[..size]).is_ok()
 }
 
-fn print_file(space: &[u8], size: usize) {
+fn print_file(rt: &impl Print, space: &[u8], size: usize) -> io::Result<()> {
     if space.len() < size {
-        return;
+        return Ok(());
     }
     let mut out = [0u8; LISTING_SIZE];
     let length = printing::write_listing(&space[..size], &mut out);
-    io::write_all(1, &out[..length]);
+    rt.write_all(&out[..length])
 }
 
 // The next file; false where the input has ended.
-fn print_next(space: &mut [u8]) -> bool {
+fn print_next<F: Read>(rt: &impl Print, from: &mut F, space: &mut [u8]) -> io::Result<bool> {
     let mut length = [0u8; 2];
-    if io::read_full(0, &mut length) < 2 {
-        return false;
+    if from.read_exact(&mut length).is_err() {
+        return Ok(false);
     }
     let size = number(length[0], length[1]);
-    if !filled(space, size) {
-        return false;
+    if !filled(from, space, size) {
+        return Ok(false);
     }
-    print_file(space, size);
-    true
+    print_file(rt, space, size)?;
+    Ok(true)
 }
 
-fn main() {
+fn main(rt: HostRuntime) -> io::Result<()> {
+    let mut from = rt.stdin();
     let mut space = [0u8; 16400];
-    let mut turns: usize = 500;
-    while 0 < turns {
-        if !print_next(&mut space) {
-            return;
+    for _ in 0..500 {
+        if !print_next(&rt, &mut from, &mut space)? {
+            return Ok(());
         }
-        turns -= 1;
     }
+    Ok(())
 }
