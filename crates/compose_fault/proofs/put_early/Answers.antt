@@ -2,7 +2,6 @@ use native.Mathlib.Omega.{arith}
 use Rattle.outline_spec.specs.Text.{text}
 use Rattle.outline_spec.specs.Faults.{advice, fault_of}
 use Rattle.compose_fault.proofs.Laws.Faults.{early_last}
-use borrow.Author.Rules.{rules}
 use Rattle.compose_fault.proofs.put_early.Goals as goal
 
 pub returns-in-2 : goal.returns-in-2

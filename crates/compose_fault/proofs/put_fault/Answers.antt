@@ -1,7 +1,6 @@
 use native.Mathlib.Omega.{arith}
 use Rattle.outline_spec.specs.Text.{text}
 use Rattle.compose_fault.proofs.Laws.Faults.{line-put}
-use borrow.Author.Rules.{rules}
 use Rattle.compose_fault.proofs.put_fault.Goals as goal
 
 pub returns : goal.returns

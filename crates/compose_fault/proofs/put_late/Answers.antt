@@ -2,7 +2,6 @@ use native.Mathlib.Omega.{arith}
 use Rattle.outline_spec.specs.Text.{text}
 use Rattle.outline_spec.specs.Faults.{advice, fault_of}
 use Rattle.compose_fault.proofs.Laws.Faults.{late_last}
-use borrow.Author.Rules.{rules}
 use Rattle.compose_fault.proofs.put_late.Goals as goal
 
 pub returns-in-8 : goal.returns-in-8

@@ -2,7 +2,6 @@ use native.Mathlib.Omega.{arith}
 use Rattle.outline_spec.specs.Text.{text}
 use Rattle.outline_spec.specs.Faults.{advice, fault_of}
 use Rattle.compose_fault.proofs.Laws.Faults.{middle_last}
-use borrow.Author.Rules.{rules}
 use Rattle.compose_fault.proofs.put_middle.Goals as goal
 
 pub returns-in-5 : goal.returns-in-5

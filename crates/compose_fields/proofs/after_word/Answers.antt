@@ -1,8 +1,6 @@
-use borrow.Author.Tests.{not-true, not-false}
 use mathlib.Core.Path.{sym, ◌∙◌}
 use native.Mathlib.Omega.{arith}
 use Rattle.compose_fields.proofs.Laws.Fields.{word_missing, word-goes_on, word_there, word_end}
-use borrow.Author.Rules.{rules}
 use Rattle.compose_fields.proofs.after_word.Goals as goal
 
 pub returns-then-not-begins : goal.returns-then-not-begins

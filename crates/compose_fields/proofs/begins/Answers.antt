@@ -1,10 +1,6 @@
-use Prim.Native.Nat.{◌+◌, ◌-◌, ◌≤◌}
-use lib.ListN.{length, drop}
-use mathlib.Core.Path.{◌≡◌, sym, ◌∙◌}
+use mathlib.Core.Path.{sym, ◌∙◌}
 use native.Mathlib.Omega.{arith}
-use Rattle.compose_fields.specs.Steps.{begins}
 use Rattle.compose_fields.proofs.Laws.Parts.{begins-start, begins_short, begins-other, begins-more, begins-all}
-use borrow.Author.Rules.{rules}
 use Rattle.compose_fields.proofs.begins.Goals as goal
 
 pub loop-i-init : goal.loop-i-init

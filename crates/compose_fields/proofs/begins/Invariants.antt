@@ -1,10 +1,7 @@
 use Prim.Native.Nat.{◌+◌, ◌-◌, ◌≤◌}
 use lib.ListN.{length, drop}
-use mathlib.Core.Path.{◌≡◌, sym, ◌∙◌}
-use native.Mathlib.Omega.{arith}
+use mathlib.Core.Path.{◌≡◌}
 use Rattle.compose_fields.specs.Steps.{begins}
-use Rattle.compose_fields.proofs.Laws.Parts.{begins-start, begins_short, begins-other, begins-more, begins-all}
-use borrow.Author.Rules.{rules}
 use Rattle.compose_fields.proofs.begins.Given as goal
 
 abbrev pub invariant-loop-i : goal.invariant-loop-i

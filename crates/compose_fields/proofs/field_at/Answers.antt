@@ -1,8 +1,6 @@
-use borrow.Author.Tests.{not-true, not-false}
 use mathlib.Core.Path.{sym, ◌∙◌}
 use native.Mathlib.Omega.{arith}
 use Rattle.compose_fields.proofs.Laws.Fields.{optional-left, optional-absent, optional-large, optional-read, word_end}
-use borrow.Author.Rules.{rules}
 use Rattle.compose_fields.proofs.field_at.Goals as goal
 
 pub returns-then-not-begins : goal.returns-then-not-begins

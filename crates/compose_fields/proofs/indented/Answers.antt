@@ -1,10 +1,5 @@
-use Prim.Native.Nat.{◌-◌, ◌*◌, ◌≤◌}
-use lib.ListN.{length, drop}
-use mathlib.Core.Path.{◌≡◌}
 use native.Mathlib.Omega.{arith}
-use Rattle.outline_spec.specs.Understood.{indented}
 use Rattle.compose_fields.proofs.Laws.Parts.{blanks-start, blanks-other, blanks-odd, blanks-more, blanks_last_odd, blanks_last, blanks-end}
-use borrow.Author.Rules.{rules}
 use Rattle.compose_fields.proofs.indented.Goals as goal
 
 pub loop-l-init : goal.loop-l-init

@@ -1,7 +1,6 @@
 use Rattle.outline_spec.specs.Outline.{word}
 use native.Mathlib.Omega.{arith}
 use Rattle.compose_fields.proofs.Laws.Fields.{named_1, named_2, named_3, named_4, named_5, named_0}
-use borrow.Author.Rules.{rules}
 use Rattle.compose_fields.proofs.kind_at.Goals as goal
 
 pub returns-then-step-ne0 : goal.returns-then-step-ne0

@@ -1,8 +1,6 @@
-use borrow.Author.Tests.{not-true, not-false}
 use mathlib.Core.Path.{sym, ◌∙◌}
 use native.Mathlib.Omega.{arith}
 use Rattle.compose_fields.proofs.Laws.Fields.{label-left, label-other, label_short, label_open, label-closed}
-use borrow.Author.Rules.{rules}
 use Rattle.compose_fields.proofs.label_at.Goals as goal
 
 pub returns-then-line-at : goal.returns-then-line-at

@@ -1,6 +1,5 @@
 use native.Mathlib.Omega.{arith}
 use Rattle.compose_fields.proofs.Laws.Parts.{read-absent, number-end, number_low, number_high, number-goes}
-use borrow.Author.Rules.{rules}
 use Rattle.compose_fields.proofs.number.Goals as goal
 
 pub returns-then-line-at : goal.returns-then-line-at

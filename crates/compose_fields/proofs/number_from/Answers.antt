@@ -1,10 +1,6 @@
-use Prim.Native.Nat.{◌-◌, ◌≤◌}
-use lib.ListN.{length, drop}
-use mathlib.Core.Path.{◌≡◌, refl}
+use mathlib.Core.Path.{refl}
 use native.Mathlib.Omega.{arith}
-use Rattle.outline_spec.specs.Understood.{number_from}
 use Rattle.compose_fields.proofs.Laws.Parts.{digits_low, digits_high, digits-large, digits_more, digits-end}
-use borrow.Author.Rules.{rules}
 use Rattle.compose_fields.proofs.number_from.Goals as goal
 
 pub loop-i-init : goal.loop-i-init

@@ -1,10 +1,7 @@
 use Prim.Native.Nat.{◌-◌, ◌≤◌}
 use lib.ListN.{length, drop}
-use mathlib.Core.Path.{◌≡◌, refl}
-use native.Mathlib.Omega.{arith}
+use mathlib.Core.Path.{◌≡◌}
 use Rattle.outline_spec.specs.Understood.{number_from}
-use Rattle.compose_fields.proofs.Laws.Parts.{digits_low, digits_high, digits-large, digits_more, digits-end}
-use borrow.Author.Rules.{rules}
 use Rattle.compose_fields.proofs.number_from.Given as goal
 
 abbrev pub invariant-loop-i : goal.invariant-loop-i

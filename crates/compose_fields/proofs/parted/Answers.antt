@@ -1,6 +1,5 @@
 use native.Mathlib.Omega.{arith}
 use Rattle.compose_fields.proofs.Laws.Parts.{parted-end, parted-here}
-use borrow.Author.Rules.{rules}
 use Rattle.compose_fields.proofs.parted.Goals as goal
 
 pub returns-then-line-at : goal.returns-then-line-at

@@ -2,7 +2,6 @@ use Rattle.outline_spec.proofs.Laws.Told.{border_small}
 use mathlib.Core.Path.{refl, ◌∙◌}
 use native.Mathlib.Omega.{arith}
 use Rattle.compose_line.proofs.Laws.Cells.{fields_1, fields_2, fields_3, fields_4, fields_5, fields_0, usual_within}
-use borrow.Author.Rules.{rules}
 use Rattle.compose_line.proofs.fields.Goals as goal
 
 pub returns-then-w-ne0 : goal.returns-then-w-ne0

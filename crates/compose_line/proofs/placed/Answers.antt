@@ -1,8 +1,6 @@
-use borrow.Author.Tests.{not-true, not-false}
 use mathlib.Core.Path.{sym, ◌∙◌}
 use native.Mathlib.Omega.{arith}
 use Rattle.compose_line.proofs.Laws.Cells.{told_high, told_aside, told-placed, lower_small}
-use borrow.Author.Rules.{rules}
 use Rattle.compose_line.proofs.placed.Goals as goal
 
 pub returns-then-not-lower : goal.returns-then-not-lower

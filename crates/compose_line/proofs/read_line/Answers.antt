@@ -1,7 +1,5 @@
-use borrow.Author.Tests.{not-true, not-false}
 use mathlib.Core.Path.{sym, ◌∙◌}
 use Rattle.compose_line.proofs.Laws.Lines.{read_strange, read-over, read-odd, read-on, level-starts}
-use borrow.Author.Rules.{rules}
 use Rattle.compose_line.proofs.read_line.Goals as goal
 
 pub returns-then-not-letters_printable : goal.returns-then-not-letters_printable

@@ -1,6 +1,5 @@
 use native.Mathlib.Omega.{arith}
 use Rattle.compose_line.proofs.Laws.Lines.{worded_none, worded_goes}
-use borrow.Author.Rules.{rules}
 use Rattle.compose_line.proofs.worded.Goals as goal
 
 pub returns-then-n-eq0 : goal.returns-then-n-eq0

@@ -1,4 +1,4 @@
-use Rattle.std.proofs.Common.{arith, rules}
+use Rattle.std.proofs.Common.{arith}
 use Rattle.decimals.proofs.Laws.Fixed.{fixed-put, fixed_short}
 use Rattle.decimals.proofs.put_fixed.Goals as goal
 

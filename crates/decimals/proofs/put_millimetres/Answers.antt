@@ -1,5 +1,4 @@
 use Rattle.decimals.specs.Fixed.{millimetres}
-use Rattle.std.proofs.Common.{rules}
 use Rattle.decimals.proofs.put_millimetres.Goals as goal
 
 pub returns : goal.returns

@@ -1,4 +1,4 @@
-use Rattle.std.proofs.Common.{arith, rules}
+use Rattle.std.proofs.Common.{arith}
 use Rattle.decimals.proofs.Laws.Refused.{refused-put}
 use Rattle.decimals.proofs.put_refused.Goals as goal
 

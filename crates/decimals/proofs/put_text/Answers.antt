@@ -1,5 +1,4 @@
-use Rattle.std.proofs.Common.{◌≡◌, ◌+◌, ◌-◌, ◌≤◌, length, take, refl, arith, length-set, rules}
-use Rattle.listing.specs.Put.{Put}
+use Rattle.std.proofs.Common.{refl, arith, length-set}
 use Rattle.listing.proofs.Laws.Put.{put-start, put-more, put_all}
 use Rattle.decimals.proofs.put_text.Goals as goal
 

@@ -1,6 +1,5 @@
 use Rattle.std.proofs.Common.{T, sym, subst}
 use lib.Ieee.{of_bits, neg}
-use Rattle.std.specs.Float.{◌<ᶠ◌, minus_one, two_to}
 use Rattle.decimals.proofs.Laws.Fixed.{held, not_low, not_high}
 use Rattle.decimals.proofs.thousandths.Goals as goal
 

@@ -3,7 +3,7 @@ use Rattle.std.specs.Prelude.{◌≡◌, [], ◌∷◌, ℕ, ◌+◌, ◌≤◌,
 use Rattle.std.proofs.Math.Path.{refl, ap}
 use Rattle.std.proofs.Common.{sym, ◌∙◌}
 use Rattle.std.proofs.Math.Dec.{leb→le, ltb→lt}
-use Rattle.plan.specs.Limits.{between, most_cells, most_width, most_level, last_row}
+use Rattle.plan.specs.Limits.{most_cells, most_width, most_level, last_row}
 use Rattle.plan.specs.Kinds.{known, allows}
 use Rattle.plan.specs.Plan.{Table, Is, parent, kind, box_width, box_depth, children, level, row}
 use Rattle.plan.specs.Questions as asked

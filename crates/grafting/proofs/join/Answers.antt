@@ -1,6 +1,5 @@
 use mathlib.Core.Path.{◌∙◌}
 use Rattle.grafting.proofs.Laws.Asked.{ready_read, low_of, flat-of, stopped, stopped-later, joins}
-use borrow.Author.Rules.{rules}
 use Rattle.grafting.proofs.join.Goals as goal
 
 pub returns-then-r-ne0 : goal.returns-then-r-ne0

@@ -1,10 +1,5 @@
-use Prim.Native.Nat.{◌≤◌, ◌-◌}
-use mathlib.Core.Path.{◌≡◌}
 use native.Mathlib.Omega.{arith}
-use Rattle.planfile_spec.specs.Reading.{column}
-use Rattle.grafting.specs.Grafted.{picked}
 use Rattle.grafting.proofs.Laws.Grafted.{column-none, column-more, column-all}
-use borrow.Author.Rules.{rules}
 use Rattle.grafting.proofs.join_bytes.Goals as goal
 
 pub loop-i-init : goal.loop-i-init

@@ -1,5 +1,4 @@
 use Rattle.grafting.proofs.Laws.Grafted.{graftable_hangs, columns_are}
-use borrow.Author.Rules.{rules}
 use Rattle.grafting.proofs.join_columns.Goals as goal
 
 pub join_parents-requires : goal.join_parents-requires

@@ -1,10 +1,7 @@
 use Prim.Native.Nat.{◌≤◌, ◌-◌}
 use mathlib.Core.Path.{◌≡◌}
-use native.Mathlib.Omega.{arith}
 use Rattle.planfile_spec.specs.Reading.{column}
 use Rattle.grafting.specs.Grafted.{picked_parent}
-use Rattle.grafting.proofs.Laws.Grafted.{column-none, column-more, column-all, hangs_at}
-use borrow.Author.Rules.{rules}
 use Rattle.grafting.proofs.join_parents.Given as goal
 
 abbrev pub invariant-loop-i : goal.invariant-loop-i

@@ -1,5 +1,4 @@
 use Rattle.grafting.proofs.Laws.Grafted.{picked_first, picked-second}
-use borrow.Author.Rules.{rules}
 use Rattle.grafting.proofs.pick_byte.Goals as goal
 
 pub returns-then-i-n : goal.returns-then-i-n

@@ -1,6 +1,5 @@
 use native.Mathlib.Omega.{arith}
 use Rattle.grafting.proofs.Laws.Grafted.{parent-first, parent_root, parent-second}
-use borrow.Author.Rules.{rules}
 use Rattle.grafting.proofs.pick_parent.Goals as goal
 
 pub returns-then-i-n : goal.returns-then-i-n

@@ -3,7 +3,6 @@ use mathlib.Core.Path.{ap, ◌∙◌}
 use native.Mathlib.Omega.{arith}
 use Rattle.plan.proofs.Laws.Questions.{stops, goes_on}
 use Rattle.grafting.proofs.Laws.Asked.{ready_columns, part-read}
-use borrow.Author.Rules.{rules}
 use Rattle.grafting.proofs.ready.Goals as goal
 
 pub returns-then-long-ne0 : goal.returns-then-long-ne0

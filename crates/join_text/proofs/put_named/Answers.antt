@@ -1,6 +1,5 @@
 use native.Mathlib.Omega.{arith}
 use Rattle.listing.proofs.Laws.Put.{then}
-use borrow.Author.Rules.{rules}
 use Rattle.join_text.proofs.put_named.Goals as goal
 
 pub returns : goal.returns

@@ -1,6 +1,5 @@
 use native.Mathlib.Omega.{arith}
 use Rattle.join_text.proofs.Laws.JoinText.{text-written, text-first, text-second, text-refused}
-use borrow.Author.Rules.{rules}
 use Rattle.join_text.proofs.write_join.Goals as goal
 
 pub returns-in-Written : goal.returns-in-Written

@@ -2,7 +2,6 @@ use native.Mathlib.Numerals.{add-one}
 use mathlib.Core.Path.{sym, ◌∙◌}
 use native.Mathlib.Omega.{arith}
 use Rattle.outline_line.proofs.Laws.Written.{under-lower, under_none}
-use borrow.Author.Rules.{rules}
 use Rattle.outline_line.proofs.level_under.Goals as goal
 
 pub overflow_add-result : goal.overflow_add-result

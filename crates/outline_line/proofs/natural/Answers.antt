@@ -1,6 +1,5 @@
 use native.Mathlib.Omega.{arith}
 use Rattle.outline_line.proofs.Laws.Written.{border-known, border_unknown}
-use borrow.Author.Rules.{rules}
 use Rattle.outline_line.proofs.natural.Goals as goal
 
 pub returns-in-Known : goal.returns-in-Known

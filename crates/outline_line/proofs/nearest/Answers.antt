@@ -1,10 +1,6 @@
-use Prim.Native.Nat.{◌-◌, ◌≤◌}
 use native.Mathlib.Omega.{arith}
-use lib.ListN.{take, drop}
-use mathlib.Core.Path.{◌≡◌, refl, sym, ◌∙◌}
-use Rattle.outline_spec.specs.Outline.{nearest, last_less}
+use mathlib.Core.Path.{refl, sym, ◌∙◌}
 use Rattle.outline_line.proofs.Laws.Written.{less_start, less_more, less_end}
-use borrow.Author.Rules.{rules}
 use Rattle.outline_line.proofs.nearest.Goals as goal
 
 pub loop-i-init : goal.loop-i-init

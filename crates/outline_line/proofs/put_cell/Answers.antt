@@ -5,7 +5,6 @@ use lib.ListN.{length, take, drop, length-drop}
 use mathlib.Core.Path.{◌≡◌, refl, ◌∙◌}
 use native.Mathlib.Omega.{arith}
 use Rattle.outline_line.proofs.Laws.Written.{put-length, line-put}
-use borrow.Author.Rules.{rules}
 use Rattle.outline_line.proofs.put_cell.Goals as goal
 
 pub put_field-e-requires : goal.put_field-e-requires

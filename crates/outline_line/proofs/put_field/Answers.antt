@@ -1,6 +1,5 @@
 use native.Mathlib.Omega.{arith}
 use Rattle.outline_line.proofs.Laws.Written.{field-none, field_put}
-use borrow.Author.Rules.{rules}
 use Rattle.outline_line.proofs.put_field.Goals as goal
 
 pub returns-then-value-usual : goal.returns-then-value-usual

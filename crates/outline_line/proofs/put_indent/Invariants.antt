@@ -1,11 +1,6 @@
-use Rattle.outline_line.proofs.Laws.Written.{put-length}
-use mathlib.Core.Path.{◌≡◌}
 use Prim.Native.Nat.{◌-◌, ◌≤◌}
-use native.Mathlib.Omega.{arith}
 use Rattle.listing.specs.Put.{Put}
 use Rattle.outline_spec.specs.Outline.{indent}
-use Rattle.outline_line.proofs.Laws.Written.{indent-none, indent-put, indent-place}
-use borrow.Author.Rules.{rules}
 use Rattle.outline_line.proofs.put_indent.Given as goal
 
 abbrev pub invariant-loop-i : goal.invariant-loop-i

@@ -4,7 +4,6 @@ use lib.Seq.{length-take-le}
 use mathlib.Core.Path.{◌≡◌}
 use native.Mathlib.Omega.{arith}
 use Rattle.outline_line.proofs.Laws.Written.{label-none, label-put}
-use borrow.Author.Rules.{rules}
 use Rattle.outline_line.proofs.put_label.Goals as goal
 
 pub returns-then-size-eq0 : goal.returns-then-size-eq0

@@ -1,6 +1,5 @@
 use native.Mathlib.Omega.{arith}
 use Rattle.outline_line.proofs.Laws.Written.{word_none, word-put, word-empty, word_1, word_2, word_3, word_4, word_5}
-use borrow.Author.Rules.{rules}
 use Rattle.outline_line.proofs.put_word.Goals as goal
 
 pub returns-in-1 : goal.returns-in-1

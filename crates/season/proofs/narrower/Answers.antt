@@ -1,6 +1,5 @@
 use borrow.Author.Tests.{eq-eqb, ne_eqb}
 use Rattle.season.specs.Pool.{narrower}
-use borrow.Author.Rules.{rules}
 use Rattle.season.proofs.narrower.Goals as goal
 
 pub returns-then-p-eq0 : goal.returns-then-p-eq0

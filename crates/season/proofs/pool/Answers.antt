@@ -1,5 +1,4 @@
 use Rattle.season.proofs.Laws.Pool.{refuses, both_small, gives}
-use borrow.Author.Rules.{rules}
 use Rattle.season.proofs.pool.Goals as goal
 
 pub returns-then-refusal-ne0 : goal.returns-then-refusal-ne0

@@ -3,7 +3,6 @@ use native.Mathlib.Omega.{arith}
 use Rattle.plan.specs.Questions.{asked}
 use Rattle.plan.proofs.Laws.Questions.{stops, goes_on}
 use Rattle.season.proofs.Laws.Pool.{asked_small, refusal_is}
-use borrow.Author.Rules.{rules}
 use Rattle.season.proofs.pool_refusal.Goals as goal
 
 pub returns-then-at_first-ne0 : goal.returns-then-at_first-ne0

@@ -1,5 +1,4 @@
 use Rattle.season.specs.Pool.{pooled}
-use borrow.Author.Rules.{rules}
 use Rattle.season.proofs.pooled.Goals as goal
 
 pub returns : goal.returns

@@ -1,6 +1,5 @@
 use borrow.Author.Tests.{eq-eqb, ne_eqb}
 use Rattle.season.specs.Report.{quotient}
-use borrow.Author.Rules.{rules}
 use Rattle.season.proofs.quotient.Goals as goal
 
 pub returns-then-n-eq0 : goal.returns-then-n-eq0

@@ -1,6 +1,5 @@
 use borrow.Author.Tests.{eq-eqb, ne_eqb, le-leb, lt-leb}
 use Rattle.season.specs.Pool.{sound}
-use borrow.Author.Rules.{rules}
 use Rattle.season.proofs.sound.Goals as goal
 
 pub returns-then-r-gt-MOST_PLANS : goal.returns-then-r-gt-MOST_PLANS

@@ -1,6 +1,5 @@
 use native.Mathlib.Omega.{arith}
 use Rattle.summary.proofs.Laws.Summary.{figure_put}
-use borrow.Author.Rules.{rules}
 use Rattle.summary.proofs.put_figure.Goals as goal
 
 pub returns : goal.returns

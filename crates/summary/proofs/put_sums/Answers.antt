@@ -1,7 +1,6 @@
 use native.Mathlib.Omega.{arith}
 use Rattle.listing.proofs.Laws.Put.{then}
 use Rattle.summary.specs.Summary.{sums_lines}
-use borrow.Author.Rules.{rules}
 use Rattle.summary.proofs.put_sums.Goals as goal
 
 pub returns : goal.returns

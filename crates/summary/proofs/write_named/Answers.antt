@@ -1,6 +1,5 @@
 use native.Mathlib.Omega.{arith}
 use Rattle.summary.proofs.Laws.Summary.{named_put}
-use borrow.Author.Rules.{rules}
 use Rattle.summary.proofs.write_named.Goals as goal
 
 pub returns : goal.returns
