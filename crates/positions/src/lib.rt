@@ -1,5 +1,7 @@
 // Where the cells of a plan stand: their x's from the marks of the walk, written out, and the width and the rows measured from them.
 // An x lies from −262,143 to 262,143, and is held here moved up by 262,143.
+#![tactic(auto)]
+
 ghost use Rattle.std.specs.Prelude.{◌≡◌, List, ℕ, ◌+◌, ◌-◌, ◌*◌, ◌^◌, ◌≤◌, ◌<◌, length, get_or, set, pos, ◌-ℤ◌};
 ghost use Rattle.plan.specs.Limits.{farthest, most_cells};
 ghost use Rattle.plan.specs.Plan.{Sound, row, dictated_bottom};
