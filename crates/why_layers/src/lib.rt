@@ -1,4 +1,6 @@
 // The search: a cell's mark is 1 more than the fewest links that lead to it, 0 where none do so far.
+#![tactic(auto)]
+
 ghost use Rattle.std.specs.Prelude.{◌≡◌, ◌^◌, ◌≤◌, ◌<◌};
 ghost use Rattle.plan.specs.Limits.{most_cells};
 ghost use Rattle.plan.specs.Trees.{Column};

@@ -1,0 +1,18 @@
+use Rattle.why_layers.proofs.Seeking.{seeking_starts, seeking_stops, seeking_turns, seeking_ends}
+use mathlib.Core.Path.{◌∙◌, sym}
+use Rattle.why_layers.specs.Marks.{ending}
+use Rattle.why_layers.proofs.ending.Goals as goal
+
+pub loop-e-init : goal.loop-e-init
+loop-e-init c = seeking_starts _ _
+
+pub returns-then-at_end : goal.returns-then-at_end
+unfolding ending
+returns-then-at_end c = seeking_stops c.loop-e.invariant c.loop-e-test.true (sym c.at_end.ensures ∙ c.if-at_end.true)
+
+pub loop-e-preserved : goal.loop-e-preserved
+loop-e-preserved c = seeking_turns c.loop-e.invariant c.loop-e-test.true (sym c.at_end.ensures ∙ c.if-at_end.false)
+
+pub returns : goal.returns
+unfolding ending
+returns c = seeking_ends c.loop-e.invariant c.loop-e-test.false
