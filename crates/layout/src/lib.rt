@@ -1,4 +1,6 @@
 // LAYOUT: a table and an allowance to positions, width and rows.
+#![tactic(auto)]
+
 ghost use Rattle.std.specs.Prelude.{◌≡◌, length, replicate};
 ghost use Rattle.plan.specs.Limits.{scratch_size};
 ghost use Rattle.plan.specs.Columns.{table_of};
