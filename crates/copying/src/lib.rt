@@ -1,4 +1,6 @@
 // THE CLEAN COPY (document 02, E4): a plan file written from columns and label bytes into a lent output.
+#![tactic(auto)]
+
 ghost use Rattle.std.specs.Prelude.{◌≡◌, ◌≤◌, ◌<◌, length};
 ghost use Rattle.plan.specs.Limits.{between, most_cells, most_file};
 ghost use Rattle.records.specs.Apart.{records_in};

@@ -1,4 +1,6 @@
 // The lines that tell of the cells altered, written at a place of an output.
+#![tactic(auto)]
+
 ghost use Rattle.std.specs.Prelude.{◌≡◌, ◌+◌, ◌*◌, ◌≤◌, ◌<◌, length};
 ghost use Rattle.plan.specs.Limits.{most_cells, lines_size};
 ghost use Rattle.plan.specs.Forms.{record_size};
