@@ -1,4 +1,6 @@
 // Why a drawn sheet is as wide as it is: the chain with the fewest links that its cells just keep, from a cell with the least x to one with the greatest right edge.
+#![tactic(auto)]
+
 pub mod between;
 pub mod search;
 
