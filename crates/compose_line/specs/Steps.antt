@@ -2,7 +2,7 @@
 use Rattle.std.specs.Prelude.{◌≡◌, List, ◌&&◌, cond, ℕ, ◌-◌, ◌≤◌, eqb, length, take, drop}
 use Rattle.listing.specs.Printed.{Bytes}
 use Rattle.outline_spec.specs.Faults.{most_fault, fault_of}
-use Rattle.outline_spec.specs.Understood.{level, Line, wrong, cell}
+use Rattle.outline_spec.specs.Understood.{Line, wrong, cell}
 use Rattle.compose_line.specs.declared.Told.{Told}
 use Rattle.plan.specs.Questions.{lower}
 use Rattle.content.specs.Content.{Item}
