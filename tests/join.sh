@@ -18,7 +18,7 @@ same() {
     exit 1
 }
 for program in "$join" "$frame" "$sheet"; do
-    [ -x "$program" ] || { echo "tests/join.sh: $program is not built: rt check"; exit 1; }
+    [ -x "$program" ] || { echo "tests/join.sh: $program is not built: tools/programs.sh"; exit 1; }
 done
 : > "$work/empty"
 cp plans/*.plan "$work"

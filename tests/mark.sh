@@ -15,7 +15,7 @@ same() {
     exit 1
 }
 
-[ -x "$mark" ] || { echo "tests/mark.sh: $mark is not built: rt check mark_program"; exit 1; }
+[ -x "$mark" ] || { echo "tests/mark.sh: $mark is not built: tools/programs.sh mark_program"; exit 1; }
 
 # ---- a plan's own listing has full marks, with its width and rows; so has it with another origin, in another order and without its first line
 for plan in plans/*.plan; do

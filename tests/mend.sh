@@ -18,7 +18,7 @@ same() {
     exit 1
 }
 for program in "$mend" "$sheet"; do
-    [ -x "$program" ] || { echo "tests/mend.sh: $program is not built: rt check"; exit 1; }
+    [ -x "$program" ] || { echo "tests/mend.sh: $program is not built: tools/programs.sh"; exit 1; }
 done
 : > "$work/empty"
 

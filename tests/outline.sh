@@ -27,7 +27,7 @@ same_files() {
 }
 
 for program in "$outline" "$compose" "$clean"; do
-    [ -x "$program" ] || { echo "tests/outline.sh: $program is not built: rt check"; exit 1; }
+    [ -x "$program" ] || { echo "tests/outline.sh: $program is not built: tools/programs.sh"; exit 1; }
 done
 : > "$work/empty"
 

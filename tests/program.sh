@@ -27,9 +27,9 @@ same_files() {
 
 clean=target/bin/clean
 for program in "$sheet" "$clean"; do
-    [ -x "$program" ] || { echo "tests/program.sh: $program is not built: rt check"; exit 1; }
+    [ -x "$program" ] || { echo "tests/program.sh: $program is not built: tools/programs.sh"; exit 1; }
 done
-[ -x "$drill" ] || { echo "tests/program.sh: $drill is not built: rt check drill"; exit 1; }
+[ -x "$drill" ] || { echo "tests/program.sh: $drill is not built: tools/programs.sh drill"; exit 1; }
 
 # ---- the program
 : > "$work/empty"
@@ -172,7 +172,7 @@ fi
 
 # ---- the program plot: a drawing in SVG, or the line of a refusal
 plot=target/bin/plot
-[ -x "$plot" ] || { echo "tests/program.sh: $plot is not built: rt check plot"; exit 1; }
+[ -x "$plot" ] || { echo "tests/program.sh: $plot is not built: tools/programs.sh plot"; exit 1; }
 "$plot" < plans/pond.plan > "$work/out" 2> "$work/err"
 same "status of plot" 0 $?
 same_files "the drawing of plans/pond.plan" docs/pond.svg "$work/out"
@@ -237,7 +237,7 @@ fi
 
 # ---- the program turns: a line before each turn of the walk, as tests/turns.py works them out from the file
 turns=target/bin/turns
-[ -x "$turns" ] || { echo "tests/program.sh: $turns is not built: rt check turns"; exit 1; }
+[ -x "$turns" ] || { echo "tests/program.sh: $turns is not built: tools/programs.sh turns"; exit 1; }
 # 32 cells, each the one child of the one before it: the last is 31 levels below the root
 {
     printf '\377\377\2\4\1\0\0\0'
@@ -269,7 +269,7 @@ done
 
 # ---- the program `strip`: its points are those of the boxes that `sheet` lists and that `plot` draws
 strip=target/bin/strip
-[ -x "$strip" ] || { echo "tests/program.sh: $strip is not built: rt check strip"; exit 1; }
+[ -x "$strip" ] || { echo "tests/program.sh: $strip is not built: tools/programs.sh strip"; exit 1; }
 for plan in plans/*.plan; do
     "$strip" < "$plan" > "$work/out" 2> "$work/err"
     same "status of strip for $plan" 0 $?
@@ -352,7 +352,7 @@ same "standard error, a drill to a full device" "drill: the transcript could not
 
 # ---- folder: the report of the plans that its arguments name, worked out here from the first lines of their listings
 folder=target/bin/folder
-[ -x "$folder" ] || { echo "tests/program.sh: $folder is not built: rt check folder"; exit 1; }
+[ -x "$folder" ] || { echo "tests/program.sh: $folder is not built: tools/programs.sh folder"; exit 1; }
 # summed LISTING...: the report of the sheets whose first lines these are
 summed() {
     head -qn 1 "$@" | awk '{ n++; c += $2; w += $4; a += $4 * $5; if (n == 1 || $4 < l) l = $4; if ($4 > g) g = $4 }

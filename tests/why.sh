@@ -18,7 +18,7 @@ same() {
 }
 
 for program in "$why" "$sheet"; do
-    [ -x "$program" ] || { echo "tests/why.sh: $program is not built: rt check ${program##*/}"; exit 1; }
+    [ -x "$program" ] || { echo "tests/why.sh: $program is not built: tools/programs.sh ${program##*/}"; exit 1; }
 done
 
 # ---- the printed one
