@@ -1,4 +1,6 @@
 // MENDING (document 02, E11): boxes too narrow for their labels are widened, boxes of depth 0 get depth 1, and a line tells of each cell altered.
+#![tactic(auto)]
+
 ghost use Rattle.std.specs.Prelude.{◌≡◌, false, ◌++◌, ◌-◌, ◌≤◌, ◌<◌, length, drop, replicate};
 ghost use Rattle.plan.specs.Limits.{between, most_file, lines_size};
 ghost use Rattle.mending.specs.Mended.{would_get, mended};

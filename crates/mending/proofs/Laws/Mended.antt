@@ -15,7 +15,7 @@ use Rattle.plan.specs.Forms.{marked, record_size}
 use Rattle.plan.proofs.Laws.Form.{record_inside}
 use Rattle.plan.specs.Lists.{from, keep, mem}
 use Rattle.plan.proofs.Laws.Lists.{keep-read, keep_show, from-read, from_show}
-use Rattle.plan.specs.Questions.{none, asked, or_else, at_each}
+use Rattle.plan.specs.Questions.{asked, or_else, at_each}
 use Rattle.plan.proofs.Laws.Questions.{both-none, each_none, first-none, first_some}
 use Rattle.plan.proofs.Laws.Kept.{none_first}
 use Rattle.plan.specs.Steps.{cell_refusal, children_refusal, levels_refusal, rows_refusal, tree_refusal}
