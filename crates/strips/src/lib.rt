@@ -1,4 +1,6 @@
 // Strip: a row of a drawn sheet as bytes, for the raster printer.
+#![tactic(auto)]
+
 ghost use Rattle.std.specs.Prelude.{◌≡◌, false, ◌&&◌, ◌+◌, ◌-◌, ◌^◌, ◌/◌, ◌%◌, ◌<◌, ◌≤◌, min, eqb, leb, ltb, length};
 ghost use Rattle.plan.specs.Limits.{between};
 ghost use Rattle.plan.specs.Columns.{«table_of»};
