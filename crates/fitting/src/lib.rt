@@ -1,4 +1,6 @@
 // FRAME (document 02, E2): the least allowance whose sheet is no wider than a frame of so many squares, by halving.
+#![tactic(auto)]
+
 ghost use Rattle.std.specs.Prelude.{◌≡◌, cond, suc, ◌+◌, ◌-◌, ◌≤◌, T, length, replicate, pos};
 ghost use Rattle.plan.specs.Limits.{scratch_size, most_allowance};
 ghost use Rattle.plan.specs.Plan.{row};
