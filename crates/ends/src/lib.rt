@@ -1,4 +1,6 @@
 // Ends: where the connector from a parent to a child begins and ends.
+#![tactic(auto)]
+
 ghost use Rattle.std.specs.Prelude.{◌≡◌, ◌&&◌, ◌<◌, ◌≤◌, ltb, length, get_or, pos, ◌+ℤ◌};
 ghost use Rattle.whole.specs.Range.{InRange};
 ghost use Rattle.plan.specs.Limits.{farthest, most_width};
