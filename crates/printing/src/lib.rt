@@ -1,4 +1,6 @@
 // THE LISTING of a plan file, as bytes: a sheet, or the line of a refusal.
+#![tactic(auto)]
+
 ghost use Rattle.std.specs.Prelude.{◌≡◌, ◌+◌, ◌*◌, ◌≤◌, ◌<◌, length};
 ghost use Rattle.plan.specs.Limits.{listing_size};
 ghost use Rattle.listing.specs.Line.{line_size, «line_of»};

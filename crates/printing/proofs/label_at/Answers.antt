@@ -1,0 +1,23 @@
+use mathlib.Core.Path.{refl}
+use native.Mathlib.Omega.{arith}
+use Rattle.printing.proofs.Laws.Taken.{taken_few, label_inside, label_there}
+use borrow.Author.Rules.{rules}
+use Rattle.printing.proofs.label_at.Goals as goal
+
+pub offset_bounds-starts-c : goal.offset_bounds-starts-c
+offset_bounds-starts-c c = omega (arith, c.requires.0, taken_few _ _ c.requires.1)
+
+pub bounds-starts-c : goal.bounds-starts-c
+bounds-starts-c c = omega (arith, c.requires.0, taken_few _ _ c.requires.1)
+
+pub bounds-lengths-c : goal.bounds-lengths-c
+bounds-lengths-c c = omega (arith, c.requires.0, taken_few _ _ c.requires.1)
+
+pub overflow_add-end : goal.overflow_add-end
+overflow_add-end c = omega (arith, label_inside _ _ c.requires.1 _ c.requires.0)
+
+pub slice_bounds-result-end : goal.slice_bounds-result-end
+slice_bounds-result-end c = omega (arith, label_inside _ _ c.requires.1 _ c.requires.0)
+
+pub returns : goal.returns
+returns c = label_there _ _ c.requires.1 _ c.requires.0 _ _ refl refl
