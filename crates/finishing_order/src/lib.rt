@@ -1,4 +1,6 @@
 // THE ORDER OF FINISHING (document 02, E9) along the links: its cell number k, and whether a cell is among the first k.
+#![tactic(auto)]
+
 ghost use Rattle.std.specs.Prelude.{◌≡◌, ◌||◌, ◌≤◌, ◌<◌, min, get_or, take};
 ghost use Rattle.plan.specs.Lists.{mem};
 ghost use Rattle.plan.specs.Fit.{Fit};
