@@ -1,4 +1,6 @@
 // COPY, over lent records and label bytes. It asks nothing of its caller.
+#![tactic(auto)]
+
 ghost use Rattle.copying.specs.Copied.{Copies};
 
 use copying::Copied;

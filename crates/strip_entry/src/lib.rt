@@ -1,4 +1,6 @@
 // STRIP, over lent records and the positions of a sheet. It asks nothing of its caller.
+#![tactic(auto)]
+
 ghost use Rattle.plan.specs.Records.{«cells_of»};
 ghost use Rattle.strips.specs.Stripped.{Strips};
 
