@@ -326,7 +326,7 @@ def logs(every):
                     with open(name, 'w', encoding='utf-8') as f:
                         f.write(text)
                 out[edits[0].crate, edits[0].round] = text
-    workers = [threading.Thread(target=work) for _ in range(min(os.cpu_count() or 1, todo.qsize()))]
+    workers = [threading.Thread(target=work) for _ in range(min(len(os.sched_getaffinity(0)), todo.qsize()))]
     for w in workers:
         w.start()
     for w in workers:
