@@ -1,4 +1,6 @@
 // FRAME, over lent records. It asks nothing of its caller.
+#![tactic(auto)]
+
 ghost use Rattle.plan.specs.Records.{«cells_of»};
 ghost use Rattle.fitting.specs.Fitted.{Frames};
 

@@ -1,4 +1,6 @@
 // LAYOUT, over lent records. It asks nothing of its caller.
+#![tactic(auto)]
+
 ghost use Rattle.plan.specs.Records.{«cells_of»};
 ghost use Rattle.layout.specs.Laid.{Lays};
 
