@@ -1,4 +1,6 @@
 // THE OUTLINE OF A PLAN FILE, written into a lent output.
+#![tactic(auto)]
+
 ghost use Rattle.std.specs.Prelude.{◌≡◌, ◌++◌, ◌∷◌, [], ◌+◌, ◌≤◌, length};
 ghost use Rattle.listing.specs.Put.{Put};
 ghost use Rattle.listing.specs.Printed.{line_feed};

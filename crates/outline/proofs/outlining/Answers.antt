@@ -1,0 +1,27 @@
+use Rattle.outline_line.proofs.Laws.Written.{put-length}
+use Rattle.planfile_spec.specs.declared.Trailer.{Trailer}
+use lib.Seq.{length-take-le}
+use lib.ListN.{take}
+use mathlib.Core.Path.{refl, sym, ap, ◌∙◌}
+use native.Mathlib.Omega.{arith}
+use Rattle.outline.proofs.Laws.Outlined.{outline-refused, outline_ready, outline-written, outline-long, outline-begin}
+use borrow.Author.Rules.{rules}
+use Rattle.outline.proofs.outlining.Goals as goal
+
+pub returns-then-refusal-ne0 : goal.returns-then-refusal-ne0
+returns-then-refusal-ne0 c = outline-refused c.args.file.now _ c.read-plan.ensures c.if-refusal-ne0.true _
+
+pub trailer-end-requires : goal.trailer-end-requires
+trailer-end-requires c = outline-long c.args.file.now _ c.read-plan.ensures c.if-refusal-ne0.false
+
+pub slice_bounds-put_cells-end : goal.slice_bounds-put_cells-end
+slice_bounds-put_cells-end c = let h = outline-begin c.args.file.now _ c.read-plan.ensures c.if-refusal-ne0.false in sym (length-take-le _ _ (rw c.trailer-end.ensures h))
+
+pub put_cells-requires : goal.put_cells-requires
+put_cells-requires c = (outline_ready c.args.file.now _ c.read-plan.ensures c.if-refusal-ne0.false (λ i. omega (arith, c.type_inv.file i)) _ (ap (λ (x : Trailer). take x.begin c.args.file.now) c.trailer-end.ensures), omega (arith, put-length c.put_first-at.ensures.0, c.put_first-at.ensures.1, c.requires))
+
+pub shape_of-out : goal.shape_of-out
+shape_of-out c = put-length c.put_cells.ensures ∙ put-length c.put_first-at.ensures.0
+
+pub returns : goal.returns
+returns c = outline-written c.args.file.now _ c.read-plan.ensures c.if-refusal-ne0.false (λ i. omega (arith, c.type_inv.file i)) _ _ _ _ _ _ _ (ap (λ (x : Trailer). take x.begin c.args.file.now) c.trailer-end.ensures) refl c.requires c.put_first-at.ensures.0 c.put_first-at.ensures.1 c.put_cells.ensures

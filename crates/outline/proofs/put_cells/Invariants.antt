@@ -1,0 +1,14 @@
+use Prim.Native.Nat.{◌-◌, ◌≤◌}
+use mathlib.Core.Path.{◌≡◌, refl, ◌∙◌}
+use native.Mathlib.Omega.{arith}
+use Rattle.outline.specs.Steps.{item_from}
+use Rattle.outline_line.proofs.Laws.Written.{put-length}
+use Rattle.outline.proofs.Laws.Cells.{Wrote, wrote_none, wrote_more, wrote_room}
+use borrow.Author.Rules.{rules}
+use Rattle.outline.proofs.put_cells.Given as goal
+
+abbrev pub invariant-loop-c : goal.invariant-loop-c
+invariant-loop-c l = (l.c ≤ l.n) × Wrote (item_from l.parents l.kinds l.widths l.depths l.ranks l.lengths l.starts l.letters) l.initial.out l.out l.begin l.at l.levels l.c
+
+abbrev pub decreases-loop-c : goal.decreases-loop-c
+decreases-loop-c l = l.n - l.c
