@@ -1,4 +1,6 @@
 // THE GUARD (document 02, E9): whether the scratches can be those of a sheet that is being made, as far as a step reads them. A cell is finished, by the functions of Layout's walk, if the guard lets it; else nothing changes.
+#![tactic(auto)]
+
 ghost use Rattle.std.specs.Prelude.{◌≡◌, ◌+◌, ◌*◌, ◌≤◌, ◌<◌, length, get_or};
 ghost use Rattle.plan.specs.Limits.{last_row, scratch_size, second_size};
 ghost use Rattle.joining.specs.Joining.{memory_of};
