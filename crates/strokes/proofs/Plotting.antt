@@ -1,7 +1,6 @@
 -- A difference as the machine reads it back from its bits, on paper. Assumes nothing.
-use mathlib.Core.Path.{◌≡◌, refl, sym, ap, subst}
-use mathlib.Core.Bool.{Bool, true, false, not, ◌&&◌}
-use lib.Dec.{T}
+use mathlib.Core.Path.{◌≡◌, ◌∙◌, refl, sym, ap}
+use mathlib.Core.Bool.{Bool, true, false, ◌&&◌}
 use Prim.Native.Nat.{ℕ, ◌<◌, ◌^◌}
 use lib.IntN.{ℤ, pos, ◌-ℤ◌}
 use lib.Ieee.{Float}
@@ -16,16 +15,9 @@ pub plotted-back : (a b : ℕ) (d : ℤ) (p m : Float) → a < 2 ^ 31 → b < 2 
 plotted-back a b d p m ha hb e =
     rw e (ap (λ (z : ℤ). plotted z p m) (to_z-of_z w32 (pos a -ℤ pos b) (rw (back_nat a ha, back_nat b hb) at (difference_fits a b ha hb))))
 
-truth : true ≡ false → ⊥
-truth e = subst T e tt
-
 -- two tests, one after the other
-pub stop_and : (a b r : Bool) → r ≡ a → not r ≡ true → false ≡ a && b
-stop_and true b true e h = absurd (truth (sym h))
-stop_and true b false e h = absurd (truth (sym e))
-stop_and false b r e h = refl
+pub stop_and : (a b r : Bool) → r ≡ a → r ≡ false → false ≡ a && b
+stop_and a b r e h = rw (sym e ∙ h) refl
 
-pub go_and : (a b r s : Bool) → r ≡ a → not r ≡ false → s ≡ b → s ≡ a && b
-go_and true b r s e h k = k
-go_and false b true s e h k = absurd (truth e)
-go_and false b false s e h k = absurd (truth h)
+pub go_and : (a b r s : Bool) → r ≡ a → r ≡ true → s ≡ b → s ≡ a && b
+go_and a b r s e h k = rw (sym e ∙ h) k

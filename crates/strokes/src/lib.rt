@@ -1,4 +1,6 @@
 // Stroke number s of a drawn sheet, for the pen plotter.
+#![tactic(auto)]
+
 ghost use Rattle.std.specs.Prelude.{◌≡◌, ◌+◌, ◌<◌, ◌≤◌, ◌^◌, get_or, pos, ◌-ℤ◌};
 ghost use Rattle.plan.specs.Limits.{farthest, most_width, most_depth};
 ghost use Rattle.plan.specs.Columns.{«table_of»};
