@@ -1,4 +1,6 @@
 // WHAT A TEXT SAYS, and the plan file that it is the outline of, written into a lent output.
+#![tactic(auto)]
+
 ghost use Rattle.std.specs.Prelude.{◌≡◌, ◌+◌, ◌-◌, ◌≤◌, ◌<◌, length, take, drop};
 ghost use Rattle.listing.specs.Put.{Put};
 ghost use Rattle.outline_spec.specs.Faults.{most_fault};
