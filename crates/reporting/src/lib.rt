@@ -1,4 +1,6 @@
 // REPORT (document 02, E14): the report of one plan file, with its sheet at its own allowance.
+#![tactic(auto)]
+
 ghost use Rattle.std.specs.Prelude.{◌≡◌, ◌&&◌, leb};
 ghost use Rattle.plan.specs.Limits.{most_cells, scratch_size};
 ghost use Rattle.reporting.specs.Reporting.{report_refusal, taken, Drafts};
