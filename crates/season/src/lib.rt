@@ -21,7 +21,7 @@ pub const AREA_EACH: u64 = 67108608;
 
 // The figures of some plans, zeros throughout for none. Beside each field the most that 1,024 plans can make of it.
 #[repr(C)]
-#[derive(Clone, Copy)]
+#[derive(Clone, Copy, Drop)]
 pub struct Report {
     // The number of plans: 1,024.
     pub plans: u32,
@@ -40,7 +40,7 @@ pub struct Report {
 }
 
 // The figures; or the refusal's number and cell.
-#[derive(Clone, Copy)]
+#[derive(Clone, Copy, Drop)]
 pub enum Reported {
     Figures(Report),
     Refused(u8, u16),
