@@ -1,4 +1,6 @@
 // A CELL OF THE DRILL (document 02, E12): what it does when it is opened, by its kind and its byte, and after each child.
+#![tactic(auto)]
+
 ghost use Rattle.std.specs.Prelude.{◌≡◌, ◌+◌, ◌*◌, ◌≤◌, ◌<◌, length, get_or};
 ghost use Rattle.links.specs.Links.{link};
 ghost use Rattle.following_cell.specs.Opening.{after, later, hops, repeated, picked, waiting, answered, opened, Row, Cell};
