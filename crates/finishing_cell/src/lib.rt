@@ -1,4 +1,6 @@
 // CELL NUMBER k OF THE ORDER (document 02, E9) is finished, if the guard lets it; else nothing changes.
+#![tactic(auto)]
+
 ghost use Rattle.std.specs.Prelude.{◌≡◌, ◌<◌, length, get_or};
 ghost use Rattle.plan.specs.Columns.{table_of};
 ghost use Rattle.joining.specs.Joining.{memory_of};

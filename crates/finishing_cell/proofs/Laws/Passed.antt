@@ -12,7 +12,6 @@ use Rattle.plan.proofs.Laws.Paths.{child_less}
 use Rattle.plan.proofs.Laws.Plan.{child-read, child-index, child-place}
 use Rattle.walk.specs.Machine.{Chart, State, closed, step, Closing, Ending}
 use Rattle.walk.specs.Walked.{Suits}
-use Rattle.walk.proofs.Laws.Claim.{at}
 use Rattle.walk.proofs.Laws.Machine.{step_open, step_close, Safe}
 use Rattle.walk.proofs.Laws.Tree.{Tail, tail_all, tail_head, tail_next, tail_first, sum}
 use Rattle.plan.proofs.Laws.Trees.{level-child}
