@@ -1,4 +1,6 @@
 // TWO PLAN FILES JOINED (document 02, E10): the second plan hung under a cell of the first, written as a clean copy into a lent output.
+#![tactic(auto)]
+
 ghost use Rattle.std.specs.Prelude.{◌≡◌, ◌++◌, ◌+◌, ◌≤◌, ◌<◌, length, get_or};
 ghost use Rattle.plan.specs.Limits.{most_cells, most_file};
 ghost use Rattle.planfile_spec.specs.Reading.{column};
