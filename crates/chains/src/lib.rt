@@ -26,7 +26,7 @@ fn print_open(out: &impl Print, cell: u16, open: bool) -> bool {
 }
 
 // The numbers of the chain up to its count; whether all of them were written.
-fn print_chain(out: &impl Print, chain: Chain) -> bool {
+fn print_chain(out: &impl Print, chain: &Chain) -> bool {
     let cells = chain.cells;
     let mut written = true;
     for i in 0..32 {
@@ -47,7 +47,7 @@ fn print_next(out: &impl Print, next: usize) -> bool {
 }
 
 // The line before a turn; whether all of it was written.
-pub fn print_turn(out: &impl Print, chain: Chain, next: usize) -> bool {
+pub fn print_turn(out: &impl Print, chain: &Chain, next: usize) -> bool {
     let named = word(out, b"open");
     let told = print_chain(out, chain);
     let then = print_next(out, next);

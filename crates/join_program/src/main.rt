@@ -51,7 +51,7 @@ fn read_argument<R: Env + Files>(rt: &R, i: usize, file: &mut [u8]) -> usize {
     }
 }
 
-// The line of a refusal; nothing where the file is written.
+// The line of a refusal.
 fn print_answer(out: &impl Print, err: &impl Print, answer: Joined) {
     let mut text = [0u8; JOIN_SIZE];
     let n = write_join(answer, &mut text);
@@ -86,12 +86,9 @@ fn join_plans<R: Env + Files>(
 ) {
     let mut joined = [0u8; MOST_FILE];
     let answer = join_files(first_plan, cell, second_plan, &mut joined);
-    print_answer(out, err, answer);
     match answer {
         Joined::Written(length) => hand_over(rt, process, err, first(&joined, length)),
-        Joined::FirstRefused(_, _) => {}
-        Joined::SecondRefused(_, _) => {}
-        Joined::Refused(_, _) => {}
+        refused => print_answer(out, err, refused),
     }
 }
 

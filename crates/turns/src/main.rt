@@ -40,7 +40,7 @@ fn watch<'a>(
     let mut written = true;
     while 0 < at.open_cells.count {
         let chain = at.open_cells;
-        let told = print_turn(out, chain, at.next);
+        let told = print_turn(out, &chain, at.next);
         written = written & told;
         at = turn(
             links, widths, depths, tops, allowance, chain, at.next, rows, marks,
