@@ -1,4 +1,6 @@
 // The strokes of a drawing in SVG, as bytes, and what stands before them.
+#![tactic(auto)]
+
 ghost use Rattle.std.specs.Prelude.{◌+◌, ◌≤◌, length};
 ghost use Rattle.listing.specs.Put.{Put};
 ghost use Rattle.svg_strokes.specs.Strokes.{point_text, stroke_text, head_text};
