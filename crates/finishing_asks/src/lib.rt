@@ -1,4 +1,6 @@
 // THE QUESTIONS of Start, Step and Reach (document 02, E9), put in their order.
+#![tactic(auto)]
+
 ghost use Rattle.std.specs.Prelude.{◌≡◌};
 ghost use Rattle.plan.specs.Columns.{table_of};
 ghost use Rattle.finishing_asks.specs.Asks.{start_no, step_no};
