@@ -1,4 +1,6 @@
 // THE SEASON'S FOLDER, over lent memory (document 02, E14): a library above the engine. It asks nothing of its caller.
+#![tactic(auto)]
+
 ghost use Rattle.std.specs.Prelude.{◌≡◌};
 ghost use Rattle.season.specs.Pool.{pool};
 ghost use Rattle.reporting.specs.Reporting.{Reports};
