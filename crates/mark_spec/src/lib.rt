@@ -1,4 +1,6 @@
 // What Mark answers of a drawing. Full: width and rows. Wide: width, the least width there is, rows. Broken: rule, a and b. Refused: number and cell.
+#![tactic(auto)]
+
 #[derive(Drop)]
 pub enum Marked {
     Full(u32, u32),
