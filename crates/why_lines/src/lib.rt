@@ -1,4 +1,6 @@
 // A PRINTED REASON: each line written into a buffer at a place, every byte by a definition; each function hands the next place back.
+#![tactic(auto)]
+
 ghost use Rattle.std.specs.Prelude.{◌≡◌, ◌∷◌, ◌+◌, ◌*◌, ◌^◌, ◌≤◌, ◌<◌, length, pos, ◌-ℤ◌};
 ghost use Rattle.listing.specs.Printed.{space, decimal, signed};
 ghost use Rattle.listing.specs.Put.{Put};
