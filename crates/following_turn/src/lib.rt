@@ -1,4 +1,6 @@
 // ONE TURN OF THE DRILL (document 02, E12), over the chain of open cells: the next child of the latest one is opened, or that one is closed.
+#![tactic(auto)]
+
 ghost use Rattle.std.specs.Prelude.{◌≡◌, ◌∷◌, ◌+◌, ◌≤◌, ◌<◌, length, get_or, set};
 ghost use Rattle.plan.specs.Limits.{most_steps};
 ghost use Rattle.moves.specs.Drill.{recorded};

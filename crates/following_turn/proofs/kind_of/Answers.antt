@@ -1,0 +1,4 @@
+use Rattle.following_turn.proofs.kind_of.Goals as goal
+
+pub returns : goal.returns
+returns c = rw c.wide16.ensures
