@@ -1,4 +1,6 @@
 // A STEP (document 02, E9) for a table that no question refuses: one cell is finished and counted, and after the last the sheet is written.
+#![tactic(auto)]
+
 ghost use Rattle.std.specs.Prelude.{◌≡◌, ◌*◌, ◌≤◌, ◌<◌, length, get_or, set};
 ghost use Rattle.plan.specs.Columns.{table_of};
 ghost use Rattle.joining.specs.Joining.{memory_of};
