@@ -1,4 +1,6 @@
 // THE PEN PLOTTER'S CALL, over lent records: a library above the engine. It asks nothing of its caller.
+#![tactic(auto)]
+
 ghost use Rattle.std.specs.Prelude.{◌≡◌};
 ghost use Rattle.plan.specs.Records.{«cells_of»};
 ghost use Rattle.strokes.specs.Stroked.{stroked_of};

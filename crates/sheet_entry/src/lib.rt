@@ -1,4 +1,6 @@
 // CHECK AND ENDS, over lent records and the positions of a sheet. They ask nothing of their caller.
+#![tactic(auto)]
+
 ghost use Rattle.std.specs.Prelude.{◌≡◌};
 ghost use Rattle.plan.specs.Records.{«cells_of»};
 ghost use Rattle.checker.specs.Checked.{checked_of};
