@@ -1,4 +1,6 @@
 // The labels of a drawing in SVG, as bytes, and what stands before them.
+#![tactic(auto)]
+
 ghost use Rattle.std.specs.Prelude.{◌+◌, ◌*◌, ◌≤◌, length};
 ghost use Rattle.plan.specs.Limits.{most_label};
 ghost use Rattle.listing.specs.Put.{Put};
