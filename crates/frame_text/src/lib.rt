@@ -1,5 +1,7 @@
 // WHAT THE PROGRAM `frame` PRINTS (document 02, E2) of a plan file and a frame of so many squares: the least allowance that fits, with the width and the rows of its sheet; or none; or the line of a refusal.
 // Each function writes a text into a buffer at a place, and hands the next place back.
+#![tactic(auto)]
+
 ghost use Rattle.std.specs.Prelude.{◌≡◌, ◌∷◌, ◌+◌, ◌≤◌, length};
 ghost use Rattle.plan.specs.Fit.{Fit};
 ghost use Rattle.plan.specs.Columns.{table_of};
