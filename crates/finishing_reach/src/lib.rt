@@ -1,4 +1,6 @@
 // REACH (document 02, E9): the reach of what is finished of a sheet that is made a cell a step.
+#![tactic(auto)]
+
 ghost use Rattle.std.specs.Prelude.{◌≡◌, ◌≤◌, ◌<◌, length};
 ghost use Rattle.plan.specs.Limits.{second_size};
 ghost use Rattle.plan.specs.Fit.{Fit};
