@@ -1,4 +1,6 @@
 // START AND STEP (document 02, E9): a sheet that is made a cell a step.
+#![tactic(auto)]
+
 ghost use Rattle.plan.specs.Columns.{table_of};
 ghost use Rattle.finishing.specs.Finishing.{Starts};
 ghost use Rattle.finishing_step.specs.Stepping.{Steps};
