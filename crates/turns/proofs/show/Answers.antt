@@ -1,0 +1,12 @@
+use Rattle.std.proofs.Common.{ap, sym, ◌∙◌, ◌*◌}
+use Rattle.plan.specs.Columns.{table_of}
+use Rattle.plan.specs.Limits.{scratch_size, most_cells}
+use Rattle.plan.specs.declared.Refusal.{Refusal}
+use Rattle.least.proofs.Asked.{layout-asks}
+use Rattle.layout.proofs.Laws.Laid.{nothing}
+use Rattle.turns.proofs.show.Goals as goal
+
+pub survey_and_tour-requires : goal.survey_and_tour-requires
+survey_and_tour-requires g c =
+    let a = c.args in
+    ((layout-asks (table_of a.t) a.allowance scratch_size (2 * most_cells)).0 (nothing (table_of a.t) a.allowance scratch_size (2 * most_cells) (ap (λ (r : Refusal). r.number) (sym c.layout_refusal-refusal.ensures) ∙ c.if-refusal-ne0.false))).table.fit
