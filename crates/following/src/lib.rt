@@ -1,4 +1,6 @@
 // THE DRILL (document 02, E12): a plan followed with a list of answers, as a loop over the chain of open cells.
+#![tactic(auto)]
+
 ghost use Rattle.std.specs.Prelude.{◌≡◌, ◌++◌, ◌&&◌, ◌≤◌, length, drop, eqb, ltb};
 ghost use Rattle.plan.specs.Limits.{most_steps};
 ghost use Rattle.plan.specs.Fit.{Fit};

@@ -26,7 +26,7 @@ use Rattle.following_cell.specs.declared.Opened.{Opened}
 use Rattle.following_cell.specs.declared.Todo.{Todo}
 use Rattle.moves.specs.Drill.{Outcome, finished, spent, wrong, full, Drill, ended, recorded, taken, in_order, times, chosen, waited, by_kind, does, doing}
 use Rattle.moves.proofs.Laws.Drill.{doing-is, in_order-append, no_kind, no-kind-more, run-children, repeat_children, wait_children}
-use Rattle.following_cell.specs.Opening.{nothing, once, after, later, hops, repeated, picked, waiting, answered, opened}
+use Rattle.following_cell.specs.Opening.{nothing, once, after, hops, repeated, picked, waiting, answered, opened}
 use Rattle.following_turn.specs.Machine.{Frame, frame, State, outcome_of, passed, enter, step_at, step_on, step}
 use Rattle.following_cell.proofs.Laws.Siblings.{hops_are}
 
