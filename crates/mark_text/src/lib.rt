@@ -1,4 +1,6 @@
 // THE PRINTED MARKS: the line of a drawing, with its name, and the counts of a sitting. Each function writes a text into a buffer and hands its length back.
+#![tactic(auto)]
+
 ghost use Rattle.std.specs.Prelude.{◌+◌, ◌≤◌, ◌++◌, length, ◌≡◌};
 ghost use Rattle.listing.specs.Printed.{decimal};
 ghost use Rattle.listing.specs.Put.{Put};
@@ -23,7 +25,7 @@ pub enum Outcome {
 }
 
 // How many drawings there are, and of each kind.
-#[derive(Drop)]
+#[derive(Clone, Copy, Drop)]
 pub struct Counts {
     pub drawings: u64,
     pub full: u64,

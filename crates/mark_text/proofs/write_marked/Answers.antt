@@ -1,0 +1,16 @@
+use Rattle.mark_text.proofs.Laws.Text.{marked-is, refused-put}
+use native.Mathlib.Omega.{arith}
+use borrow.Author.Rules.{rules}
+use Rattle.mark_text.proofs.write_marked.Goals as goal
+
+pub returns-in-Full : goal.returns-in-Full
+returns-in-Full c = (marked-is _ _ _ c.in-Full.is c.write_full.ensures.0, c.write_full.ensures.1)
+
+pub returns-in-Wide : goal.returns-in-Wide
+returns-in-Wide c = (marked-is _ _ _ c.in-Wide.is c.write_wide.ensures.0, c.write_wide.ensures.1)
+
+pub returns-in-Broken : goal.returns-in-Broken
+returns-in-Broken c = (marked-is _ _ _ c.in-Broken.is c.write_broken.ensures.0, c.write_broken.ensures.1)
+
+pub returns-in-Refused : goal.returns-in-Refused
+returns-in-Refused c = (marked-is _ _ _ c.in-Refused.is (refused-put _ _ _ c.write_named.ensures.0), omega (arith, c.write_named.ensures.1))
