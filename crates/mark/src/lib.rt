@@ -1,4 +1,6 @@
 // MARK: full marks exactly where nothing narrower was possible. Check's answer, and of a drawing that it keeps the least width there is.
+#![tactic(auto)]
+
 ghost use Rattle.std.specs.Prelude.{◌≡◌, length, replicate};
 ghost use Rattle.plan.specs.Limits.{scratch_size};
 ghost use Rattle.plan.specs.Fit.{Fit};
