@@ -1,4 +1,6 @@
 // WHY over columns: our sheet, as Layout writes it, with the reason for its width; and the reason for the width of anyone's placement.
+#![tactic(auto)]
+
 ghost use Rattle.plan.specs.Columns.{«table_of»};
 ghost use Rattle.why.specs.Judges.{Judges};
 ghost use Rattle.why.specs.Shows.{Shows};
