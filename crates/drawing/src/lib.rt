@@ -1,4 +1,6 @@
 // A DRAWING AS TEXT, READ: the corners of a plan's cells, or what is wrong with the text.
+#![tactic(auto)]
+
 ghost use Rattle.std.specs.Prelude.{◌≡◌, Bool, ℕ, ◌+◌, ◌-◌, ◌*◌, ◌≤◌, ◌<◌, eqb, ℤ, ◌-ℤ◌, pos, length, drop, get_or, set};
 ghost use Rattle.std.proofs.Math.Option.{Option};
 ghost use Rattle.plan.specs.Limits.{farthest};
@@ -22,21 +24,21 @@ pub enum Drawn {
 }
 
 // A word of a line.
-#[derive(Drop)]
+#[derive(Clone, Copy, Drop)]
 struct Span {
     start: usize,
     end: usize,
 }
 
 // A natural number, if the word is one; one past the bound stands for any that is greater.
-#[derive(Drop)]
+#[derive(Clone, Copy, Drop)]
 struct Number {
     number: bool,
     value: u32,
 }
 
 // A whole number, if the word is one, and whether it is near; moved up by 262,143, so that none is negative.
-#[derive(Drop)]
+#[derive(Clone, Copy, Drop)]
 struct Signed {
     number: bool,
     near: bool,
@@ -44,7 +46,7 @@ struct Signed {
 }
 
 // A line: passed over (0), not three numbers (1), or the corner of a cell (2), x and y moved up.
-#[derive(Drop)]
+#[derive(Clone, Copy, Drop)]
 struct Told {
     kind: u8,
     cell: u32,
@@ -55,7 +57,7 @@ struct Told {
 }
 
 // Where the reader is: a fault, or 0, the line's number, the cell of the fault, and the place in the text.
-#[derive(Drop)]
+#[derive(Clone, Copy, Drop)]
 struct State {
     fault: u8,
     line: usize,

@@ -1,0 +1,13 @@
+use Rattle.drawing.proofs.Laws.Drawn.{lowest_start, lowest-here, lowest-later, lowest-end}
+use Rattle.drawing_spec.specs.Said.{lowest}
+use Prim.Native.Nat.{◌-◌, ◌≤◌}
+use mathlib.Core.Path.{◌≡◌}
+use native.Mathlib.Omega.{arith}
+use borrow.Author.Rules.{rules}
+use Rattle.drawing.proofs.lowest.Given as goal
+
+abbrev pub invariant-loop-c : goal.invariant-loop-c
+invariant-loop-c l = (l.c ≤ l.n) × (lowest l.given 0 l.n ≡ lowest l.given l.c (l.n - l.c))
+
+abbrev pub decreases-loop-c : goal.decreases-loop-c
+decreases-loop-c l = l.n - l.c

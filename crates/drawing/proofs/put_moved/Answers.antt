@@ -1,0 +1,25 @@
+use mir.ValLaws.{to_z-of_z}
+use mir.Syntax.{w32}
+use Rattle.drawing.proofs.Laws.Drawn.{moved-x, moved-y}
+use Rattle.drawing_spec.specs.Said.{moved}
+use Rattle.positions.proofs.Laws.Written.{written_none, written-put}
+use Rattle.positions.specs.Written.{written}
+use Rattle.rules.specs.Placement.{placed}
+use lib.ListN.{length, length-set}
+use Prim.Native.Nat.{◌-◌, ◌≤◌}
+use mathlib.Core.Path.{◌≡◌, refl, ap, ◌∙◌}
+use native.Mathlib.Omega.{arith}
+use borrow.Author.Rules.{rules}
+use Rattle.drawing.proofs.put_moved.Goals as goal
+
+-- src/lib.rt:446:5
+pub loop-c-init : goal.loop-c-init
+loop-c-init c = (omega arith, refl, written_none _ _)
+
+-- src/lib.rt:446:5
+pub loop-c-preserved : goal.loop-c-preserved
+loop-c-preserved c = (omega arith, ap length c.put_corner.ensures ∙ simp length-set c.loop-c.invariant.1, c.put_corner.ensures ∙ written-put _ _ _ _ _ _ c.loop-c.invariant.2 (to_z-of_z w32 c.apart.result (record { sfits = c.apart.type_inv }) ∙ c.apart.ensures ∙ moved-x _ _) (to_z-of_z w32 c.apart-in-loop-c.result (record { sfits = c.apart-in-loop-c.type_inv }) ∙ c.apart-in-loop-c.ensures ∙ moved-y _ _) (omega arith))
+
+-- src/lib.rt:441:1
+pub returns : goal.returns
+returns c = let e : c.loop-c.c ≡ c.args.n = omega arith in rw e at c.loop-c.invariant.2
