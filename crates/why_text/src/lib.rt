@@ -1,4 +1,6 @@
 // THE REASON for the width of a plan file's sheet, as bytes: its lines, or the line of a refusal.
+#![tactic(auto)]
+
 ghost use Rattle.std.specs.Prelude.{◌≤◌, length};
 ghost use Rattle.plan.specs.Columns.{«table_of»};
 ghost use Rattle.listing.specs.Printed.{lines_joined};
