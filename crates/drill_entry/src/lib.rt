@@ -1,4 +1,6 @@
 // DRILL, over lent records and answers. It asks nothing of its caller.
+#![tactic(auto)]
+
 ghost use Rattle.plan.specs.Records.{«cells_of»};
 ghost use Rattle.following.specs.Drilled.{Drills};
 

@@ -1,4 +1,6 @@
 // A SHEET MADE A CELL A STEP, over lent records (document 02, E9): a library above the engine. It asks nothing of its caller.
+#![tactic(auto)]
+
 ghost use Rattle.plan.specs.Records.{«cells_of»};
 ghost use Rattle.finishing.specs.Finishing.{Starts};
 ghost use Rattle.finishing_reach.specs.Reaching.{Reaches};

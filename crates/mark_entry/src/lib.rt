@@ -1,4 +1,6 @@
 // MARK, over lent records and the positions of a drawing. It asks nothing of its caller.
+#![tactic(auto)]
+
 ghost use Rattle.plan.specs.Records.{«cells_of»};
 ghost use Rattle.mark_spec.specs.Marked.{Marks};
 
