@@ -1,4 +1,6 @@
 // THE TRANSCRIPT of a drill, as bytes: the recorded steps with their labels, a line each, then the outcome, the bytes used and the number of records; or the line of a refusal.
+#![tactic(auto)]
+
 ghost use Rattle.std.specs.Prelude.{◌≡◌, ◌++◌, ◌*◌, ◌≤◌, ◌<◌, length, get_or, take};
 ghost use Rattle.plan.specs.Limits.{most_label, most_answers};
 ghost use Rattle.listing.specs.Printed.{step_line, end_line};
