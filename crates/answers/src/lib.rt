@@ -1,4 +1,6 @@
 // The answers of the calls for C and Rust, as structs of numbers: number and cell of a refusal first, and 0 for all that a case does not have.
+#![tactic(auto)]
+
 ghost use Rattle.std.specs.Prelude.{◌≡◌};
 ghost use Rattle.answers.specs.Answers.{«read_answer», laid_answer, check_answer, ends_answer, list_answer, frame_answer, mark_answer, copy_answer, mend_answer, pen_answer, stroke_answer, strip_answer, join_answer, drill_answer, start_answer, step_answer, reach_answer, report_answer};
 
