@@ -15,7 +15,9 @@ from antt import Graph, antt_files, rt_files, stated, Module
 ROOT = os.path.dirname(os.path.dirname(os.path.abspath(__file__)))
 # laws that hold a definition fast in its own crate: a must-fail edit is refused by them
 KEEP = {'separation-least', 'appointed-half', 'appointed_choice', 'appointed-within', 'rows-plan', 'value_decimal', 'only-stretch', 'one-no', 'read-then-label', 'read-then-layout',
-        'child-before', 'child_tie', 'children-level', 'children-only', 'limits', 'no-nan', 'edges', 'left-least', 'left-reached', 'rows', 'unfinished_spelled', 'modes_told'}
+        'child-before', 'child_tie', 'children-level', 'children-only', 'limits', 'no_nan', 'edges', 'left-least', 'left-reached', 'rows', 'unfinished_spelled', 'modes_told'}
+# laws that stood at the last landing in the older Rattle, and that today's proofs find alone: a statement stays
+STAYED = {'start_entering', 'wrote_one', 'no_name', 'a_name', 'told_short', 'one_more', 'less_none', 'clipped-fits', 'filled-length'}
 
 
 def main():
@@ -37,7 +39,7 @@ def main():
         need(g.refs('\n'.join(l for l in lines if not l.startswith(('use ', 'ghost use '))), scope))
     for key, f in g.files.items():
         for d in f.decls():
-            if not key[1].startswith('Laws.') and not d.is_def or d.name in KEEP:
+            if not key[1].startswith('Laws.') and not d.is_def or d.name in KEEP | STAYED:
                 need({d})
     while todo:
         d = todo.pop()

@@ -2,7 +2,6 @@ use lib.Seq.{length-take-le}
 use mathlib.Core.Path.{sym}
 use native.Mathlib.Omega.{arith}
 use Rattle.compose.proofs.Laws.Composed.{compose_short, compose_wrong, compose_written, compose_refused}
-use borrow.Author.Rules.{rules}
 use Rattle.compose.proofs.compose.Goals as goal
 
 pub returns-then-out-lt-MOST_FILE : goal.returns-then-out-lt-MOST_FILE

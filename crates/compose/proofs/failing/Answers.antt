@@ -1,6 +1,5 @@
 use Rattle.compose.specs.State.{failed}
 use mathlib.Core.Path.{refl}
-use borrow.Author.Rules.{rules}
 use Rattle.compose.proofs.failing.Goals as goal
 
 pub returns : goal.returns

@@ -1,11 +1,9 @@
 use Rattle.compose_fields.proofs.Laws.Fields.{word_end}
 use Rattle.outline_spec.specs.Faults.{fault_of}
 use Rattle.compose.specs.Meaning.{first_in}
-use borrow.Author.Tests.{not-true, not-false}
 use mathlib.Core.Path.{sym, ◌∙◌}
 use native.Mathlib.Omega.{arith}
 use Rattle.compose.proofs.Laws.Whole.{first_strange, first-over, first-other, first_absent, first-large, first_more, first_read, first_small}
-use borrow.Author.Rules.{rules}
 use Rattle.compose.proofs.first_line.Goals as goal
 
 pub returns-then-not-letters_printable : goal.returns-then-not-letters_printable

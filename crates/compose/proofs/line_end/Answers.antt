@@ -1,10 +1,6 @@
-use Prim.Native.Nat.{◌+◌, ◌-◌, ◌≤◌}
-use lib.ListN.{length, drop}
-use mathlib.Core.Path.{◌≡◌, refl}
+use mathlib.Core.Path.{refl}
 use native.Mathlib.Omega.{arith}
-use Rattle.compose.specs.Steps.{line_long}
 use Rattle.compose.proofs.Laws.Lines.{end-here, end_later, end_last}
-use borrow.Author.Rules.{rules}
 use Rattle.compose.proofs.line_end.Goals as goal
 
 pub loop-i-init : goal.loop-i-init

@@ -1,6 +1,5 @@
 use Rattle.compose.specs.Steps.{note, record_from}
 use mathlib.Core.Path.{refl}
-use borrow.Author.Rules.{rules}
 use Rattle.compose.proofs.noted.Goals as goal
 
 pub returns : goal.returns

@@ -1,6 +1,5 @@
 use mathlib.Core.Path.{sym}
 use Rattle.compose.proofs.Laws.Lines.{past_feed, past_last}
-use borrow.Author.Rules.{rules}
 use Rattle.compose.proofs.past_line.Goals as goal
 
 pub returns-then-end-text : goal.returns-then-end-text

@@ -1,12 +1,6 @@
-use Prim.Native.Nat.{◌-◌}
-use mathlib.Core.List.{[]}
-use lib.ListN.{length, drop}
-use mathlib.Core.Path.{◌≡◌, refl, ◌∙◌}
+use mathlib.Core.Path.{refl, ◌∙◌}
 use native.Mathlib.Omega.{arith}
-use Rattle.outline_spec.specs.Understood.{cells, lines}
-use Rattle.compose.specs.State.{rest_of, Well, Tight}
 use Rattle.compose.proofs.Laws.Ends.{starts_well, reads_all}
-use borrow.Author.Rules.{rules}
 use Rattle.compose.proofs.read_cells.Goals as goal
 
 pub loop-s-init : goal.loop-s-init

@@ -2,7 +2,6 @@ use lib.Seq.{length-take-le}
 use mathlib.Core.Path.{sym}
 use native.Mathlib.Omega.{arith}
 use Rattle.compose.proofs.Laws.Whole.{text-empty, text-first, text-rest}
-use borrow.Author.Rules.{rules}
 use Rattle.compose.proofs.understand.Goals as goal
 
 pub returns-then-text-eq0 : goal.returns-then-text-eq0

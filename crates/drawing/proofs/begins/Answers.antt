@@ -1,10 +1,6 @@
 use Rattle.drawing.proofs.Laws.Spans.{begins_short, begins-other, begins-more, begins-all}
-use Rattle.drawing_spec.specs.Said.{begins}
-use lib.ListN.{length, drop}
-use Prim.Native.Nat.{◌-◌, ◌≤◌}
-use mathlib.Core.Path.{◌≡◌, refl, sym, ◌∙◌}
+use mathlib.Core.Path.{refl, sym, ◌∙◌}
 use native.Mathlib.Omega.{arith}
-use borrow.Author.Rules.{rules}
 use Rattle.drawing.proofs.begins.Goals as goal
 
 -- src/lib.rt:151:5

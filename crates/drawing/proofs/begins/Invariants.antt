@@ -1,10 +1,7 @@
-use Rattle.drawing.proofs.Laws.Spans.{begins_short, begins-other, begins-more, begins-all}
 use Rattle.drawing_spec.specs.Said.{begins}
 use lib.ListN.{length, drop}
 use Prim.Native.Nat.{◌-◌, ◌≤◌}
-use mathlib.Core.Path.{◌≡◌, refl, sym, ◌∙◌}
-use native.Mathlib.Omega.{arith}
-use borrow.Author.Rules.{rules}
+use mathlib.Core.Path.{◌≡◌}
 use Rattle.drawing.proofs.begins.Given as goal
 
 abbrev pub invariant-loop-i : goal.invariant-loop-i

@@ -1,7 +1,6 @@
 use Rattle.drawing_spec.specs.Words.{begins_below}
 use Rattle.drawing.proofs.Laws.Numbers.{below-empty}
 use mathlib.Core.Path.{refl}
-use borrow.Author.Rules.{rules}
 use Rattle.drawing.proofs.begins_below.Goals as goal
 
 -- src/lib.rt:263:9

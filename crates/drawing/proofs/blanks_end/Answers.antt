@@ -1,11 +1,7 @@
-use borrow.Author.Tests.{not-true, not-false}
 use Rattle.drawing.proofs.Laws.Spans.{until-here, until-later, until_last, solid_yes, solid-no}
-use Rattle.drawing.specs.Steps.{until, solid}
-use lib.ListN.{length, drop}
-use Prim.Native.Nat.{◌+◌, ◌-◌, ◌≤◌}
-use mathlib.Core.Path.{◌≡◌, refl, sym, ◌∙◌}
+use Rattle.drawing.specs.Steps.{solid}
+use mathlib.Core.Path.{refl, sym, ◌∙◌}
 use native.Mathlib.Omega.{arith}
-use borrow.Author.Rules.{rules}
 use Rattle.drawing.proofs.blanks_end.Goals as goal
 
 -- src/lib.rt:112:5

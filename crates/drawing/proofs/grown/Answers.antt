@@ -1,7 +1,6 @@
 use Rattle.drawing.proofs.Laws.Numbers.{capped_low, capped_high}
 use mathlib.Core.Path.{sym}
 use native.Mathlib.Omega.{arith}
-use borrow.Author.Rules.{rules}
 use Rattle.drawing.proofs.grown.Goals as goal
 
 -- src/lib.rt:186:9

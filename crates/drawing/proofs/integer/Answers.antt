@@ -1,7 +1,6 @@
 use Rattle.drawing.proofs.Laws.Numbers.{below-some, integer-below, integer-above}
 use mathlib.Core.Path.{sym, ◌∙◌}
 use native.Mathlib.Omega.{arith}
-use borrow.Author.Rules.{rules}
 use Rattle.drawing.proofs.integer.Goals as goal
 
 -- src/lib.rt:273:34

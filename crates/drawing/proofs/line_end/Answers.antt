@@ -1,10 +1,7 @@
 use Rattle.drawing.proofs.Laws.Spans.{until-here, until-later, until_last, feed_yes, feed-no}
-use Rattle.drawing.specs.Steps.{until, feed}
-use lib.ListN.{length, drop}
-use Prim.Native.Nat.{◌+◌, ◌-◌, ◌≤◌}
-use mathlib.Core.Path.{◌≡◌, refl}
+use Rattle.drawing.specs.Steps.{feed}
+use mathlib.Core.Path.{refl}
 use native.Mathlib.Omega.{arith}
-use borrow.Author.Rules.{rules}
 use Rattle.drawing.proofs.line_end.Goals as goal
 
 -- src/lib.rt:84:5

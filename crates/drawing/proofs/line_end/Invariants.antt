@@ -1,10 +1,7 @@
-use Rattle.drawing.proofs.Laws.Spans.{until-here, until-later, until_last, feed_yes, feed-no}
 use Rattle.drawing.specs.Steps.{until, feed}
 use lib.ListN.{length, drop}
 use Prim.Native.Nat.{◌+◌, ◌-◌, ◌≤◌}
-use mathlib.Core.Path.{◌≡◌, refl}
-use native.Mathlib.Omega.{arith}
-use borrow.Author.Rules.{rules}
+use mathlib.Core.Path.{◌≡◌}
 use Rattle.drawing.proofs.line_end.Given as goal
 
 abbrev pub invariant-loop-i : goal.invariant-loop-i

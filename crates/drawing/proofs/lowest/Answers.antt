@@ -1,9 +1,5 @@
 use Rattle.drawing.proofs.Laws.Drawn.{lowest_start, lowest-here, lowest-later, lowest-end}
-use Rattle.drawing_spec.specs.Said.{lowest}
-use Prim.Native.Nat.{◌-◌, ◌≤◌}
-use mathlib.Core.Path.{◌≡◌}
 use native.Mathlib.Omega.{arith}
-use borrow.Author.Rules.{rules}
 use Rattle.drawing.proofs.lowest.Goals as goal
 
 -- src/lib.rt:423:5

@@ -1,8 +1,5 @@
-use Rattle.drawing.proofs.Laws.Numbers.{natural-empty, Going, going-starts, going-turns, going_low, going_high, going-ends}
-use lib.ListN.{length}
-use Prim.Native.Nat.{◌-◌}
+use Rattle.drawing.proofs.Laws.Numbers.{natural-empty, going-starts, going-turns, going_low, going_high, going-ends}
 use native.Mathlib.Omega.{arith}
-use borrow.Author.Rules.{rules}
 use Rattle.drawing.proofs.natural.Goals as goal
 
 -- src/lib.rt:196:9

@@ -1,8 +1,6 @@
-use Rattle.drawing.proofs.Laws.Numbers.{natural-empty, Going, going-starts, going-turns, going_low, going_high, going-ends}
+use Rattle.drawing.proofs.Laws.Numbers.{Going}
 use lib.ListN.{length}
 use Prim.Native.Nat.{◌-◌}
-use native.Mathlib.Omega.{arith}
-use borrow.Author.Rules.{rules}
 use Rattle.drawing.proofs.natural.Given as goal
 
 abbrev pub invariant-loop-i : goal.invariant-loop-i

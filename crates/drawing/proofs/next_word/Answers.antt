@@ -1,5 +1,4 @@
 use Rattle.drawing.proofs.Laws.Spans.{next-is}
-use borrow.Author.Rules.{rules}
 use Rattle.drawing.proofs.next_word.Goals as goal
 
 -- src/lib.rt:137:1

@@ -1,6 +1,4 @@
 use Rattle.drawing.proofs.Laws.Lines.{passes-empty, passes-hash, passes-later, passes-sheet}
-use borrow.Author.Tests.{not-true, not-false}
-use borrow.Author.Rules.{rules}
 use Rattle.drawing.proofs.passes.Goals as goal
 
 -- src/lib.rt:168:9

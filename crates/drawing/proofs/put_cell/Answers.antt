@@ -3,7 +3,6 @@ use mir.Syntax.{w32}
 use Rattle.drawing.proofs.Laws.Lines.{steps-passed, steps-unread, steps-beyond, steps_twice, steps-x, steps-y, steps-near}
 use borrow.Author.Tests.{not-true, not-false}
 use mathlib.Core.Path.{refl, ◌∙◌}
-use borrow.Author.Rules.{rules}
 use Rattle.drawing.proofs.put_cell.Goals as goal
 
 pub returns-then-t-eq0 : goal.returns-then-t-eq0

@@ -1,15 +1,10 @@
 use mir.ValLaws.{to_z-of_z}
 use mir.Syntax.{w32}
 use Rattle.drawing.proofs.Laws.Drawn.{moved-x, moved-y}
-use Rattle.drawing_spec.specs.Said.{moved}
 use Rattle.positions.proofs.Laws.Written.{written_none, written-put}
-use Rattle.positions.specs.Written.{written}
-use Rattle.rules.specs.Placement.{placed}
 use lib.ListN.{length, length-set}
-use Prim.Native.Nat.{◌-◌, ◌≤◌}
 use mathlib.Core.Path.{◌≡◌, refl, ap, ◌∙◌}
 use native.Mathlib.Omega.{arith}
-use borrow.Author.Rules.{rules}
 use Rattle.drawing.proofs.put_moved.Goals as goal
 
 -- src/lib.rt:446:5

@@ -1,6 +1,5 @@
 use Rattle.drawing.proofs.Laws.Drawn.{drawn_many, drawn_short, drawn_long, drawn_fault, drawn_missing, drawn_placed, zeros_held, zeros-sized}
 use native.Mathlib.Omega.{arith}
-use borrow.Author.Rules.{rules}
 use Rattle.drawing.proofs.read_drawing.Goals as goal
 
 pub returns-then-n-gt-MOST_CELLS : goal.returns-then-n-gt-MOST_CELLS

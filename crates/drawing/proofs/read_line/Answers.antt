@@ -1,6 +1,5 @@
 use Rattle.drawing.proofs.Laws.Lines.{line_pass, line-three}
 use mathlib.Core.Path.{sym, ◌∙◌}
-use borrow.Author.Rules.{rules}
 use Rattle.drawing.proofs.read_line.Goals as goal
 
 -- src/lib.rt:323:9

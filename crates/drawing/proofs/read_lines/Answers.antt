@@ -1,10 +1,5 @@
-use Rattle.drawing.specs.Steps.{sketch, rest_said, Ready}
-use Rattle.drawing_spec.specs.Said.{said_lines}
-use Rattle.drawing_spec.specs.Words.{lines}
 use Rattle.drawing.proofs.Laws.Turns.{starts_ready, turns_ready, reads_all}
-use lib.ListN.{length}
-use Prim.Native.Nat.{◌-◌}
-use mathlib.Core.Path.{◌≡◌, refl, ◌∙◌}
+use mathlib.Core.Path.{refl, ◌∙◌}
 use native.Mathlib.Omega.{arith}
 use Rattle.drawing.proofs.read_lines.Goals as goal
 

@@ -1,11 +1,9 @@
 use Rattle.drawing.specs.Steps.{sketch, rest_said, Ready}
 use Rattle.drawing_spec.specs.Said.{said_lines}
 use Rattle.drawing_spec.specs.Words.{lines}
-use Rattle.drawing.proofs.Laws.Turns.{starts_ready, turns_ready, reads_all}
 use lib.ListN.{length}
 use Prim.Native.Nat.{◌-◌}
-use mathlib.Core.Path.{◌≡◌, refl, ◌∙◌}
-use native.Mathlib.Omega.{arith}
+use mathlib.Core.Path.{◌≡◌}
 use Rattle.drawing.proofs.read_lines.Given as goal
 
 abbrev pub invariant-loop-s : goal.invariant-loop-s

@@ -1,7 +1,6 @@
 use Rattle.drawing.proofs.Laws.Numbers.{signed-none, signed-far, signed_below, signed_above}
 use borrow.Author.Tests.{not-true, not-false}
 use mathlib.Core.Path.{refl}
-use borrow.Author.Rules.{rules}
 use Rattle.drawing.proofs.signed_as.Goals as goal
 
 pub returns-then-not-m : goal.returns-then-not-m

@@ -1,6 +1,5 @@
 use borrow.Author.Tests.{not-true, not-false}
 use Rattle.drawing.proofs.Laws.Lines.{three-cell, three-x, three-y, three-all, told-unread}
-use borrow.Author.Rules.{rules}
 use Rattle.drawing.proofs.three.Goals as goal
 
 -- src/lib.rt:297:9

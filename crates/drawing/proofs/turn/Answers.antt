@@ -3,7 +3,6 @@ use Rattle.drawing.proofs.Laws.Lines.{told-near}
 use lib.ListN.{take, drop}
 use Prim.Native.Nat.{◌-◌}
 use mathlib.Core.Path.{refl}
-use borrow.Author.Rules.{rules}
 use Rattle.drawing.proofs.turn.Goals as goal
 
 pub put_cell-fault-requires : goal.put_cell-fault-requires

@@ -1,11 +1,7 @@
 use Rattle.drawing_spec.specs.Words.{blank}
 use Rattle.drawing.proofs.Laws.Spans.{until-here, until-later, until_last}
-use Rattle.drawing.specs.Steps.{until}
-use lib.ListN.{length, drop}
-use Prim.Native.Nat.{◌+◌, ◌-◌, ◌≤◌}
-use mathlib.Core.Path.{◌≡◌, refl, sym, ◌∙◌}
+use mathlib.Core.Path.{refl, sym, ◌∙◌}
 use native.Mathlib.Omega.{arith}
-use borrow.Author.Rules.{rules}
 use Rattle.drawing.proofs.word_end.Goals as goal
 
 -- src/lib.rt:127:5

@@ -1,11 +1,8 @@
 use Rattle.drawing_spec.specs.Words.{blank}
-use Rattle.drawing.proofs.Laws.Spans.{until-here, until-later, until_last}
 use Rattle.drawing.specs.Steps.{until}
 use lib.ListN.{length, drop}
 use Prim.Native.Nat.{◌+◌, ◌-◌, ◌≤◌}
-use mathlib.Core.Path.{◌≡◌, refl, sym, ◌∙◌}
-use native.Mathlib.Omega.{arith}
-use borrow.Author.Rules.{rules}
+use mathlib.Core.Path.{◌≡◌}
 use Rattle.drawing.proofs.word_end.Given as goal
 
 abbrev pub invariant-loop-i : goal.invariant-loop-i

@@ -1,5 +1,5 @@
 use Rattle.finishing_order.specs.Order as order
-use Rattle.finishing_order.specs.Order.{after, nth, met}
+use Rattle.finishing_order.specs.Order.{nth}
 use Prim.Native.Nat.{◌-◌, ◌≤◌}
 use mathlib.Core.Path.{◌≡◌}
 use Rattle.finishing_order.proofs.seek.Given as goal

@@ -1,6 +1,5 @@
 use native.Mathlib.Omega.{arith}
 use Rattle.frame_text.proofs.Laws.FrameText.{none-put}
-use borrow.Author.Rules.{rules}
 use Rattle.frame_text.proofs.put_none.Goals as goal
 
 pub returns : goal.returns

@@ -1,6 +1,5 @@
 use native.Mathlib.Omega.{arith}
 use Rattle.frame_text.proofs.Laws.FrameText.{tell_allowance, tell_none, tell_refused}
-use borrow.Author.Rules.{rules}
 use Rattle.frame_text.proofs.tell.Goals as goal
 
 pub returns-in-Allowance : goal.returns-in-Allowance

@@ -1,6 +1,5 @@
 use native.Mathlib.Omega.{arith}
 use Rattle.frame_text.proofs.Laws.FrameText.{file_fit, file-refused, file-answered}
-use borrow.Author.Rules.{rules}
 use Rattle.frame_text.proofs.write_frame.Goals as goal
 
 pub returns-then-refusal-ne0 : goal.returns-then-refusal-ne0

@@ -1,6 +1,5 @@
 use mathlib.Core.Path.{refl}
 use Rattle.join_file.proofs.Laws.Steps.{read-ended, letters_few, read_shiftable, graft_is, hang-refused, hang-written}
-use borrow.Author.Rules.{rules}
 use Rattle.join_file.proofs.hang.Goals as goal
 
 pub letters-top-requires : goal.letters-top-requires

@@ -1,5 +1,4 @@
 use Rattle.join_file.proofs.Laws.Steps.{zero_read, short_output, first-refused, second-refused}
-use borrow.Author.Rules.{rules}
 use Rattle.join_file.proofs.join_files.Goals as goal
 
 pub returns-then-out-lt-MOST_FILE : goal.returns-then-out-lt-MOST_FILE

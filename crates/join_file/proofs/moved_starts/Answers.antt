@@ -1,10 +1,5 @@
-use Prim.Native.Nat.{◌+◌, ◌-◌, ◌≤◌}
-use mathlib.Core.Path.{◌≡◌}
 use native.Mathlib.Omega.{arith}
-use lib.ListN.{get_or}
-use Rattle.planfile_spec.specs.Reading.{column}
 use Rattle.grafting.proofs.Laws.Grafted.{column-none, column-more, column-all}
-use borrow.Author.Rules.{rules}
 use Rattle.join_file.proofs.moved_starts.Goals as goal
 
 pub loop-i-init : goal.loop-i-init

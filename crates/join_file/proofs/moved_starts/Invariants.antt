@@ -1,10 +1,7 @@
 use Prim.Native.Nat.{◌+◌, ◌-◌, ◌≤◌}
 use mathlib.Core.Path.{◌≡◌}
-use native.Mathlib.Omega.{arith}
 use lib.ListN.{get_or}
 use Rattle.planfile_spec.specs.Reading.{column}
-use Rattle.grafting.proofs.Laws.Grafted.{column-none, column-more, column-all}
-use borrow.Author.Rules.{rules}
 use Rattle.join_file.proofs.moved_starts.Given as goal
 
 abbrev pub invariant-loop-i : goal.invariant-loop-i

@@ -2,7 +2,6 @@ use mathlib.Core.Path.{sym}
 use native.Mathlib.Omega.{arith}
 use lib.Seq.{length-take-le}
 use Rattle.join_file.proofs.Laws.Steps.{both-letters, write_done}
-use borrow.Author.Rules.{rules}
 use Rattle.join_file.proofs.write.Goals as goal
 
 pub put_text-at-requires : goal.put_text-at-requires

@@ -1,5 +1,4 @@
 use Rattle.mark_text.specs.Text.{counted}
-use borrow.Author.Rules.{rules}
 use Rattle.mark_text.proofs.counted.Goals as goal
 
 pub returns : goal.returns

@@ -1,5 +1,4 @@
 use Rattle.mark_text.specs.Text.{mark_kind}
-use borrow.Author.Rules.{rules}
 use Rattle.mark_text.proofs.mark_kind.Goals as goal
 
 pub returns-in-Full : goal.returns-in-Full

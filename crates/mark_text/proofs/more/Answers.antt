@@ -1,6 +1,5 @@
 use Rattle.mark_text.specs.Text.{more}
 use borrow.Author.Tests.{lt-ltb, le-ltb}
-use borrow.Author.Rules.{rules}
 use Rattle.mark_text.proofs.more.Goals as goal
 
 pub returns-then-n-lt4294967295 : goal.returns-then-n-lt4294967295

@@ -1,6 +1,5 @@
 use Rattle.mark_text.specs.Text.{more_if}
 use borrow.Author.Tests.{eq-eqb, ne_eqb}
-use borrow.Author.Rules.{rules}
 use Rattle.mark_text.proofs.more_if.Goals as goal
 
 pub returns-then-kind-this : goal.returns-then-kind-this

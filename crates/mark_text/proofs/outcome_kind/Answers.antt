@@ -1,5 +1,4 @@
 use Rattle.mark_text.specs.Text.{outcome_kind}
-use borrow.Author.Rules.{rules}
 use Rattle.mark_text.proofs.outcome_kind.Goals as goal
 
 pub returns-in-Mark : goal.returns-in-Mark

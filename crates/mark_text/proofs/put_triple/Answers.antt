@@ -1,6 +1,5 @@
 use Rattle.mark_text.proofs.Laws.Text.{triple-put}
 use native.Mathlib.Omega.{arith}
-use borrow.Author.Rules.{rules}
 use Rattle.mark_text.proofs.put_triple.Goals as goal
 
 pub returns : goal.returns

@@ -1,6 +1,5 @@
 use Rattle.mark_text.proofs.Laws.Text.{counts_put}
 use native.Mathlib.Omega.{arith}
-use borrow.Author.Rules.{rules}
 use Rattle.mark_text.proofs.write_counts.Goals as goal
 
 pub returns : goal.returns

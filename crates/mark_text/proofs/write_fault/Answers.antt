@@ -1,6 +1,5 @@
 use Rattle.mark_text.proofs.Laws.Text.{fault-put}
 use native.Mathlib.Omega.{arith}
-use borrow.Author.Rules.{rules}
 use Rattle.mark_text.proofs.write_fault.Goals as goal
 
 pub returns : goal.returns

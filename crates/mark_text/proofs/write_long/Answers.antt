@@ -1,6 +1,5 @@
 use Rattle.listing.proofs.Laws.Put.{then}
 use native.Mathlib.Omega.{arith}
-use borrow.Author.Rules.{rules}
 use Rattle.mark_text.proofs.write_long.Goals as goal
 
 pub returns : goal.returns

@@ -1,6 +1,5 @@
 use Rattle.mark_text.proofs.Laws.Text.{marked-is, refused-put}
 use native.Mathlib.Omega.{arith}
-use borrow.Author.Rules.{rules}
 use Rattle.mark_text.proofs.write_marked.Goals as goal
 
 pub returns-in-Full : goal.returns-in-Full

@@ -1,5 +1,4 @@
 use Rattle.mark_text.proofs.Laws.Text.{mark-put, unread-put}
-use borrow.Author.Rules.{rules}
 use Rattle.mark_text.proofs.write_outcome.Goals as goal
 
 pub returns-in-Mark : goal.returns-in-Mark

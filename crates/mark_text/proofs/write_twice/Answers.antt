@@ -1,6 +1,5 @@
 use Rattle.mark_text.proofs.Laws.Text.{twice_put}
 use native.Mathlib.Omega.{arith}
-use borrow.Author.Rules.{rules}
 use Rattle.mark_text.proofs.write_twice.Goals as goal
 
 pub returns : goal.returns

@@ -1,6 +1,5 @@
 use Rattle.mark_text.proofs.Laws.Text.{unread-is, numbers-put, no-cell-put, far-put, long-put}
 use native.Mathlib.Omega.{arith}
-use borrow.Author.Rules.{rules}
 use Rattle.mark_text.proofs.write_unread.Goals as goal
 
 pub returns-in-NoNumber : goal.returns-in-NoNumber

@@ -1,6 +1,5 @@
 use Rattle.mark_text.proofs.Laws.Text.{wide-put}
 use native.Mathlib.Omega.{arith}
-use borrow.Author.Rules.{rules}
 use Rattle.mark_text.proofs.write_wide.Goals as goal
 
 pub returns : goal.returns

@@ -1,5 +1,4 @@
 use Rattle.outline.proofs.Laws.Outlined.{outline_short, outline-roomy}
-use borrow.Author.Rules.{rules}
 use Rattle.outline.proofs.outline.Goals as goal
 
 pub returns-then-out-lt-OUTLINE_SIZE : goal.returns-then-out-lt-OUTLINE_SIZE

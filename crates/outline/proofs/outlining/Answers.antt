@@ -5,7 +5,6 @@ use lib.ListN.{take}
 use mathlib.Core.Path.{refl, sym, ap, ◌∙◌}
 use native.Mathlib.Omega.{arith}
 use Rattle.outline.proofs.Laws.Outlined.{outline-refused, outline_ready, outline-written, outline-long, outline-begin}
-use borrow.Author.Rules.{rules}
 use Rattle.outline.proofs.outlining.Goals as goal
 
 pub returns-then-refusal-ne0 : goal.returns-then-refusal-ne0

@@ -1,10 +1,7 @@
-use Prim.Native.Nat.{◌-◌, ◌≤◌}
 use mathlib.Core.Path.{◌≡◌, refl, ◌∙◌}
 use native.Mathlib.Omega.{arith}
-use Rattle.outline.specs.Steps.{item_from}
 use Rattle.outline_line.proofs.Laws.Written.{put-length}
-use Rattle.outline.proofs.Laws.Cells.{Wrote, wrote_none, wrote_more, wrote_room}
-use borrow.Author.Rules.{rules}
+use Rattle.outline.proofs.Laws.Cells.{wrote_none, wrote_more, wrote_room}
 use Rattle.outline.proofs.put_cells.Goals as goal
 
 pub loop-c-init : goal.loop-c-init

@@ -1,10 +1,6 @@
 use Prim.Native.Nat.{◌-◌, ◌≤◌}
-use mathlib.Core.Path.{◌≡◌, refl, ◌∙◌}
-use native.Mathlib.Omega.{arith}
 use Rattle.outline.specs.Steps.{item_from}
-use Rattle.outline_line.proofs.Laws.Written.{put-length}
-use Rattle.outline.proofs.Laws.Cells.{Wrote, wrote_none, wrote_more, wrote_room}
-use borrow.Author.Rules.{rules}
+use Rattle.outline.proofs.Laws.Cells.{Wrote}
 use Rattle.outline.proofs.put_cells.Given as goal
 
 abbrev pub invariant-loop-c : goal.invariant-loop-c

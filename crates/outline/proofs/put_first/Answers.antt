@@ -1,6 +1,5 @@
 use native.Mathlib.Omega.{arith}
 use Rattle.outline.proofs.Laws.Cells.{first-put}
-use borrow.Author.Rules.{rules}
 use Rattle.outline.proofs.put_first.Goals as goal
 
 pub returns : goal.returns

@@ -1,7 +1,6 @@
 use mathlib.Core.Path.{◌∙◌, ap}
 use Rattle.listing.specs.Line.{line_of}
 use Rattle.printing.proofs.Laws.Printing.{first-is}
-use borrow.Author.Rules.{rules}
 use Rattle.printing.proofs.first_line.Goals as goal
 
 pub returns : goal.returns

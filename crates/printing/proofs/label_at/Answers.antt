@@ -1,7 +1,6 @@
 use mathlib.Core.Path.{refl}
 use native.Mathlib.Omega.{arith}
 use Rattle.printing.proofs.Laws.Taken.{taken_few, label_inside, label_there}
-use borrow.Author.Rules.{rules}
 use Rattle.printing.proofs.label_at.Goals as goal
 
 pub offset_bounds-starts-c : goal.offset_bounds-starts-c

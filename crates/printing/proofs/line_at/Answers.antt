@@ -2,7 +2,6 @@ use mir.Syntax.{w32}
 use mir.ValLaws.{to_z-of_z}
 use Rattle.printing.proofs.Laws.Printing.{label_short, cell_is}
 use Rattle.printing.proofs.Laws.Taken.{line_given}
-use borrow.Author.Rules.{rules}
 use Rattle.printing.proofs.line_at.Goals as goal
 
 pub cell_line-requires : goal.cell_line-requires

@@ -1,5 +1,4 @@
 use Rattle.printing.proofs.Laws.Taken.{listed_short, listed-text}
-use borrow.Author.Rules.{rules}
 use Rattle.printing.proofs.list.Goals as goal
 
 pub returns-then-out-lt-LISTING_SIZE : goal.returns-then-out-lt-LISTING_SIZE

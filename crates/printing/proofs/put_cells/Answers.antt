@@ -1,9 +1,5 @@
-use Prim.Native.Nat.{◌+◌, ◌-◌, ◌*◌, ◌≤◌}
-use mathlib.Core.Path.{◌≡◌, refl}
+use mathlib.Core.Path.{refl}
 use native.Mathlib.Omega.{arith}
-use lib.ListN.{length}
-use Rattle.listing.specs.Put.{Put}
-use Rattle.printing.specs.Printing.{cells_text, cell_size}
 use Rattle.printing.proofs.Laws.Taken.{put-no-cells, put-cell, cells-done}
 use borrow.Author.Rules.{rules}
 use Rattle.printing.proofs.put_cells.Goals as goal

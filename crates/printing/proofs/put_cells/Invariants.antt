@@ -1,11 +1,8 @@
 use Prim.Native.Nat.{◌+◌, ◌-◌, ◌*◌, ◌≤◌}
-use mathlib.Core.Path.{◌≡◌, refl}
-use native.Mathlib.Omega.{arith}
+use mathlib.Core.Path.{◌≡◌}
 use lib.ListN.{length}
 use Rattle.listing.specs.Put.{Put}
 use Rattle.printing.specs.Printing.{cells_text, cell_size}
-use Rattle.printing.proofs.Laws.Taken.{put-no-cells, put-cell, cells-done}
-use borrow.Author.Rules.{rules}
 use Rattle.printing.proofs.put_cells.Given as goal
 
 abbrev pub invariant-loop-c : goal.invariant-loop-c

@@ -1,6 +1,5 @@
 use native.Mathlib.Omega.{arith}
 use Rattle.printing.proofs.Laws.Taken.{put_short, refusal-done}
-use borrow.Author.Rules.{rules}
 use Rattle.printing.proofs.write_listing.Goals as goal
 
 pub returns-then-refusal-ne0 : goal.returns-then-refusal-ne0

@@ -6,7 +6,6 @@ use Rattle.plan.specs.Questions.{asked}
 use Rattle.planfile_spec.specs.declared.Trailer.{Trailer}
 use Rattle.planfile_spec.proofs.Laws.Examined.{zero_of, formed_read}
 use Rattle.reporting.proofs.Laws.Reporting.{long-stops, formed_stops, placed-stops, goes_to_read}
-use borrow.Author.Rules.{rules}
 use Rattle.reporting.proofs.read_for.Goals as goal
 
 pub returns-then-long-ne0 : goal.returns-then-long-ne0

@@ -4,7 +4,6 @@ use lib.ListN.{length}
 use lib.Seq.{length-take-le}
 use Rattle.plan.specs.Limits.{scratch_size}
 use Rattle.reporting.proofs.Laws.Reporting.{scratch-enough, plan_few, drawable, measures_small, refused, unrefused, reported}
-use borrow.Author.Rules.{rules}
 use Rattle.reporting.proofs.report.Goals as goal
 
 pub returns-then-refusal-ne0 : goal.returns-then-refusal-ne0

@@ -1,7 +1,6 @@
 use native.Mathlib.Omega.{arith}
 use Rattle.listing.proofs.Laws.Put.{put-none}
 use Rattle.svg_labels.proofs.Laws.Labels.{label-empty, label-move, label-line, label_lift, put_as}
-use borrow.Author.Rules.{rules}
 use Rattle.svg_labels.proofs.put_label.Goals as goal
 
 pub returns-then-label-eq0 : goal.returns-then-label-eq0

@@ -1,7 +1,6 @@
 use native.Mathlib.Omega.{arith}
 use Rattle.svg_labels.specs.Labels.{label_at}
 use Rattle.listing.proofs.Laws.Put.{then}
-use borrow.Author.Rules.{rules}
 use Rattle.svg_labels.proofs.put_label_at.Goals as goal
 
 pub put_text-requires : goal.put_text-requires

@@ -1,7 +1,6 @@
 use native.Mathlib.Omega.{arith}
 use Rattle.svg_labels.specs.Labels.{labels_head}
 use Rattle.listing.proofs.Laws.Put.{then}
-use borrow.Author.Rules.{rules}
 use Rattle.svg_labels.proofs.put_labels_head.Goals as goal
 
 pub returns : goal.returns

@@ -1,6 +1,5 @@
 use native.Mathlib.Omega.{arith}
 use Rattle.svg_labels.proofs.Laws.Labels.{letter_amp, letter_lt, letter_gt, letter-plain, put_as}
-use borrow.Author.Rules.{rules}
 use Rattle.svg_labels.proofs.put_letter.Goals as goal
 
 pub returns-then-b-eq38 : goal.returns-then-b-eq38

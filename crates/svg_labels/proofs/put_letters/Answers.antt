@@ -1,11 +1,6 @@
-use Prim.Native.Nat.{◌+◌, ◌-◌, ◌*◌, ◌≤◌}
-use mathlib.Core.Path.{◌≡◌, refl}
+use mathlib.Core.Path.{refl}
 use native.Mathlib.Omega.{arith}
-use lib.ListN.{length, take}
-use Rattle.listing.specs.Put.{Put}
-use Rattle.svg_labels.specs.Labels.{escaped}
 use Rattle.svg_labels.proofs.Laws.Labels.{letters-start, letters-more, letters-done}
-use borrow.Author.Rules.{rules}
 use Rattle.svg_labels.proofs.put_letters.Goals as goal
 
 pub loop-i-init : goal.loop-i-init

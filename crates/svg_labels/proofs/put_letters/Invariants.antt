@@ -1,11 +1,8 @@
 use Prim.Native.Nat.{◌+◌, ◌-◌, ◌*◌, ◌≤◌}
-use mathlib.Core.Path.{◌≡◌, refl}
-use native.Mathlib.Omega.{arith}
+use mathlib.Core.Path.{◌≡◌}
 use lib.ListN.{length, take}
 use Rattle.listing.specs.Put.{Put}
 use Rattle.svg_labels.specs.Labels.{escaped}
-use Rattle.svg_labels.proofs.Laws.Labels.{letters-start, letters-more, letters-done}
-use borrow.Author.Rules.{rules}
 use Rattle.svg_labels.proofs.put_letters.Given as goal
 
 abbrev pub invariant-loop-i : goal.invariant-loop-i

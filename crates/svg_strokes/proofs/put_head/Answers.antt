@@ -1,7 +1,6 @@
 use native.Mathlib.Omega.{arith}
 use Rattle.svg_strokes.specs.Strokes.{head_text}
 use Rattle.listing.proofs.Laws.Put.{then}
-use borrow.Author.Rules.{rules}
 use Rattle.svg_strokes.proofs.put_head.Goals as goal
 
 pub returns : goal.returns

@@ -1,7 +1,6 @@
 use native.Mathlib.Omega.{arith}
 use Rattle.svg_strokes.specs.Strokes.{point_text}
 use Rattle.listing.proofs.Laws.Put.{then}
-use borrow.Author.Rules.{rules}
 use Rattle.svg_strokes.proofs.put_point.Goals as goal
 
 pub returns : goal.returns

@@ -3,7 +3,6 @@ use native.Mathlib.Omega.{arith}
 use Rattle.svg_strokes.specs.Strokes.{stroke_text}
 use Rattle.listing.proofs.Laws.Put.{then}
 use Rattle.svg_strokes.proofs.Laws.Strokes.{stroke_as}
-use borrow.Author.Rules.{rules}
 use Rattle.svg_strokes.proofs.put_stroke.Goals as goal
 
 pub returns-in-Move : goal.returns-in-Move
