@@ -1,4 +1,6 @@
 // THE MARK OF A DRAWING AS TEXT: read, and marked.
+#![tactic(auto)]
+
 ghost use Rattle.std.specs.Prelude.{◌≡◌};
 ghost use Rattle.plan.specs.Columns.{«table_of»};
 ghost use Rattle.mark_drawing.specs.Outcome.{outcome};
