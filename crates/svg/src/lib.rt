@@ -1,4 +1,6 @@
 // The drawing of a plan file in SVG, as bytes: its strokes as paths and its labels as texts, in millimetres; or the line of a refusal.
+#![tactic(auto)]
+
 ghost use Rattle.std.specs.Prelude.{◌≡◌, ◌+◌, ◌*◌, ◌-◌, ◌≤◌, length};
 ghost use Rattle.plan.specs.Columns.{«table_of»};
 ghost use Rattle.plan.specs.Fit.{Fit};
