@@ -1,4 +1,6 @@
 // The calls for programs in C and Rust: include/kuzpalen.h documents each. A lent buffer is a pointer and a length; an answer is a struct of numbers.
+#![tactic(auto)]
+
 ghost use Rattle.std.specs.Prelude.{◌≡◌};
 ghost use Rattle.plan.specs.Records.{«cells_of»};
 ghost use Rattle.planfile_spec.specs.Reading.{label_refusal, label_part};
