@@ -293,9 +293,10 @@ CLAUSE = re.compile(r'(?:requires|ensures|ghost)\*?(?:\s+\w+:?)?\s*$')
 
 def body_at(text):
     """where the brace of a function's body stands, or the end of a function without one: a clause's braces are passed over"""
-    i = 0
+    i, inside = 0, 0
     while i < len(text):
-        if text[i] == ';':
+        inside += (text[i] == '[') - (text[i] == ']')
+        if text[i] == ';' and not inside:
             return i
         if text[i] == '{':
             if not CLAUSE.search(text, 0, i):

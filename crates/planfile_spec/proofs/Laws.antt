@@ -4,3 +4,4 @@ pub mod File
 pub mod Format
 pub mod Label
 pub mod ReadThen
+pub mod ReadThenCalls

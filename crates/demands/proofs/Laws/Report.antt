@@ -6,7 +6,7 @@ use Rattle.plan.specs.declared.Record.{Record}
 use Rattle.plan.specs.declared.Refusal.{Refusal}
 use Rattle.planfile_spec.specs.Format.{trailer_of}
 use Rattle.planfile_spec.proofs.Laws.File as Law
-use Rattle.planfile_spec.proofs.Laws.ReadThen.{read-then-layout}
+use Rattle.planfile_spec.proofs.Laws.ReadThenCalls.{read-then-layout}
 use Rattle.layout.specs.Laid.{laid_of, positions_after, scratch_after, Lays}
 use Rattle.layout.specs.declared.Laid.TheVariants.{Sheet}
 use Rattle.season.specs.Report.{report}

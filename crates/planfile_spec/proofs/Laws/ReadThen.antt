@@ -105,16 +105,3 @@ pub part_of_record : (f : List ℕ) (c : ℕ) → label_refusal f c ≡ none
     → label_part f c ≡ record { start = (entry f c).label_start; end = (entry f c).label_start + (entry f c).label_length }
 unfolding label_part
 part_of_record f c e = rw (eq-eqb (label_refusal f c).number 0 (ap (λ (r : Refusal). r.number) e))
-
--- ---- READ, THEN LABEL AND LAYOUT. A file that Read, with a table of so many records to fill, does not refuse
-module _ (f : List ℕ) (room : ℕ) (e : refusal read (file_given f (to_fill room ∷ []) nothing) ≡ none) where
-  pub file-passes : (file_refusal f).number ≡ 0
-  file-passes = (both-none (asked 1 (leb most_cells room) 0) (file_refusal f) (zero_of _ _ (read_refusal f room) (ap (λ (r : Refusal). r.number) e))).1
-
-  pub read-then-label : (c : ℕ) → c < (trailer_of f).count
-      → (label_refusal f c ≡ none) × (label_part f c ≡ record { start = (entry f c).label_start; end = (entry f c).label_start + (entry f c).label_length })
-  read-then-label c h = let k = file-label f file-passes c h in (k, part_of_record f c k)
-
-  pub read-then-layout : (s p : ℕ) → scratch_size ≤ s → 2 * (trailer_of f).count ≤ p
-      → refusal layout (layout_given (cells_of (records_of f)) (trailer_of f).allowance s p) ≡ none
-  read-then-layout = file-layout f file-passes
