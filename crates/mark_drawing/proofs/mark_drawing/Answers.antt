@@ -3,7 +3,6 @@ use Rattle.plan.specs.Columns.{table_of}
 use Rattle.plan.specs.Limits.{scratch_size}
 use lib.ListN.{length-replicate}
 use Prim.Native.Nat.{ℕ}
-use borrow.Author.Rules.{rules}
 use Rattle.mark_drawing.proofs.mark_drawing.Goals as goal
 
 pub returns-in-Placed : goal.returns-in-Placed

@@ -1,6 +1,6 @@
 -- WHAT READ ACCEPTS, LABEL AND LAYOUT ACCEPT: no cell of it is refused its label, and the table is laid out where the buffers are long enough.
 -- Assumes nothing.
-use Rattle.std.specs.Prelude.{◌≡◌, refl, List, [], ◌∷◌, Bool, true, false, ℕ, ◌+◌, ◌*◌, ◌≤◌, ◌<◌, T, leb, length}
+use Rattle.std.specs.Prelude.{◌≡◌, refl, List, Bool, true, false, ℕ, ◌+◌, ◌*◌, ◌≤◌, ◌<◌, T, leb, length}
 use Rattle.std.proofs.Common.{ap, ◌∙◌, arith, le→leb, lt→ltb, eq-eqb}
 use Rattle.whole.proofs.Laws.Says.{both, says_le}
 use Rattle.plan.specs.Limits.{between, most_cells, most_width, most_allowance, scratch_size}
@@ -8,18 +8,18 @@ use Rattle.plan.specs.Forms.{widest}
 use Rattle.plan.proofs.Laws.Form.{widest_low}
 use Rattle.plan.specs.Plan.{Table}
 use Rattle.plan.specs.Records.{cells_of}
-use Rattle.plan.specs.Questions.{to_fill, nothing, none, asked, or_else, at_each, read, layout, refusal, layout_given}
+use Rattle.plan.specs.Questions.{none, asked, or_else, at_each, layout, refusal, layout_given}
 use Rattle.plan.proofs.Laws.Questions.{first-none, both-none, asked_yes, each_none, each_same}
 use Rattle.plan.specs.Steps.{cell_refusal, cells_refusal, children_refusal, levels_refusal, rows_refusal, tree_refusal, table_refusal, lent_refusal}
 use Rattle.plan.proofs.Laws.Steps.{Passed, cell-passed, sized-within}
 use Rattle.plan.proofs.Laws.Kept.{none_first, each-nothing}
 use Rattle.plan.proofs.Laws.Calls.{layout-refusal}
 use Rattle.plan.specs.declared.Refusal.{Refusal}
-use Rattle.planfile_spec.specs.Format.{trailer_of, form, entry, records_of, file_given}
+use Rattle.planfile_spec.specs.Format.{trailer_of, form, entry, records_of}
 use Rattle.planfile_spec.specs.Reading.{label_refusal, label_part}
 use Rattle.planfile_spec.specs.FileSteps.{record_refusal, entry_refusal, header_refusal, body_refusal, file_refusal}
-use Rattle.planfile_spec.proofs.Laws.File.{cells-length, parent_is, kind-is, width_is, depth_is, read_refusal, label_refusal-is}
-use Rattle.planfile_spec.proofs.Laws.Examined.{zero_of, header_read}
+use Rattle.planfile_spec.proofs.Laws.File.{cells-length, parent_is, kind-is, width_is, depth_is, label_refusal-is}
+use Rattle.planfile_spec.proofs.Laws.Examined.{header_read}
 
 -- ---- a refusal whose number is 0 is none: of one question, of the first of two, of each of several cells
 asked-none : (k : ℕ) (b : Bool) (c : ℕ) → T b → asked k b c ≡ none

@@ -1,17 +1,11 @@
-use Prim.Native.Nat.{◌+◌, ◌-◌, ◌*◌, ◌≤◌}
-use mathlib.Core.Path.{◌≡◌, refl}
+use mathlib.Core.Path.{refl}
 use native.Mathlib.Omega.{arith}
-use lib.ListN.{length}
-use Rattle.listing.specs.Put.{Put}
 use Rattle.plan.specs.Columns.{table_of}
 use Rattle.plan.proofs.Laws.Tables.{count_few}
 use Rattle.rules.specs.Placement.{placed}
 use Rattle.pen.specs.Strokes.{strokes}
-use Rattle.svg.specs.Drawing.{labels_text}
-use Rattle.svg_labels.specs.Sizes.{label_size}
 use Rattle.printing.proofs.Laws.Printing.{label_short}
 use Rattle.svg.proofs.Laws.Drawing.{some-count, numbered, labels-start, labels-put, labels-done}
-use borrow.Author.Rules.{rules}
 use Rattle.svg.proofs.put_labels.Goals as goal
 
 pub loop-c-init : goal.loop-c-init

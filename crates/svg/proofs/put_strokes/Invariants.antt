@@ -1,16 +1,12 @@
 use Prim.Native.Nat.{◌+◌, ◌-◌, ◌*◌, ◌≤◌}
-use mathlib.Core.Path.{◌≡◌, refl}
-use native.Mathlib.Omega.{arith}
+use mathlib.Core.Path.{◌≡◌}
 use lib.ListN.{length, take}
 use Rattle.listing.specs.Put.{Put}
 use Rattle.plan.specs.Columns.{table_of}
-use Rattle.plan.proofs.Laws.Tables.{count_few}
 use Rattle.rules.specs.Placement.{placed}
 use Rattle.pen.specs.Strokes.{strokes}
 use Rattle.svg.specs.Drawing.{strokes_text}
 use Rattle.svg_strokes.specs.Sizes.{stroke_size}
-use Rattle.svg.proofs.Laws.Drawing.{some-count, many_is, within, beyond, numbered, strokes-start, strokes-put, strokes-done}
-use borrow.Author.Rules.{rules}
 use Rattle.svg.proofs.put_strokes.Given as goal
 
 abbrev pub invariant-loop-s : goal.invariant-loop-s

@@ -1,6 +1,5 @@
 use mathlib.Core.Path.{refl}
 use Rattle.svg.specs.Drawing.{side}
-use borrow.Author.Rules.{rules}
 use Rattle.svg.proofs.side.Goals as goal
 
 pub returns : goal.returns

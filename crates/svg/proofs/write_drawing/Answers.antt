@@ -3,7 +3,6 @@ use mathlib.Core.Path.{ap}
 use native.Mathlib.Omega.{arith}
 use Rattle.svg_labels.proofs.Laws.Labels.{put_as}
 use Rattle.svg.proofs.Laws.Drawing.{drawing-refused, drawing_unfair, drawing-sheet, unfair, is-fair}
-use borrow.Author.Rules.{rules}
 use Rattle.svg.proofs.write_drawing.Goals as goal
 
 pub returns-then-refusal-ne0 : goal.returns-then-refusal-ne0
