@@ -1,4 +1,6 @@
 // THE CALLS, over lent memory, each from the crate that proves it: no call asks anything of its caller.
+#![tactic(auto)]
+
 pub use copy_entry::copy;
 pub use drill_entry::drill;
 pub use frame_entry::frame;
