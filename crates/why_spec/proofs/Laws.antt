@@ -1,3 +1,4 @@
+pub mod Asked
 pub mod Certified
 pub mod Links
 pub mod Measures
