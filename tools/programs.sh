@@ -11,7 +11,7 @@ mkdir -p target/bin
 lacking=0
 for name in "$@"; do
     made="crates/$name/out/$name"
-    rm -f "$made"
+    rm -f "$made" "target/bin/$name"
     rt run "$name" < /dev/null > "target/$name.log" 2>&1
     if [ -f "$made" ]; then
         cp "$made" "target/bin/$name.new" && chmod 755 "target/bin/$name.new" && mv "target/bin/$name.new" "target/bin/$name"

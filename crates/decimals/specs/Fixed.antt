@@ -12,7 +12,7 @@ unfoldable pub fixed : ℕ → Bytes
 fixed n = decimal (n / 1000) ++ (point ∷ digit (n / 100 % 10) ∷ digit (n / 10 % 10) ∷ digit (n % 10) ∷ [])
 
 -- x · 1000 + 1/2, two operations of IEEE 754, each rounded; its whole part is the number of thousandths that is printed. Mostly that is the nearest one, but where a rounding comes up to the half from
--- below it is the next above: the double next to 0.0045 lies below it, times 1000 it rounds to 4.5, and `0.005` is printed (laws/Fixed: `rounded_twice`)
+-- below it is the next above: the double next to 0.0045 lies below it, times 1000 it rounds to 4.5, and `0.005` is printed (proofs/Laws/Fixed: `rounded_twice`)
 unfoldable pub scaled : Float → Float
 scaled x = add binary64 (mul binary64 x (fin false 125 (pos 3))) (fin false 1 (negsuc 0))
 

@@ -1,2 +1,2 @@
-// No code: what the calls of crate `engine` answer and leave, held against the three demands (specs/Calls.antt).
+// No code: what the calls of crate `engine` answer and leave, held against the three demands (proofs/Calls.antt).
 #![tactic(auto)]

@@ -1,2 +1,2 @@
-// No code: what the proofs of the entries over lent records share: a table that is filled (specs/Laws/Filled.antt), and what a table that is too long is refused by (specs/Laws/Lent.antt).
+// No code: what the proofs of the entries over lent records share: a table that is filled (proofs/Laws/Filled.antt), and what a table that is too long is refused by (proofs/Laws/Lent.antt).
 #![tactic(auto)]

@@ -24,10 +24,10 @@ use Rattle.graft.proofs.Laws.FirstNo as first_no
 pub joined-cells : (t u : List Record) (c : ℕ) → cells_of (joined_records t u c) ≡ joined (cells_of t) (cells_of u) c
 joined-cells = joins.joined-cells
 
-module _ (t u : Table) (st : Sound t) (su : Sound u) (some_IsFirst : 1 ≤ length t) (some_second : 1 ≤ length u) (c : ℕ) (at : Is t c) where
+module _ (t u : Table) (st : Sound t) (su : Sound u) (some_first : 1 ≤ length t) (some_second : 1 ≤ length u) (c : ℕ) (at : Is t c) where
   -- 2. The named cell has the children it had, in their order, and the second's root before the first of a greater rank (E13);
   pub named-children : children (joined t u c) c ≡ put_in (rank (joined t u c)) (length t) (children t c)
-  named-children = placed.named-children t u st some_IsFirst some_second c at
+  named-children = placed.named-children t u st some_first some_second c at
 
   -- the root's rank is the one it had;
   pub root_rank : rank (joined t u c) (length t + 0) ≡ rank u 0
@@ -35,19 +35,19 @@ module _ (t u : Table) (st : Sound t) (su : Sound u) (some_IsFirst : 1 ≤ lengt
 
   -- it is "the last son" where none of them has a greater one, as where all ranks are equal.
   pub last_child : ((i s : ℕ) → At (children t c) i s → rank t s ≤ rank (joined t u c) (length t)) → children (joined t u c) c ≡ children t c ++ (length t ∷ [])
-  last_child = placed.last_child t u st some_IsFirst some_second c at
+  last_child = placed.last_child t u st some_first some_second c at
 
   -- 3. "Under one allowance every sub-diagram of the second plan must reach left and right exactly as in its own sheet",
   pub second_reaches : (al b : ℕ) → Is u b
       → (left_extent (joined t u c) (sheet (joined t u c) al) (length t + b) ≡ left_extent u (sheet u al) b)
       × (right_extent (joined t u c) (sheet (joined t u c) al) (length t + b) ≡ right_extent u (sheet u al) b)
-  second_reaches = reaches.second_reaches t u st su some_IsFirst some_second c at
+  second_reaches = reaches.second_reaches t u st su some_first some_second c at
 
   -- 4. "and so must, if the first has a sheet of its own, each of its sub-diagrams that doesn't hold the named cell". (By question 6 alone.)
   pub first_reaches : (al a : ℕ) → Is t a → ¬ T (within t a c)
       → (left_extent (joined t u c) (sheet (joined t u c) al) a ≡ left_extent t (sheet t al) a)
       × (right_extent (joined t u c) (sheet (joined t u c) al) a ≡ right_extent t (sheet t al) a)
-  first_reaches = reaches.first_reaches t u st su some_IsFirst some_second c at
+  first_reaches = reaches.first_reaches t u st su some_first some_second c at
 
 module _ (room : ℕ) (t u : Table) (c : ℕ) where
   -- 5. Where the join is accepted, the second plan has a sheet of its own: Layout refuses nothing of it, with long enough buffers;

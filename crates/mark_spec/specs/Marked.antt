@@ -1,5 +1,5 @@
 -- WHAT MARK ANSWERS OF A DRAWING, and what it leaves in the scratch lent to it, on every input: by Check's verdict and the width of our sheet. Full marks go to a
--- drawing that keeps the rules and is as narrow as they permit (specs/Promised.antt). Assumes nothing.
+-- drawing that keeps the rules and is as narrow as they permit (proofs/Promised.antt). Assumes nothing.
 use Rattle.std.specs.Prelude.{◌≡◌, cond, List, ◌++◌, ℕ, length, drop, replicate, eqb, leb, ℤ}
 use Rattle.whole.specs.Whole.{plus}
 use Rattle.plan.specs.Limits.{scratch_size}

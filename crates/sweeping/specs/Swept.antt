@@ -1,4 +1,4 @@
--- What the one pass and the one sweep find out, from which all five rules follow (laws/Kept). Assumes nothing.
+-- What the one pass and the one sweep find out, from which all five rules follow (proofs/Laws/Kept). Assumes nothing.
 use Rattle.std.specs.Prelude.{◌≡◌, true, List, ◌⊎◌, ◌≢◌, ℕ, ◌+◌, ◌-◌, ◌^◌, ◌≤◌, ◌<◌, length, get_or, T}
 use Rattle.plan.specs.Limits.{most_cells, last_row, farthest}
 use Rattle.plan.specs.Plan.{Table, Is, Sound, parent, within}

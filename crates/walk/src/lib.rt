@@ -229,7 +229,7 @@ pub fn turn(
 
 // The walk of the tree below cell 0: a loop in which the chain of open cells travels from turn to turn.
 // `Visited`: at every turn its numbers up to the count are the open cells from the root down, and the cells are opened in preorder, each once
-// (specs/Visits: `open_cells`, `opened-in_order`, `opened-once`). Of the chain itself `begin` and `turn` say it (`Visiting`), and the loop keeps it.
+// (proofs/Visits: `open_cells`, `opened-in_order`, `opened-once`). Of the chain itself `begin` and `turn` say it (`Visiting`), and the loop keeps it.
 pub fn walk<'a>(
     links: &[u16],
     widths: &'a [u16],

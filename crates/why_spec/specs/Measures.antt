@@ -1,5 +1,5 @@
 -- WHAT IS MEASURED on a sheet, from left to right (document 01, Drawing rules, the paragraph before S1): from the least x of some cells to the greatest of others, each taken at its x or at its
--- right edge. The width, a subtree's extents to either side and the distance of two cells are four of these (`width_is` and the three after it, specs/Theorems.antt). Assumes nothing.
+-- right edge. The width, a subtree's extents to either side and the distance of two cells are four of these (`width_is` and the three after it, proofs/Theorems.antt). Assumes nothing.
 use Rattle.std.specs.Prelude.{List, [], ◌∷◌, ℕ, T, ℤ, pos, ◌+ℤ◌, ◌-ℤ◌}
 use Rattle.plan.specs.Plan.{Table, Is, box_width, cells, subtree, next}
 use Rattle.rules.specs.Placement.{Placement, most, least}

@@ -1,4 +1,4 @@
--- Half a width is the nearest whole number, and no other number is: the proofs behind specs/Halves.antt. Nothing that a reader must believe stands here. Assumes nothing.
+-- Half a width is the nearest whole number, and no other number is: the proofs behind proofs/Halves.antt. Nothing that a reader must believe stands here. Assumes nothing.
 use Rattle.std.specs.Prelude.{◌≡◌, refl, map, ℕ, ◌+◌, ◌/◌, ◌%◌, ◌≤◌}
 use Rattle.std.proofs.Common.{arith, eq-eqb, ne_eqb}
 use Rattle.std.proofs.Math.Decide.{ℕ_discrete}

@@ -112,7 +112,7 @@ pub filed-is : (t : Table) (c s : ℕ) → 1 ≤ length t → T (mem s (filed t 
 unfolding filed
 filed-is t c s l m = omega (arith, from-read 1 (pred (length t)) s (keep-read (λ s. eqb (parent t s) c) (from 1 (pred (length t))) s m).there)
 
-module _ (t u : Table) (st : Sound t) (some_IsFirst : 1 ≤ length t) (some_second : 1 ≤ length u) (c : ℕ) (at : Is t c) where
+module _ (t u : Table) (st : Sound t) (some_first : 1 ≤ length t) (some_second : 1 ≤ length u) (c : ℕ) (at : Is t c) where
   abbrev J : Table
   J = joined t u c
 
@@ -165,7 +165,7 @@ module _ (t u : Table) (st : Sound t) (some_IsFirst : 1 ≤ length t) (some_seco
   -- and so by rank
   pub first-children : (a : ℕ) → Is t a → a ≢ c → children J a ≡ children t a
   unfolding children
-  first-children a i n = rw (first-filed a i n) (sort-same (rank J) (rank t) (filed t a) (λ s m. first-rank t u c s (filed-is t a s some_IsFirst m)))
+  first-children a i n = rw (first-filed a i n) (sort-same (rank J) (rank t) (filed t a) (λ s m. first-rank t u c s (filed-is t a s some_first m)))
 
   pub second-children : (b : ℕ) → Is u b → children J (length t + b) ≡ up (length t) (children u b)
   unfolding children

@@ -10,12 +10,12 @@ use Rattle.plan.proofs.Laws.Trees.{level_suc}
 use Rattle.graft.specs.Joined.{joined}
 use Rattle.graft.proofs.Laws.Joined.{first-parent, first_depth, root_parent, second-parent, second_depth, joined-sound}
 
-module _ (t u : Table) (st : Sound t) (su : Sound u) (some_IsFirst : 1 ≤ length t) (some_second : 1 ≤ length u) (c : ℕ) (at : Is t c) where
+module _ (t u : Table) (st : Sound t) (su : Sound u) (some_first : 1 ≤ length t) (some_second : 1 ≤ length u) (c : ℕ) (at : Is t c) where
   abbrev J : Table
   J = joined t u c
 
   sound : Sound J
-  sound = joined-sound t u st some_IsFirst some_second c at su
+  sound = joined-sound t u st some_first some_second c at su
 
   -- the first's as they were
   pub first-level : (a : ℕ) → Is t a → level J a ≡ level t a
@@ -39,7 +39,7 @@ module _ (t u : Table) (st : Sound t) (su : Sound u) (some_IsFirst : 1 ≤ lengt
   -- the second's below those of the named cell
   pub second-level : (b : ℕ) → Is u b → level J (length t + b) ≡ level t c + 1 + level u b
   second-level = from_parents u su (λ b. Is u b → level J (length t + b) ≡ level t c + 1 + level u b)
-      (λ i. let z : level u 0 ≡ 0 = unfold level in refl in rw add-zero (omega (arith, level-step (length t) c some_IsFirst (root_parent t u c i), first-level c at)))
+      (λ i. let z : level u 0 ≡ 0 = unfold level in refl in rw add-zero (omega (arith, level-step (length t) c some_first (root_parent t u c i), first-level c at)))
       (λ m g i. omega (
         arith,
         level-step (length t + suc m) (length t + parent u (suc m)) (omega arith) (second-parent t u c (suc m) (omega arith) i),
@@ -50,7 +50,7 @@ module _ (t u : Table) (st : Sound t) (su : Sound u) (some_IsFirst : 1 ≤ lengt
   pub second-row : (b : ℕ) → Is u b → row J (length t + b) ≡ row t c + box_depth t c + 1 + row u b
   second-row = from_parents u su (λ b. Is u b → row J (length t + b) ≡ row t c + box_depth t c + 1 + row u b)
       (λ i. let z : row u 0 ≡ 0 = unfold row in refl in
-      rw add-zero (omega (arith, row_step (length t) c some_IsFirst (root_parent t u c i), first_row c at, first_depth t u c c at)))
+      rw add-zero (omega (arith, row_step (length t) c some_first (root_parent t u c i), first_row c at, first_depth t u c c at)))
       (λ m g i.
       let p : Is u (parent u (suc m)) = omega (arith, lower u su m) in
       omega (

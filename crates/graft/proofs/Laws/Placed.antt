@@ -65,12 +65,12 @@ module _ (f : ℕ → ℕ) (x : ℕ) where
   put_last [] h = put-none
   put_last (b ∷ l) h = put_on b l (h b (mem-here b b l refl)) ∙ ap (λ (m : List ℕ). b ∷ m) (put_last l (λ s m. h s (mem_there s b l m)))
 
-module _ (t u : Table) (st : Sound t) (some_IsFirst : 1 ≤ length t) (some_second : 1 ≤ length u) (c : ℕ) (at : Is t c) where
+module _ (t u : Table) (st : Sound t) (some_first : 1 ≤ length t) (some_second : 1 ≤ length u) (c : ℕ) (at : Is t c) where
   pub named-children : children (joined t u c) c ≡ put_in (rank (joined t u c)) (length t) (children t c)
   unfolding children
   named-children =
-      rw (named-filed t u st some_IsFirst some_second c at) (sort-put (rank (joined t u c)) (length t) (filed t c)
-      ∙ ap (put_in (rank (joined t u c)) (length t)) (sort-same (rank (joined t u c)) (rank t) (filed t c) (λ s m. first-rank t u c s (filed-is t c s some_IsFirst m))))
+      rw (named-filed t u st some_first some_second c at) (sort-put (rank (joined t u c)) (length t) (filed t c)
+      ∙ ap (put_in (rank (joined t u c)) (length t)) (sort-same (rank (joined t u c)) (rank t) (filed t c) (λ s m. first-rank t u c s (filed-is t c s some_first m))))
 
   pub last_child : ((i s : ℕ) → At (children t c) i s → rank t s ≤ rank (joined t u c) (length t)) → children (joined t u c) c ≡ children t c ++ (length t ∷ [])
   last_child h = named-children ∙ put_last (rank (joined t u c)) (length t) (children t c) (λ s m.

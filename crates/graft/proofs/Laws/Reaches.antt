@@ -14,7 +14,7 @@ use Rattle.graft.specs.Joined.{joined}
 use Rattle.graft.proofs.Laws.Lists.{up}
 use Rattle.graft.proofs.Laws.Joined.{length-joined, first_kind, first_width, first_depth, second-kind, second-width, second_depth, first-children, second-children, joined-sound}
 
-module _ (t u : Table) (st : Sound t) (su : Sound u) (some_IsFirst : 1 ≤ length t) (some_second : 1 ≤ length u) (c : ℕ) (at : Is t c) where
+module _ (t u : Table) (st : Sound t) (su : Sound u) (some_first : 1 ≤ length t) (some_second : 1 ≤ length u) (c : ℕ) (at : Is t c) where
   abbrev J : Table
   J = joined t u c
 
@@ -30,7 +30,7 @@ module _ (t u : Table) (st : Sound t) (su : Sound u) (some_IsFirst : 1 ≤ lengt
   seconds_more d g (b ∷ cs) h =
       let i = (h 0 b refl).0 in
       Alike.cons (second-same b i)
-      (rw (second-children t u st some_IsFirst some_second c at b i) (g (children u b) (λ j s z. ((child_less u su b j s z).1, omega (arith, child_less u su b j s z, h 0 b refl)))))
+      (rw (second-children t u st some_first some_second c at b i) (g (children u b) (λ j s z. ((child_less u su b j s z).1, omega (arith, child_less u su b j s z, h 0 b refl)))))
       (seconds_more d g cs (λ j. h (suc j)))
 
   seconds : (d : ℕ) → Seconds d
@@ -57,7 +57,7 @@ module _ (t u : Table) (st : Sound t) (su : Sound u) (some_IsFirst : 1 ≤ lengt
   firsts_more d g (a ∷ cs) h =
       let (i, n, l) = h 0 a refl in
       Alike.cons (first_same a i)
-      (rw (first-children t u st some_IsFirst some_second c at a i (λ e. n (rw e (within-self t st c))))
+      (rw (first-children t u st some_first some_second c at a i (λ e. n (rw e (within-self t st c))))
       (g (children t a) (λ j s z. ((child_less t st a j s z).1, λ w. n (within-child t st a s c (child-read t a j s z) w), omega (arith, child_less t st a j s z)))))
       (firsts_more d g cs (λ j. h (suc j)))
 
@@ -74,7 +74,7 @@ module _ (t u : Table) (st : Sound t) (su : Sound u) (some_IsFirst : 1 ≤ lengt
       go (suc j) s e = absurd e
 
   sound : Sound J
-  sound = joined-sound t u st some_IsFirst some_second c at su
+  sound = joined-sound t u st some_first some_second c at su
 
   -- ---- the two promises, from the one law of alike subtrees
   pub second_reaches : (al b : ℕ) → Is u b

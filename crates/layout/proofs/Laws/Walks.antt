@@ -1,4 +1,4 @@
--- A chart of the columns of a table suits it, and what crate walk proves is then true of it: the proofs behind specs/Walks.antt. Nothing that a reader must believe stands here. Assumes nothing.
+-- A chart of the columns of a table suits it, and what crate walk proves is then true of it: the proofs behind proofs/Walks.antt. Nothing that a reader must believe stands here. Assumes nothing.
 use Rattle.std.specs.Prelude.{◌≡◌, refl, List, [], ◌∷◌, ◌++◌, ℕ, zero, suc, ◌+◌, ◌*◌, ◌<◌, length, get_or, replicate}
 use Rattle.std.proofs.Common.{◌∙◌, sym, ap, arith, length-append, get_or-append-add}
 use Rattle.std.proofs.Math.Decide.{ℕ_discrete}

@@ -1,4 +1,4 @@
--- What "refuses nothing" says, question by question, of Layout and of Check: the proofs behind specs/Asked.antt. Nothing that a reader must believe stands here. Assumes nothing.
+-- What "refuses nothing" says, question by question, of Layout and of Check: the proofs behind proofs/Asked.antt. Nothing that a reader must believe stands here. Assumes nothing.
 use Rattle.std.specs.Prelude.{◌≡◌, refl, List, [], ◌∷◌, Bool, true, false, ◌↔◌, ℕ, zero, suc, ◌+◌, ◌*◌, ◌≤◌, length, get_or, T, ℤ, pos}
 use Rattle.std.proofs.Common.{arith, lt→ltb}
 use Rattle.whole.specs.Says.{Says}

@@ -1,4 +1,4 @@
--- 000's Bd2, Bd3, Bd4 and Bd6 from S1 to S5: the proofs behind specs/Constraints.antt. Nothing that a reader must believe stands here. Assumes nothing.
+-- 000's Bd2, Bd3, Bd4 and Bd6 from S1 to S5: the proofs behind proofs/Constraints.antt. Nothing that a reader must believe stands here. Assumes nothing.
 use Rattle.std.specs.Prelude.{ℕ, suc, ◌+◌, ◌≤◌, ◌<◌, ◌≡◌, refl, ◌⊎◌, length, T, pos, ◌≤ℤ◌, ◌<ℤ◌}
 use Rattle.std.proofs.Common.{sym, ap, inl, inr, arith}
 use Rattle.std.proofs.Math.Decide.{dec_lt}

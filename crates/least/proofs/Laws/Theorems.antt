@@ -1,4 +1,4 @@
--- The proofs behind specs/Theorems.antt: of theorems 1 to 10, under their names and numbers (of the eleventh: laws/Twins). Nothing that a reader must believe stands here. Assumes nothing.
+-- The proofs behind proofs/Theorems.antt: of theorems 1 to 10, under their names and numbers (of the eleventh: proofs/Laws/Twins). Nothing that a reader must believe stands here. Assumes nothing.
 use Rattle.std.specs.Prelude.{ℕ, ◌≤◌, List, [], ◌∷◌, map, ◌≡◌, ◌↔◌, length, T, ℤ, pos, ◌-ℤ◌, ◌≤ℤ◌}
 use Rattle.std.proofs.Common.{sym, ap, ◌∙◌}
 use Rattle.whole.proofs.Laws.Whole.{whole}

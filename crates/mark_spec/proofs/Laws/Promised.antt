@@ -1,4 +1,4 @@
--- What a mark means: proofs of specs/Promised.antt. Nothing that a reader must believe stands here. Assumes nothing.
+-- What a mark means: proofs of proofs/Promised.antt. Nothing that a reader must believe stands here. Assumes nothing.
 use Rattle.std.specs.Prelude.{◌≡◌, refl, List, ◌++◌, ◌↔◌, Bool, true, false, cond, ℕ, ◌≤◌, ◌<◌, length, drop, replicate, leb, ℤ, pos, ◌≤ℤ◌}
 use Rattle.std.proofs.Common.{sym, ap, ◌∙◌, arith, eq-eqb, ne_eqb, leb-true, leb-false}
 use Rattle.std.proofs.Math.Decide.{ℕ_discrete}

@@ -1,4 +1,4 @@
--- What is promised of a mended file: proofs of specs/Promised.antt. Assumes nothing.
+-- What is promised of a mended file: proofs of proofs/Promised.antt. Assumes nothing.
 use Rattle.std.specs.Prelude.{◌≡◌, List, [], ◌∷◌, Bool, ◌&&◌, not, cond, eqb}
 use Rattle.std.proofs.Math.Path.{refl}
 use Rattle.std.proofs.Common.{sym, ap, ◌∙◌, eqb→eq}

@@ -1,4 +1,4 @@
--- Proofs of specs/Promised.antt. Assumes nothing.
+-- Proofs of proofs/Promised.antt. Assumes nothing.
 use Rattle.std.specs.Prelude.{◌≡◌, List, [], ◌↔◌, ℕ, ◌≤◌, ◌<◌, T, length}
 use Rattle.std.proofs.Common.{sym, ap, ◌∙◌, arith}
 use Rattle.whole.proofs.Laws.Says.{both, says_le, is_true}

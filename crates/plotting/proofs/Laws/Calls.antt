@@ -1,4 +1,4 @@
--- The proofs of specs/Calls.antt. Assumes nothing.
+-- The proofs of proofs/Calls.antt. Assumes nothing.
 use Rattle.std.specs.Prelude.{◌≡◌, List, ℕ, ◌*◌, ◌-◌, ◌<◌, T, get_or, ℤ}
 use Rattle.std.proofs.Common.{ap}
 use native.Mathlib.Omega.{arith}
