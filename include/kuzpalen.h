@@ -407,7 +407,7 @@ kuzpalen_report_answer kuzpalen_report(const uint8_t *file, size_t file_len,
  * A folder: begin with zeros, the report of no plan, and for each file that Report answers with number 0
  * pool its report with what there is so far; a refused file is passed over. What comes out is the report of
  * the files that Read accepts; or number 4, at which to stop, once there are more than KUZPALEN_PLANS of
- * them (crates/demands/specs/Calls.antt: `folder-pools`, `folder-too-many`). */
+ * them (crates/demands/proofs/Calls.antt: `folder_pools`, `folder_too_many`). */
 kuzpalen_report_answer kuzpalen_pool(kuzpalen_folder a, kuzpalen_folder b);
 
 #ifdef __cplusplus
