@@ -84,7 +84,7 @@ MUTATIONS = {
         (CONTOUR_LAWS, "      starts = omega arith;\n", ""),
         (CONTOUR_LAWS, re.compile(r"→ v ≡ 0\n  unfolding lefts stride separation\n.*?\n\n", re.S), "→ v ≡ v\n  lefts-next o os P X j v g h = refl\n\n"),
         (SPAN_LAWS, re.compile(r"module _ \(al : ℕ\) where\n.*?(?=  -- a box with its children)", re.S), "module _ (al : ℕ) where\n"),
-        (SPAN_LAWS, "os.right) + 1 ≤ W + 1 + spans os", "os.right) + 1 ≤ greatest ((contour al W D (offset al 0 os m) os).left) + greatest ((contour al W D (offset al 0 os m) os).right) + 1"),
+        (SPAN_LAWS, "os).right + 1 ≤ W + 1 + spans os", "os).right + 1 ≤ greatest (contour al W D (offset al 0 os m) os).left + greatest (contour al W D (offset al 0 os m) os).right + 1"),
         (SPAN_LAWS, re.compile(r"  span W D m os =.*", re.S), "  span W D m os = omega arith\n"),
     ],
     "the separation without S4": [
