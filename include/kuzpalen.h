@@ -1,6 +1,6 @@
 /* Control sheets for brine plans: the calls, for C.
  *
- * The library is crates/capi/out/libcapi.a, which `rt lib capi` builds for x86-64 Linux.
+ * The library is crates/capi/out/libcapi.a, which `rt lib` builds there for x86-64 Linux.
  *
  * A lent buffer is a pointer and the number of its elements, not of its bytes. The pointer must be good
  * for that many, aligned for its type and not NULL, even where the number is 0. A buffer that a call

@@ -13,7 +13,9 @@ seconds=${3:-15}
 sheet=../target/bin/sheet
 export CARGO_BUILD_JOBS="${CARGO_BUILD_JOBS:-1}"
 unset KUZPALEN_LIB_DIR
-(cd .. && mkdir -p target && rt lib capi > target/capi.log 2>&1 || { cat target/capi.log; exit 1; }; mkdir -p target/staticlib && cp crates/capi/out/libcapi.a target/staticlib/)
+mkdir -p ../target/staticlib
+(cd ../crates/capi && rt lib) > ../target/capi.log 2>&1 || { cat ../target/capi.log; exit 1; }
+cp ../crates/capi/out/libcapi.a ../target/staticlib/
 cargo build --offline --quiet --profile checked -p compare
 cargo test --offline --quiet --profile checked -p reference
 cargo test --offline --quiet --profile checked -p compare --test sweep

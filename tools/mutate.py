@@ -131,7 +131,7 @@ def refused(title, edits):
         apply(copy, edits)
         below, lines = set(), []
         for n in ("whole", "plan", "rules", "contours", "least"):
-            run = subprocess.run(["rt", "check", n], cwd=copy, capture_output=True, text=True)
+            run = subprocess.run(["rt", "check"], cwd=copy / "crates" / n, capture_output=True, text=True)
             lines = [l.replace("./", n + "/", 1) if l.startswith("./") else l for l in (run.stdout + run.stderr).splitlines()]
             if n != "least" and run.returncode == 0:
                 below.add(n)

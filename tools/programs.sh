@@ -12,7 +12,7 @@ lacking=0
 for name in "$@"; do
     made="crates/$name/out/$name"
     rm -f "$made" "target/bin/$name"
-    rt run "$name" < /dev/null > "target/$name.log" 2>&1
+    (cd "crates/$name" && rt run < /dev/null) > "target/$name.log" 2>&1
     if [ -f "$made" ]; then
         cp "$made" "target/bin/$name.new" && chmod 755 "target/bin/$name.new" && mv "target/bin/$name.new" "target/bin/$name"
         rm -f "target/$name.log"

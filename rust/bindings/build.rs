@@ -1,4 +1,4 @@
-//! Links the static library that `rt lib capi` builds and rust/run.sh puts into target/staticlib.
+//! Links the static library that `rt lib` builds in crates/capi and rust/run.sh puts into target/staticlib.
 
 use std::env;
 use std::path::PathBuf;
