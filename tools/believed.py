@@ -31,6 +31,11 @@ TOLD = {
 }
 
 
+def braced(text):
+    """(crate, name) of each name of an import in braces, as `use walk::{begin, turn};`"""
+    return {(c, n) for c, names in re.findall(r'^(?:pub )?use (\w+)(?:::\w+)*::\{([^}]*)\};', text, re.M) for n in re.findall(r'\w+', names)}
+
+
 def called(root):
     """(crate, function) of every function that a program calls, its own ones among them"""
     calls = set()
@@ -38,13 +43,14 @@ def called(root):
         crate = os.path.relpath(p, os.path.join(root, 'crates')).split('/')[0]
         if os.path.exists(os.path.join(root, 'crates', crate, 'src', 'main.rt')) and not crate.endswith('_tests'):
             text = open(p).read()
-            calls |= set(re.findall(r'\b(\w+)::(?:\w+::)*(\w+)', text)) | {(crate, f) for f in re.findall(r'\bfn (\w+)', text)}
+            calls |= set(re.findall(r'\b(\w+)::(?:\w+::)*(\w+)', text)) | braced(text) | {(crate, f) for f in re.findall(r'\bfn (\w+)', text)}
     return calls
 
 
 def reexported(root):
     """(crate, function) of every function that `engine` re-exports"""
-    return set(re.findall(r'^pub use (\w+)::(\w+);', open(os.path.join(root, 'crates', 'engine', 'src', 'lib.rt')).read(), re.M))
+    text = open(os.path.join(root, 'crates', 'engine', 'src', 'lib.rt')).read()
+    return set(re.findall(r'^pub use (\w+)::(\w+);', text, re.M)) | braced(text)
 
 
 def lines(f):

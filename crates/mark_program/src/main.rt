@@ -135,9 +135,8 @@ fn sit<R: Env + Files>(
     columns: Columns,
     allowance: u32,
     count: usize,
-) -> bool
-    requires { 2 ≤ count }
-{
+) -> bool {
+    let drawings = count.saturating_sub(2);
     let mut sum = Sitting {
         read: true,
         written: true,
@@ -145,7 +144,7 @@ fn sit<R: Env + Files>(
     };
     for i in 2..count {
         sum = marked(rt, out, err, columns, allowance, i, sum);
-        tell_progress(err, b"mark", i - 1, count - 2);
+        tell_progress(err, b"mark", i - 1, drawings);
     }
     if !sum.read {
         return sum.written;
@@ -167,8 +166,7 @@ fn mark_all<R: Env + Files>(
     file: &[u8],
     count: usize,
 ) -> bool
-    requires path { length path.now ≤ 4096 }
-    requires drawings { 2 ≤ count }
+    requires { length path.now ≤ 4096 }
 {
     let plan: Reading = planfile::read(file, MOST_CELLS);
     let refusal = plan.refusal;
