@@ -2,11 +2,13 @@
 // A plan that is refused: its name and the refusal, and no more. A file that cannot be read is told on standard error; then there are no counts, since they would not be those of the sitting.
 #![tactic(auto)]
 
-ghost use Rattle.std.specs.Prelude.{◌≤◌, length, IfOk};
+ghost use Rattle.std.specs.Prelude.{◌≡◌, ◌≤◌, length, IfOk};
 
+use drawing_spec::Fault;
 use input::End;
 use mark_drawing::mark_drawing;
-use mark_text::{Counts, counted, write_counts, write_outcome};
+use mark_spec::Marked;
+use mark_text::{Counts, Outcome, counted, write_counts, write_outcome};
 use plan::Columns;
 use plan::limits::{MOST_CELLS, MOST_FILE};
 use planfile_spec::Reading;
@@ -60,6 +62,40 @@ fn tell_refused(out: &impl Print, path: &[u8], number: u8, cell: u16) -> bool
     out.write_all(&text[..n]).is_ok()
 }
 
+// A mark once more, a fault and an outcome: their types are not copied.
+fn mark_again(mark: &Marked) -> Marked
+    ensures { result ≡ mark.now }
+{
+    match mark {
+        Marked::Full(w, h) => Marked::Full(*w, *h),
+        Marked::Wide(w, h, enough) => Marked::Wide(*w, *h, *enough),
+        Marked::Broken(rule, a, b) => Marked::Broken(*rule, *a, *b),
+        Marked::Refused(number, cell) => Marked::Refused(*number, *cell),
+    }
+}
+
+fn fault_again(fault: &Fault) -> Fault
+    ensures { result ≡ fault.now }
+{
+    match fault {
+        Fault::NoNumber(line) => Fault::NoNumber(*line),
+        Fault::NoCell(line) => Fault::NoCell(*line),
+        Fault::Twice(line, cell) => Fault::Twice(*line, *cell),
+        Fault::Far(line) => Fault::Far(*line),
+        Fault::Missing(cell) => Fault::Missing(*cell),
+        Fault::Long => Fault::Long,
+    }
+}
+
+fn again(outcome: &Outcome) -> Outcome
+    ensures { result ≡ outcome.now }
+{
+    match outcome {
+        Outcome::Mark(mark) => Outcome::Mark(mark_again(mark)),
+        Outcome::Unread(fault) => Outcome::Unread(fault_again(fault)),
+    }
+}
+
 // The line of a drawing, and the counts with it.
 fn tell(
     out: &impl Print,
@@ -73,7 +109,7 @@ fn tell(
 {
     let outcome = mark_drawing(columns, allowance, drawing);
     let mut text = [0u8; TEXT_SIZE];
-    let n = write_outcome(path, outcome, &mut text);
+    let n = write_outcome(path, again(&outcome), &mut text);
     let written = out.write_all(&text[..n]).is_ok();
     let counts = counted(sum.counts, outcome);
     Sitting {
@@ -136,7 +172,6 @@ fn sit<R: Env + Files>(
     allowance: u32,
     count: usize,
 ) -> bool {
-    let drawings = count.saturating_sub(2);
     let mut sum = Sitting {
         read: true,
         written: true,
@@ -144,7 +179,7 @@ fn sit<R: Env + Files>(
     };
     for i in 2..count {
         sum = marked(rt, out, err, columns, allowance, i, sum);
-        tell_progress(err, b"mark", i - 1, drawings);
+        tell_progress(err, b"mark", i - 1, count - 2);
     }
     if !sum.read {
         return sum.written;
