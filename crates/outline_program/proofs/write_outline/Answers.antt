@@ -1,4 +1,4 @@
-use Rattle.std.proofs.Common.{◌≡◌, ℕ, ◌≤◌, length, arith, sym}
+use Rattle.std.proofs.Common.{ℕ, ◌≤◌, arith, sym}
 use Rattle.std.proofs.Math.Seq.{length-take-le}
 use Rattle.outline.specs.Outlined.{outline_size, size}
 use Rattle.outline.specs.declared.Outlined.TheVariants.{Written}
