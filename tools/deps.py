@@ -1,5 +1,5 @@
 #!/usr/bin/env python3
-"""crates.txt holds, of each crate, the crates that its files name, and no others.
+"""crates.txt holds, of each crate, the crates that its files and its must-fail edits name, and no others.
 
     tools/deps.py --check    exit 1 where a line of crates.txt names a crate too many or too few
     tools/deps.py --write    put the right names into crates.txt; comments and the order of the lines stay
@@ -32,6 +32,11 @@ def named(crate, crates):
             if path.endswith('.rt'):
                 of_std = {m for group in re.findall(r'use std::(?:\{([^}]*)\}|([a-z_]+))', text) for part in group for m in re.findall(r'[a-z_]+', part)}
                 found |= set(re.findall(r'(?<![\w:])([a-z_0-9]+)::', text)) - of_std
+    # what a must-fail edit puts in has to be in scope too
+    for path in glob.glob(os.path.join(ROOT, 'crates', crate, 'must-fail', '*.edit')):
+        for line in open(path, encoding='utf-8'):
+            if line.startswith('new:'):
+                found |= set(re.findall(r'(?<![\w:])([a-z_0-9]+)::', line))
     return found & (crates | set(KIT)) - {crate}
 
 
