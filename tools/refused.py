@@ -10,10 +10,11 @@ An edit costs a check of its crate, so edits of one crate that cannot disturb ea
 A file without `edit:` is one edit, called as the file.
 
     tools/refused.py --check         every edit fits its file; no edit of a round reaches the place of another
-    tools/refused.py                 tries each round, and sees that each edit is refused at its place, because a fact no longer holds
+    tools/refused.py --log FILE      in what `rt ci` printed: each round was refused, first because a fact no longer holds
+    tools/refused.py                 tries each round, and sees that each edit is refused at its place, because a fact no longer holds; half an hour and more
     tools/refused.py --places CRATE  tries the rounds of a crate, and prints where each was refused, to write `at:` by
 
-`rt ci` tries each round too, and says only where it is refused first; so this tries them once more, some side by side, each in a copy of the crates that it begins with.
+`rt ci` tries each round too, and says only where it is refused first: the gate reads that. Without a word this tries them once more, some side by side, each in a copy of the crates that it begins with.
 What a round's check said is kept below target/refused, or in the folder that REFUSED names, by the checksum of all that it read, and a round is not tried again while that stays.
 
 That two edits of a round are apart is decided from the sources: the body of a function reaches only its own proof, a contract and a constant those of the functions that name it; a definition, and a law whose statement is edited, reaches what names it, directly or by way of definitions, statements and contracts.
@@ -350,6 +351,21 @@ def refused():
     return wrong
 
 
+def printed(log):
+    """What is wrong with what `rt ci` printed of the rounds."""
+    said = dict(re.findall(r'^rt: must-fail (\S+)\.edit: (.*)$', open(log, encoding='utf-8', errors='replace').read(), re.M))
+    wrong, every = [], rounds()
+    for edits in every:
+        name = f'{edits[0].crate}/{edits[0].round}'
+        line = said.get(name, 'rt ci says nothing of it')
+        head, _, rest = line.partition('refused, as it must be')
+        m = ERROR.match(rest.lstrip(': '))
+        if head or not rest or rest.startswith(' (') or m and NO_FACT.search(m[3]):
+            wrong.append(f'{name}: {line[:200]}')
+    print(f'{len(every)} rounds, {len(every) - len(wrong)} refused where a fact no longer holds')
+    return wrong
+
+
 def main():
     if '--places' in sys.argv:
         every = rounds(sys.argv[-1])
@@ -359,7 +375,7 @@ def main():
             for f, d, says in facts(told[edits[0].crate, edits[0].round]):
                 print('   ', f, d, '--', says[:110])
         return
-    wrong = check() if '--check' in sys.argv else refused()
+    wrong = check() if '--check' in sys.argv else printed(sys.argv[-1]) if '--log' in sys.argv else refused()
     print('\n'.join(wrong), end='\n' if wrong else '')
     sys.exit(1 if wrong else 0)
 
