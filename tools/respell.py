@@ -1,7 +1,7 @@
 #!/usr/bin/env python3
 """Brings the repository's own names of antt to one spelling: words in snake case, types and modules in camel case.
 
-usage: tools/respell.py [--list]      at the top of a repository that /opt/rattle/port/port.py has just turned
+usage: tools/respell.py [--list]      at the top of a repository that port.py has just turned
 
 A dash stays only in a lemma's name that joins the names of two definitions, as in `width_of-put`. Functions of src/, exported
 names, texts, inputs and outputs keep their names. Run once; --list only prints what would be renamed. It stops where two names
