@@ -311,6 +311,17 @@ def body_at(text):
     return len(text)
 
 
+def owner_of(line):
+    """of a line that begins an impl, the name that stands before its functions' names below proofs/"""
+    m = re.match(r'impl(?:<[^>]*>)? (?:(\w+)(?:<(.*)>)? for )?(\w+)', line)
+    if not m:
+        return ''
+    if not m[1]:
+        return m[3]
+    words = ['Unit' if w == '()' else w[0].upper() + w[1:] for w in re.findall(r'\w+|\(\)', m[2] or '')]
+    return m[3] + m[1] + ''.join(words)
+
+
 def rt_functions(text):
     """(name, public, head text with requires/ensures, invariants text) for each function"""
     lines = [l for l in text.split('\n') if not re.match(r'\s*//', l)]
@@ -318,9 +329,8 @@ def rt_functions(text):
     owner = ''
     while i < len(lines):
         m = re.match(r'( *)(pub )?(?:extern "C" )?fn (\w+)', lines[i])
-        imp = re.match(r'impl (\w+)', lines[i])
-        if imp:
-            owner = imp[1] + '.'
+        if owner_of(lines[i]):
+            owner = owner_of(lines[i]) + '.'
         if lines[i] == '}':
             owner = ''
         if not m:

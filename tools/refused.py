@@ -31,7 +31,7 @@ import sys
 import tempfile
 import threading
 sys.path.insert(0, os.path.dirname(os.path.abspath(__file__)))
-from antt import Graph, contract, parse_use, rt_functions, stated
+from antt import Graph, contract, owner_of, parse_use, rt_functions, stated
 
 ROOT = os.path.dirname(os.path.dirname(os.path.abspath(__file__)))
 KEPT = os.environ.get('REFUSED') or os.path.join(ROOT, 'target', 'refused')
@@ -77,13 +77,13 @@ def rounds(crate='*'):
 def function_at(text, at):
     """The function at the place, by its path below proofs/, and whether the place lies in its body, behind its brace; outside any, None."""
     owner, found, begin = '', None, 0
-    for m in re.finditer(r'^( *)(?:(impl) (\w+)|(?:#.*\n *)?(?:pub )?(?:extern "C" )?fn (\w+)|(\}))', text, re.M):
+    for m in re.finditer(r'^( *)(?:(impl\b[^\n]*)|(?:#.*\n *)?(?:pub )?(?:extern "C" )?fn (\w+)|(\}))', text, re.M):
         if m.start() > at:
             break
         if m[2]:
-            owner = m[3] + '/'
-        elif m[4]:
-            found, begin = (owner if m[1] else '') + m[4], m.start()
+            owner = owner_of(m[2]) + '/'
+        elif m[3]:
+            found, begin = (owner if m[1] else '') + m[3], m.start()
         elif not m[1]:
             owner, found = ('', None)
     if not found:

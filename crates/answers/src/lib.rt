@@ -4,22 +4,16 @@
 ghost use Rattle.std.specs.Prelude.{◌≡◌};
 ghost use Rattle.answers.specs.Answers.{«read_answer», laid_answer, check_answer, ends_answer, list_answer, frame_answer, mark_answer, copy_answer, mend_answer, pen_answer, stroke_answer, strip_answer, join_answer, drill_answer, start_answer, step_answer, reach_answer, report_answer};
 
-use checker::Checked;
-use copying::Copied;
+use checker::Verdict;
 use ends::Ended;
-use finishing::Started;
-use finishing_reach::Reached;
-use finishing_step::Stepped;
-use fitting::Fitted;
+use finishing_reach::Sides;
 use following::Drilled;
-use layout::Laid;
 use mark_spec::Marked;
 use mending::Mended;
 use pen::Stroke;
-use plan::Refusal;
-use printing::Listed;
-use season::{Report, Reported};
-use strokes::Stroked;
+use plan::{Measures, Refusal};
+use read_entry::ReadPlan;
+use season::Report;
 
 // Number and cell of the refusal, or 0 and 0; the number of cells and the allowance.
 #[repr(C)]
@@ -179,145 +173,157 @@ pub struct ReportAnswer {
 }
 
 // The answer of Read as a struct.
-pub fn told_read(answer: read_entry::ReadAnswer) -> ReadAnswer
-    ensures { result ≡ read_answer answer }
-{
-    match answer {
-        read_entry::ReadAnswer::Plan(count, allowance) => ReadAnswer {
-            number: 0,
-            cell: 0,
-            allowance,
-            count: count as usize,
-        },
-        read_entry::ReadAnswer::Refused(number, cell) => ReadAnswer {
-            number,
-            cell,
-            allowance: 0,
-            count: 0,
-        },
+impl From<Result<ReadPlan, Refusal>> for ReadAnswer {
+    ghost from_gives = { λ answer r. r ≡ read_answer answer };
+
+    fn from(answer: Result<ReadPlan, Refusal>) -> ReadAnswer {
+        match answer {
+            Ok(plan) => ReadAnswer {
+                number: 0,
+                cell: 0,
+                allowance: plan.allowance,
+                count: plan.count as usize,
+            },
+            Err(refusal) => ReadAnswer {
+                number: refusal.number,
+                cell: refusal.cell,
+                allowance: 0,
+                count: 0,
+            },
+        }
     }
 }
 
 // The answer of Layout as a struct.
-pub fn told_layout(answer: Laid) -> LayoutAnswer
-    ensures { result ≡ laid_answer answer }
-{
-    match answer {
-        Laid::Sheet(width, rows) => LayoutAnswer {
-            number: 0,
-            cell: 0,
-            width,
-            rows,
-        },
-        Laid::Refused(number, cell) => LayoutAnswer {
-            number,
-            cell,
-            width: 0,
-            rows: 0,
-        },
+impl From<Result<Measures, Refusal>> for LayoutAnswer {
+    ghost from_gives = { λ answer r. r ≡ laid_answer answer };
+
+    fn from(answer: Result<Measures, Refusal>) -> LayoutAnswer {
+        match answer {
+            Ok(sheet) => LayoutAnswer {
+                number: 0,
+                cell: 0,
+                width: sheet.width,
+                rows: sheet.rows,
+            },
+            Err(refusal) => LayoutAnswer {
+                number: refusal.number,
+                cell: refusal.cell,
+                width: 0,
+                rows: 0,
+            },
+        }
     }
 }
 
 // The answer of Check as a struct.
-pub fn told_check(answer: Checked) -> CheckAnswer
-    ensures { result ≡ check_answer answer }
-{
-    match answer {
-        Checked::Kept(width, rows) => CheckAnswer {
-            number: 0,
-            cell: 0,
-            rule: 0,
-            a: 0,
-            b: 0,
-            width,
-            rows,
-        },
-        Checked::Broken(rule, a, b) => CheckAnswer {
-            number: 0,
-            cell: 0,
-            rule,
-            a,
-            b,
-            width: 0,
-            rows: 0,
-        },
-        Checked::Refused(number, cell) => CheckAnswer {
-            number,
-            cell,
-            rule: 0,
-            a: 0,
-            b: 0,
-            width: 0,
-            rows: 0,
-        },
+impl From<Result<Verdict, Refusal>> for CheckAnswer {
+    ghost from_gives = { λ answer r. r ≡ check_answer answer };
+
+    fn from(answer: Result<Verdict, Refusal>) -> CheckAnswer {
+        match answer {
+            Ok(Verdict::Kept(sheet)) => CheckAnswer {
+                number: 0,
+                cell: 0,
+                rule: 0,
+                a: 0,
+                b: 0,
+                width: sheet.width,
+                rows: sheet.rows,
+            },
+            Ok(Verdict::Broken(breach)) => CheckAnswer {
+                number: 0,
+                cell: 0,
+                rule: breach.rule,
+                a: breach.a,
+                b: breach.b,
+                width: 0,
+                rows: 0,
+            },
+            Err(refusal) => CheckAnswer {
+                number: refusal.number,
+                cell: refusal.cell,
+                rule: 0,
+                a: 0,
+                b: 0,
+                width: 0,
+                rows: 0,
+            },
+        }
     }
 }
 
 // The answer of Ends as a struct.
-pub fn told_ends(answer: Ended) -> EndsAnswer
-    ensures { result ≡ ends_answer answer }
-{
-    match answer {
-        Ended::Joined(from_x, from_y, to_x, to_y) => EndsAnswer {
-            number: 0,
-            cell: 0,
-            from_x,
-            from_y,
-            to_x,
-            to_y,
-        },
-        Ended::Refused(number, cell) => EndsAnswer {
-            number,
-            cell,
-            from_x: 0,
-            from_y: 0,
-            to_x: 0,
-            to_y: 0,
-        },
+impl From<Result<Ended, Refusal>> for EndsAnswer {
+    ghost from_gives = { λ answer r. r ≡ ends_answer answer };
+
+    fn from(answer: Result<Ended, Refusal>) -> EndsAnswer {
+        match answer {
+            Ok(ends) => EndsAnswer {
+                number: 0,
+                cell: 0,
+                from_x: ends.from_x,
+                from_y: ends.from_y,
+                to_x: ends.to_x,
+                to_y: ends.to_y,
+            },
+            Err(refusal) => EndsAnswer {
+                number: refusal.number,
+                cell: refusal.cell,
+                from_x: 0,
+                from_y: 0,
+                to_x: 0,
+                to_y: 0,
+            },
+        }
     }
 }
 
 // The answer of List as a struct.
-pub fn told_list(answer: Listed) -> ListAnswer
-    ensures { result ≡ list_answer answer }
-{
-    match answer {
-        Listed::Text(length) => ListAnswer {
-            number: 0,
-            cell: 0,
-            length,
-        },
-        Listed::Refused(number, cell) => ListAnswer {
-            number,
-            cell,
-            length: 0,
-        },
+impl From<Result<usize, Refusal>> for ListAnswer {
+    ghost from_gives = { λ answer r. r ≡ list_answer answer };
+
+    fn from(answer: Result<usize, Refusal>) -> ListAnswer {
+        match answer {
+            Ok(length) => ListAnswer {
+                number: 0,
+                cell: 0,
+                length,
+            },
+            Err(refusal) => ListAnswer {
+                number: refusal.number,
+                cell: refusal.cell,
+                length: 0,
+            },
+        }
     }
 }
 
 // The answer of Frame as a struct.
-pub fn told_frame(answer: Fitted) -> FrameAnswer
-    ensures { result ≡ frame_answer answer }
-{
-    match answer {
-        Fitted::Allowance(allowance) => FrameAnswer {
-            number: 0,
-            cell: 0,
-            outcome: 1,
-            allowance,
-        },
-        Fitted::None => FrameAnswer {
-            number: 0,
-            cell: 0,
-            outcome: 2,
-            allowance: 0,
-        },
-        Fitted::Refused(number, cell) => FrameAnswer {
-            number,
-            cell,
-            outcome: 0,
-            allowance: 0,
-        },
+impl From<Result<Option<u32>, Refusal>> for FrameAnswer {
+    ghost from_gives = { λ answer r. r ≡ frame_answer answer };
+
+    fn from(answer: Result<Option<u32>, Refusal>) -> FrameAnswer {
+        match answer {
+            Ok(Some(allowance)) => FrameAnswer {
+                number: 0,
+                cell: 0,
+                outcome: 1,
+                allowance,
+            },
+            Ok(None) => FrameAnswer {
+                number: 0,
+                cell: 0,
+                outcome: 2,
+                allowance: 0,
+            },
+            Err(refusal) => FrameAnswer {
+                number: refusal.number,
+                cell: refusal.cell,
+                outcome: 0,
+                allowance: 0,
+            },
+        }
     }
 }
 
@@ -337,54 +343,56 @@ pub struct MarkAnswer {
 }
 
 // The answer of Mark as a struct.
-pub fn told_mark(answer: Marked) -> MarkAnswer
-    ensures { result ≡ mark_answer answer }
-{
-    match answer {
-        Marked::Full(width, rows) => MarkAnswer {
-            number: 0,
-            cell: 0,
-            outcome: 1,
-            rule: 0,
-            a: 0,
-            b: 0,
-            width,
-            least: 0,
-            rows,
-        },
-        Marked::Wide(width, least, rows) => MarkAnswer {
-            number: 0,
-            cell: 0,
-            outcome: 2,
-            rule: 0,
-            a: 0,
-            b: 0,
-            width,
-            least,
-            rows,
-        },
-        Marked::Broken(rule, a, b) => MarkAnswer {
-            number: 0,
-            cell: 0,
-            outcome: 3,
-            rule,
-            a,
-            b,
-            width: 0,
-            least: 0,
-            rows: 0,
-        },
-        Marked::Refused(number, cell) => MarkAnswer {
-            number,
-            cell,
-            outcome: 0,
-            rule: 0,
-            a: 0,
-            b: 0,
-            width: 0,
-            least: 0,
-            rows: 0,
-        },
+impl From<Result<Marked, Refusal>> for MarkAnswer {
+    ghost from_gives = { λ answer r. r ≡ mark_answer answer };
+
+    fn from(answer: Result<Marked, Refusal>) -> MarkAnswer {
+        match answer {
+            Ok(Marked::Full(sheet)) => MarkAnswer {
+                number: 0,
+                cell: 0,
+                outcome: 1,
+                rule: 0,
+                a: 0,
+                b: 0,
+                width: sheet.width,
+                least: 0,
+                rows: sheet.rows,
+            },
+            Ok(Marked::Wide(wide, narrowest)) => MarkAnswer {
+                number: 0,
+                cell: 0,
+                outcome: 2,
+                rule: 0,
+                a: 0,
+                b: 0,
+                width: wide.width,
+                least: narrowest,
+                rows: wide.rows,
+            },
+            Ok(Marked::Broken(broken)) => MarkAnswer {
+                number: 0,
+                cell: 0,
+                outcome: 3,
+                rule: broken.rule,
+                a: broken.a,
+                b: broken.b,
+                width: 0,
+                least: 0,
+                rows: 0,
+            },
+            Err(refusal) => MarkAnswer {
+                number: refusal.number,
+                cell: refusal.cell,
+                outcome: 0,
+                rule: 0,
+                a: 0,
+                b: 0,
+                width: 0,
+                least: 0,
+                rows: 0,
+            },
+        }
     }
 }
 
@@ -398,95 +406,108 @@ pub struct CopyAnswer {
 }
 
 // The answer of Copy as a struct.
-pub fn told_copy(answer: Copied) -> CopyAnswer
-    ensures { result ≡ copy_answer answer }
-{
-    match answer {
-        Copied::Written(length) => CopyAnswer {
-            number: 0,
-            cell: 0,
-            length,
-        },
-        Copied::Refused(number, cell) => CopyAnswer {
-            number,
-            cell,
-            length: 0,
-        },
+impl From<Result<usize, Refusal>> for CopyAnswer {
+    ghost from_gives = { λ answer r. r ≡ copy_answer answer };
+
+    fn from(answer: Result<usize, Refusal>) -> CopyAnswer {
+        match answer {
+            Ok(length) => CopyAnswer {
+                number: 0,
+                cell: 0,
+                length,
+            },
+            Err(refusal) => CopyAnswer {
+                number: refusal.number,
+                cell: refusal.cell,
+                length: 0,
+            },
+        }
     }
 }
 
 // The answer of Mend as a struct.
-pub fn told_mend(answer: Mended) -> MendAnswer
-    ensures { result ≡ mend_answer answer }
-{
-    match answer {
-        Mended::Written(length, lines) => MendAnswer {
-            number: 0,
-            cell: 0,
-            length,
-            lines,
-        },
-        Mended::Refused(number, cell) => MendAnswer {
-            number,
-            cell,
-            length: 0,
-            lines: 0,
-        },
+impl From<Result<Mended, Refusal>> for MendAnswer {
+    ghost from_gives = { λ answer r. r ≡ mend_answer answer };
+
+    fn from(answer: Result<Mended, Refusal>) -> MendAnswer {
+        match answer {
+            Ok(mended) => MendAnswer {
+                number: 0,
+                cell: 0,
+                length: mended.file,
+                lines: mended.lines,
+            },
+            Err(refusal) => MendAnswer {
+                number: refusal.number,
+                cell: refusal.cell,
+                length: 0,
+                lines: 0,
+            },
+        }
     }
 }
 
 // A stroke as a struct.
-fn told_pen(stroke: Stroke) -> StrokeAnswer
-    ensures { result ≡ pen_answer stroke }
-{
-    match stroke {
-        Stroke::Move(x, y) => StrokeAnswer {
-            number: 0,
-            cell: 0,
-            what: 1,
-            x,
-            y,
-        },
-        Stroke::Line(x, y) => StrokeAnswer {
-            number: 0,
-            cell: 0,
-            what: 2,
-            x,
-            y,
-        },
-        Stroke::Lift => StrokeAnswer {
-            number: 0,
-            cell: 0,
-            what: 3,
-            x: 0.0,
-            y: 0.0,
-        },
+impl From<Stroke> for StrokeAnswer {
+    ghost from_gives = { λ answer r. r ≡ pen_answer answer };
+
+    fn from(stroke: Stroke) -> StrokeAnswer {
+        match stroke {
+            Stroke::Move(x, y) => StrokeAnswer {
+                number: 0,
+                cell: 0,
+                what: 1,
+                x,
+                y,
+            },
+            Stroke::Line(x, y) => StrokeAnswer {
+                number: 0,
+                cell: 0,
+                what: 2,
+                x,
+                y,
+            },
+            Stroke::Lift => StrokeAnswer {
+                number: 0,
+                cell: 0,
+                what: 3,
+                x: 0.0,
+                y: 0.0,
+            },
+        }
     }
 }
 
 // The answer of a stroke's call as a struct.
-pub fn told_stroke(answer: Stroked) -> StrokeAnswer
-    ensures { result ≡ stroke_answer answer }
-{
-    match answer {
-        Stroked::Drawn(stroke) => told_pen(stroke),
-        Stroked::Refused(number, cell) => StrokeAnswer {
-            number,
-            cell,
-            what: 0,
-            x: 0.0,
-            y: 0.0,
-        },
+impl From<Result<Stroke, Refusal>> for StrokeAnswer {
+    ghost from_gives = { λ answer r. r ≡ stroke_answer answer };
+
+    fn from(answer: Result<Stroke, Refusal>) -> StrokeAnswer {
+        match answer {
+            Ok(stroke) => StrokeAnswer::from(stroke),
+            Err(refusal) => StrokeAnswer {
+                number: refusal.number,
+                cell: refusal.cell,
+                what: 0,
+                x: 0.0,
+                y: 0.0,
+            },
+        }
     }
 }
 
 // The answer of Strip as a struct.
-pub fn told_strip(answer: Refusal) -> StripAnswer
-    ensures { result ≡ strip_answer answer }
-{
-    StripAnswer {
-        number: answer.number,
-        cell: answer.cell,
+impl From<Result<(), Refusal>> for StripAnswer {
+    ghost from_gives = { λ answer r. r ≡ strip_answer answer };
+
+    fn from(answer: Result<(), Refusal>) -> StripAnswer {
+        match answer {
+            Ok(()) => StripAnswer { number: 0, cell: 0 },
+            Err(refused) => StripAnswer {
+                number: refused.number,
+                cell: refused.cell,
+            },
+        }
     }
 }
 
@@ -500,136 +521,148 @@ pub struct JoinAnswer {
 }
 
 // The answer of Join as a struct.
-pub fn told_join(answer: grafting::JoinAnswer) -> JoinAnswer
-    ensures { result ≡ join_answer answer }
-{
-    match answer {
-        grafting::JoinAnswer::Plan(count) => JoinAnswer {
-            number: 0,
-            cell: 0,
-            count: count as usize,
-        },
-        grafting::JoinAnswer::Refused(number, cell) => JoinAnswer {
-            number,
-            cell,
-            count: 0,
-        },
+impl From<Result<u16, Refusal>> for JoinAnswer {
+    ghost from_gives = { λ answer r. r ≡ join_answer answer };
+
+    fn from(answer: Result<u16, Refusal>) -> JoinAnswer {
+        match answer {
+            Ok(count) => JoinAnswer {
+                number: 0,
+                cell: 0,
+                count: count as usize,
+            },
+            Err(refusal) => JoinAnswer {
+                number: refusal.number,
+                cell: refusal.cell,
+                count: 0,
+            },
+        }
     }
 }
 
 // The answer of a drill as a struct.
-pub fn told_drill(answer: Drilled) -> DrillAnswer
-    ensures { result ≡ drill_answer answer }
-{
-    match answer {
-        Drilled::Finished(used, records) => DrillAnswer {
-            number: 0,
-            cell: 0,
-            outcome: 1,
-            used,
-            records,
-        },
-        Drilled::Spent(used, records) => DrillAnswer {
-            number: 0,
-            cell: 0,
-            outcome: 2,
-            used,
-            records,
-        },
-        Drilled::Wrong(used, records) => DrillAnswer {
-            number: 0,
-            cell: 0,
-            outcome: 3,
-            used,
-            records,
-        },
-        Drilled::Full(used, records) => DrillAnswer {
-            number: 0,
-            cell: 0,
-            outcome: 4,
-            used,
-            records,
-        },
-        Drilled::Refused(number, cell) => DrillAnswer {
-            number,
-            cell,
-            outcome: 0,
-            used: 0,
-            records: 0,
-        },
+impl From<Result<Drilled, Refusal>> for DrillAnswer {
+    ghost from_gives = { λ answer r. r ≡ drill_answer answer };
+
+    fn from(answer: Result<Drilled, Refusal>) -> DrillAnswer {
+        match answer {
+            Ok(Drilled::Finished(used, records)) => DrillAnswer {
+                number: 0,
+                cell: 0,
+                outcome: 1,
+                used,
+                records,
+            },
+            Ok(Drilled::Spent(used, records)) => DrillAnswer {
+                number: 0,
+                cell: 0,
+                outcome: 2,
+                used,
+                records,
+            },
+            Ok(Drilled::Wrong(used, records)) => DrillAnswer {
+                number: 0,
+                cell: 0,
+                outcome: 3,
+                used,
+                records,
+            },
+            Ok(Drilled::Full(used, records)) => DrillAnswer {
+                number: 0,
+                cell: 0,
+                outcome: 4,
+                used,
+                records,
+            },
+            Err(Refusal { number, cell }) => DrillAnswer {
+                number,
+                cell,
+                outcome: 0,
+                used: 0,
+                records: 0,
+            },
+        }
     }
 }
 
 // The answer of Start as a struct.
-pub fn told_start(answer: Started) -> StartAnswer
-    ensures { result ≡ start_answer answer }
-{
-    match answer {
-        Started::Begun => StartAnswer { number: 0, cell: 0 },
-        Started::Refused(number, cell) => StartAnswer { number, cell },
+impl From<Result<(), Refusal>> for StartAnswer {
+    ghost from_gives = { λ answer r. r ≡ start_answer answer };
+
+    fn from(answer: Result<(), Refusal>) -> StartAnswer {
+        match answer {
+            Ok(()) => StartAnswer { number: 0, cell: 0 },
+            Err(Refusal { number, cell }) => StartAnswer { number, cell },
+        }
     }
 }
 
 // The answer of Step as a struct.
-pub fn told_step(answer: Stepped) -> StepAnswer
-    ensures { result ≡ step_answer answer }
-{
-    match answer {
-        Stepped::Cell(finished) => StepAnswer {
-            number: 0,
-            cell: 0,
-            outcome: 1,
-            finished,
-        },
-        Stepped::Done => StepAnswer {
-            number: 0,
-            cell: 0,
-            outcome: 2,
-            finished: 0,
-        },
-        Stepped::Refused(number, cell) => StepAnswer {
-            number,
-            cell,
-            outcome: 0,
-            finished: 0,
-        },
+impl From<Result<Option<u16>, Refusal>> for StepAnswer {
+    ghost from_gives = { λ answer r. r ≡ step_answer answer };
+
+    fn from(answer: Result<Option<u16>, Refusal>) -> StepAnswer {
+        match answer {
+            Ok(Some(finished)) => StepAnswer {
+                number: 0,
+                cell: 0,
+                outcome: 1,
+                finished,
+            },
+            Ok(None) => StepAnswer {
+                number: 0,
+                cell: 0,
+                outcome: 2,
+                finished: 0,
+            },
+            Err(Refusal { number, cell }) => StepAnswer {
+                number,
+                cell,
+                outcome: 0,
+                finished: 0,
+            },
+        }
     }
 }
 
 // The answer of Reach as a struct.
-pub fn told_reach(answer: Reached) -> ReachAnswer
-    ensures { result ≡ reach_answer answer }
-{
-    match answer {
-        Reached::Sides(left, right) => ReachAnswer {
-            number: 0,
-            cell: 0,
-            left,
-            right,
-        },
-        Reached::Refused(number, cell) => ReachAnswer {
-            number,
-            cell,
-            left: 0,
-            right: 0,
-        },
+impl From<Result<Sides, Refusal>> for ReachAnswer {
+    ghost from_gives = { λ answer r. r ≡ reach_answer answer };
+
+    fn from(answer: Result<Sides, Refusal>) -> ReachAnswer {
+        match answer {
+            Ok(Sides { left, right }) => ReachAnswer {
+                number: 0,
+                cell: 0,
+                left,
+                right,
+            },
+            Err(Refusal { number, cell }) => ReachAnswer {
+                number,
+                cell,
+                left: 0,
+                right: 0,
+            },
+        }
     }
 }
 
 // The answer of Report or of Pool as a struct.
-pub fn told_report(answer: Reported) -> ReportAnswer
-    ensures { result ≡ report_answer answer }
-{
-    match answer {
-        Reported::Figures(report) => ReportAnswer {
-            number: 0,
-            cell: 0,
-            report,
-        },
-        Reported::Refused(number, cell) => ReportAnswer {
-            number,
-            cell,
-            report: season::nothing(),
-        },
+impl From<Result<Report, Refusal>> for ReportAnswer {
+    ghost from_gives = { λ answer r. r ≡ report_answer answer };
+
+    fn from(answer: Result<Report, Refusal>) -> ReportAnswer {
+        match answer {
+            Ok(report) => ReportAnswer {
+                number: 0,
+                cell: 0,
+                report,
+            },
+            Err(refusal) => ReportAnswer {
+                number: refusal.number,
+                cell: refusal.cell,
+                report: season::nothing(),
+            },
+        }
     }
 }

@@ -1,42 +1,32 @@
 // A NUMBER THAT AN ARGUMENT OF A PROGRAM TELLS: decimal digits, and nothing else.
 #![tactic(auto)]
 
-ghost use Rattle.std.specs.Prelude.{◌≡◌, ◌≤◌};
-ghost use Rattle.argument_number.specs.Number.{no_number, with_digit, number_in};
-
-// More than any number that is told: it is none.
-pub const NO_NUMBER: u64 = 4294967296;
+ghost use Rattle.std.specs.Prelude.{◌≡◌, Some};
+ghost use Rattle.argument_number.specs.Number.{with_digit, number_in};
 
 // The number with one digit more.
-fn with_digit(n: u64, b: u8) -> u64
-    requires { n ≤ no_number }
-    ensures { (result ≡ with_digit n b) × (result ≤ no_number) }
+fn with_digit(n: u32, b: u8) -> Option<u32>
+    ensures { result ≡ with_digit (Some n) b }
 {
-    if b < 48 {
-        return NO_NUMBER;
+    if b < b'0' {
+        return None;
     }
-    if 57 < b {
-        return NO_NUMBER;
+    if b'9' < b {
+        return None;
     }
-    let m = 10 * n + ((b - 48) as u64);
-    if NO_NUMBER <= m {
-        return NO_NUMBER;
-    }
-    m
+    n.checked_mul(10)?.checked_add(u32::from(b - b'0'))
 }
 
-// The number that a text tells, below 4,294,967,296; NO_NUMBER where it tells none.
-pub fn number_in(text: &[u8]) -> u64
-    ensures { (result ≡ number_in text.now) × (result ≤ no_number) }
+// The number that a text tells.
+pub fn number_in(text: &[u8]) -> Option<u32>
+    ensures { result ≡ number_in text.now }
 {
     if text.len() == 0 {
-        return NO_NUMBER;
+        return None;
     }
-    let mut n: u64 = 0;
-    let mut i: usize = 0;
-    while i < text.len() {
-        n = with_digit(n, text[i]);
-        i += 1;
+    let mut n: u32 = 0;
+    for &b in text {
+        n = with_digit(n, b)?;
     }
-    n
+    Some(n)
 }

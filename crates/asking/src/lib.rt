@@ -1,46 +1,37 @@
-// The questions put to a table, each as a refusal. A refusal of number 0 is none. None asks about a rank: the contracts hold whatever the ranks qs are.
+// The questions put to a table, each answered: nothing, or the refusal. None asks about a rank: the definitions hold whatever the ranks are.
 #![tactic(auto)]
 
 pub mod tree;
 
-ghost use Rattle.std.specs.Prelude.{◌≡◌, List, false, ◌&&◌, ℕ, ◌+◌, ◌*◌, ◌^◌, ◌≤◌, ◌<◌, leb, length, get_or, pos};
+ghost use Rattle.std.specs.Prelude.{◌≡◌, ◌&&◌, ◌+◌, ◌*◌, ◌^◌, ◌≤◌, ◌<◌, leb, length, get_or, pos};
 ghost use Rattle.plan.specs.Limits.{between, most_cells, most_allowance};
 ghost use Rattle.plan.specs.Trees.{Short, Lower, Flat};
-ghost use Rattle.plan.specs.Questions.{asked, «or_else», lower, sized, near, «at_each»};
-ghost use Rattle.plan.specs.Columns.{table};
+ghost use Rattle.plan.specs.Questions.{asked, «or_else», lower, sized, near, «at_each», passed, «put_at»};
+ghost use Rattle.plan.specs.Columns.{«table_of»};
 ghost use Rattle.plan.specs.Steps.{cell_refusal, cells_refusal, tree_refusal, table_refusal, counted_refusal, lent_refusal, near_refusal, children_at, levels_at, «rows_at»};
 
 use crate::tree::survey;
-use plan::Refusal;
 use plan::kinds::{allows, known};
 use plan::limits::{
     FARTHEST, LAST_ROW, MOST_ALLOWANCE, MOST_CELLS, MOST_DEPTH, MOST_LEVEL, MOST_WIDTH, NO_PARENT,
     between,
 };
+use plan::{Columns, Refusal};
 use whole::within;
 
 // Question `number` at a cell, answered.
-pub fn asked(number: u8, yes: bool, cell: usize) -> Refusal
+pub fn asked(number: u8, yes: bool, cell: usize) -> Result<(), Refusal>
     requires { cell < 2 ^ 16 }
-    ensures { result ≡ asked number yes cell }
+    ensures put { result ≡ put_at number yes cell }
+    ensures numbered { 0 < number → result ≡ passed (asked number yes cell) }
 {
     if yes {
-        return Refusal { number: 0, cell: 0 };
+        return Ok(());
     }
-    Refusal {
+    Err(Refusal {
         number,
         cell: cell as u16,
-    }
-}
-
-// The first of two refusals.
-pub fn or_else(a: Refusal, b: Refusal) -> Refusal
-    ensures { result ≡ or_else a b }
-{
-    if a.number == 0 {
-        return b;
-    }
-    a
+    })
 }
 
 // Question 6.
@@ -78,130 +69,100 @@ fn box_bottom(row: u16, depth: u8) -> u16
 }
 
 // Questions 6 to 8 at one cell, of a width of at most `most`.
-pub fn cell_refusal(most: u16, cell: usize, parent: u16, kind: u8, width: u16, depth: u8) -> Refusal
+pub fn cell_refusal(
+    most: u16,
+    cell: usize,
+    parent: u16,
+    kind: u8,
+    width: u16,
+    depth: u8,
+) -> Result<(), Refusal>
     requires { cell < 2 ^ 16 }
-    ensures { result ≡ cell_refusal most cell parent kind width depth }
+    ensures { result ≡ passed (cell_refusal most cell parent kind width depth) }
 {
-    let known_kind = asked(7, known(kind), cell);
-    let box_size = asked(8, sized(most, width, depth), cell);
-    or_else(
-        asked(6, lower(cell, parent), cell),
-        or_else(known_kind, box_size),
-    )
+    asked(6, lower(cell, parent), cell)?;
+    asked(7, known(kind), cell)?;
+    asked(8, sized(most, width, depth), cell)
 }
 
 // Questions 6 to 8, cell by cell.
-pub fn cells_refusal(
-    parents: &[u16; MOST_CELLS],
-    kinds: &[u8; MOST_CELLS],
-    widths: &[u16; MOST_CELLS],
-    depths: &[u8; MOST_CELLS],
-    n: usize,
-) -> Refusal
-    requires { n ≤ most_cells }
-    ensures { (qs : List ℕ) → result ≡ cells_refusal (table parents.now kinds.now widths.now depths.now qs n) }
+pub fn cells_refusal(t: &Columns) -> Result<(), Refusal>
+    requires { t.now.count ≤ most_cells }
+    ensures { result ≡ passed (cells_refusal (table_of t.now)) }
 {
-    let mut c = 0;
-    while c < n {
-        let r = cell_refusal(MOST_WIDTH, c, parents[c], kinds[c], widths[c], depths[c]);
-        if r.number != 0 {
-            return r;
-        }
-        c += 1;
+    for c in 0..t.count {
+        cell_refusal(
+            MOST_WIDTH,
+            c,
+            t.parent[c],
+            t.kind[c],
+            t.width[c],
+            t.depth[c],
+        )?;
     }
-    Refusal { number: 0, cell: 0 }
+    Ok(())
 }
 
 // Question 11, from the numbers of children.
-fn children_refusal(kinds: &[u8; MOST_CELLS], counts: &[u16; MOST_CELLS], n: usize) -> Refusal
+fn children_refusal(
+    kinds: &[u8; MOST_CELLS],
+    counts: &[u16; MOST_CELLS],
+    n: usize,
+) -> Result<(), Refusal>
     requires { n ≤ most_cells }
-    ensures { result ≡ at_each (children_at kinds.now counts.now) 0 n }
+    ensures { result ≡ passed (at_each (children_at kinds.now counts.now) 0 n) }
 {
-    let mut c = 0;
-    while c < n {
-        let r = asked(11, allows(kinds[c], counts[c]), c);
-        if r.number != 0 {
-            return r;
-        }
-        c += 1;
+    for c in 0..n {
+        asked(11, allows(kinds[c], counts[c]), c)?;
     }
-    Refusal { number: 0, cell: 0 }
+    Ok(())
 }
 
 // Question 12, from the levels.
-fn levels_refusal(levels: &[u16; MOST_CELLS], n: usize) -> Refusal
+fn levels_refusal(levels: &[u16; MOST_CELLS], n: usize) -> Result<(), Refusal>
     requires { n ≤ most_cells }
-    ensures { result ≡ at_each (levels_at levels.now) 0 n }
+    ensures { result ≡ passed (at_each (levels_at levels.now) 0 n) }
 {
-    let mut c = 0;
-    while c < n {
-        let r = asked(12, at_most(levels[c], MOST_LEVEL), c);
-        if r.number != 0 {
-            return r;
-        }
-        c += 1;
+    for c in 0..n {
+        asked(12, at_most(levels[c], MOST_LEVEL), c)?;
     }
-    Refusal { number: 0, cell: 0 }
+    Ok(())
 }
 
 // Question 13, from the rows.
-fn rows_refusal(rows: &[u16; MOST_CELLS], depths: &[u8; MOST_CELLS], n: usize) -> Refusal
+fn rows_refusal(
+    rows: &[u16; MOST_CELLS],
+    depths: &[u8; MOST_CELLS],
+    n: usize,
+) -> Result<(), Refusal>
     requires { (n ≤ most_cells) × Short rows.now n }
-    ensures { result ≡ at_each (rows_at rows.now depths.now) 0 n }
+    ensures { result ≡ passed (at_each (rows_at rows.now depths.now) 0 n) }
 {
-    let mut c = 0;
-    while c < n {
-        let r = asked(13, at_most(box_bottom(rows[c], depths[c]), LAST_ROW), c);
-        if r.number != 0 {
-            return r;
-        }
-        c += 1;
+    for c in 0..n {
+        asked(13, at_most(box_bottom(rows[c], depths[c]), LAST_ROW), c)?;
     }
-    Refusal { number: 0, cell: 0 }
+    Ok(())
 }
 
 // Questions 11 to 13, put to cells that 6 to 8 have passed.
-pub fn tree_refusal<'a>(
-    parents: &'a [u16; MOST_CELLS],
-    kinds: &'a [u8; MOST_CELLS],
-    depths: &'a [u8; MOST_CELLS],
-    n: usize,
-) -> Refusal
-    requires lower { Lower parents.now n }
-    requires flat { Flat depths.now n }
-    ensures { (ws qs : List ℕ) → result ≡ tree_refusal (table parents.now kinds.now ws depths.now qs n) }
+pub fn tree_refusal(t: &Columns) -> Result<(), Refusal>
+    requires lower { Lower t.now.parent t.now.count }
+    requires flat { Flat t.now.depth t.now.count }
+    ensures { result ≡ passed (tree_refusal (table_of t.now)) }
 {
-    let mut counts = [0u16; MOST_CELLS];
-    let mut levels = [0u16; MOST_CELLS];
-    let mut rows = [0u16; MOST_CELLS];
-    survey(parents, depths, n, &mut counts, &mut levels, &mut rows);
-    let at_children = children_refusal(kinds, &counts, n);
-    if at_children.number != 0 {
-        return at_children;
-    }
-    let at_levels = levels_refusal(&levels, n);
-    if at_levels.number != 0 {
-        return at_levels;
-    }
-    rows_refusal(&rows, depths, n)
+    let found = survey(t);
+    children_refusal(&t.kind, &found.counts, t.count)?;
+    levels_refusal(&found.levels, t.count)?;
+    rows_refusal(&found.rows, &t.depth, t.count)
 }
 
 // Questions 6 to 8 and 11 to 13.
-fn table_refusal<'a>(
-    parents: &'a [u16; MOST_CELLS],
-    kinds: &'a [u8; MOST_CELLS],
-    widths: &'a [u16; MOST_CELLS],
-    depths: &'a [u8; MOST_CELLS],
-    n: usize,
-) -> Refusal
-    requires { (1 ≤ n) × (n ≤ most_cells) }
-    ensures { (qs : List ℕ) → result ≡ table_refusal (table parents.now kinds.now widths.now depths.now qs n) }
+fn table_refusal(t: &Columns) -> Result<(), Refusal>
+    requires { (1 ≤ t.now.count) × (t.now.count ≤ most_cells) }
+    ensures { result ≡ passed (table_refusal (table_of t.now)) }
 {
-    let at_cells = cells_refusal(parents, kinds, widths, depths, n);
-    if at_cells.number != 0 {
-        return at_cells;
-    }
-    tree_refusal(parents, kinds, depths, n)
+    cells_refusal(t)?;
+    tree_refusal(t)
 }
 
 // Question 4.
@@ -215,48 +176,25 @@ pub fn counted(n: usize) -> bool
 }
 
 // Questions 4, 6 to 8 and 11 to 13, put to a lent table by a call without positions.
-pub fn counted_refusal<'a>(
-    parents: &'a [u16; MOST_CELLS],
-    kinds: &'a [u8; MOST_CELLS],
-    widths: &'a [u16; MOST_CELLS],
-    depths: &'a [u8; MOST_CELLS],
-    n: usize,
-) -> Refusal
-    ensures { (qs : List ℕ) → result ≡ counted_refusal (table parents.now kinds.now widths.now depths.now qs n) }
+pub fn counted_refusal(t: &Columns) -> Result<(), Refusal>
+    ensures { result ≡ passed (counted_refusal (table_of t.now)) }
 {
-    let few = asked(4, counted(n), 0);
-    if few.number != 0 {
-        return few;
-    }
-    table_refusal(parents, kinds, widths, depths, n)
+    asked(4, counted(t.count), 0)?;
+    table_refusal(t)
 }
 
 // Questions 4, 1 (of so many positions), 6 to 8 and 11 to 13, put to a lent table.
-// One lifetime, so that a caller can lend the fields of its columns.
-pub fn lent_refusal<'a>(
-    parents: &'a [u16; MOST_CELLS],
-    kinds: &'a [u8; MOST_CELLS],
-    widths: &'a [u16; MOST_CELLS],
-    depths: &'a [u8; MOST_CELLS],
-    n: usize,
-    positions: usize,
-) -> Refusal
-    ensures { (qs : List ℕ) → result ≡ lent_refusal (table parents.now kinds.now widths.now depths.now qs n) positions }
+pub fn lent_refusal(t: &Columns, positions: usize) -> Result<(), Refusal>
+    ensures { result ≡ passed (lent_refusal (table_of t.now) positions) }
 {
-    let few = asked(4, counted(n), 0);
-    if few.number != 0 {
-        return few;
-    }
-    let long = asked(1, 2 * n <= positions, 0);
-    if long.number != 0 {
-        return long;
-    }
-    table_refusal(parents, kinds, widths, depths, n)
+    asked(4, counted(t.count), 0)?;
+    asked(1, 2 * t.count <= positions, 0)?;
+    table_refusal(t)
 }
 
 // Question 14.
-pub fn allowance_refusal(allowance: u32) -> Refusal
-    ensures { result ≡ asked 14 (leb allowance most_allowance) 0 }
+pub fn allowance_refusal(allowance: u32) -> Result<(), Refusal>
+    ensures { result ≡ passed (asked 14 (leb allowance most_allowance) 0) }
 {
     asked(14, allowance <= MOST_ALLOWANCE, 0)
 }
@@ -281,34 +219,20 @@ fn both_near(positions: &[i32], c: usize) -> bool
 }
 
 // Question 15, cell by cell.
-pub fn near_refusal(positions: &[i32], n: usize) -> Refusal
+pub fn near_refusal(positions: &[i32], n: usize) -> Result<(), Refusal>
     requires { (n ≤ most_cells) × (2 * n ≤ length positions.now) }
-    ensures { result ≡ near_refusal positions.now n }
+    ensures { result ≡ passed (near_refusal positions.now n) }
 {
-    let mut c = 0;
-    while c < n {
-        let r = asked(15, both_near(positions, c), c);
-        if r.number != 0 {
-            return r;
-        }
-        c += 1;
+    for c in 0..n {
+        asked(15, both_near(positions, c), c)?;
     }
-    Refusal { number: 0, cell: 0 }
+    Ok(())
 }
 
 // Questions 4 and 6 to 8, put to a lent table that is to be a part of another.
-pub fn part_refusal<'a>(
-    parents: &'a [u16; MOST_CELLS],
-    kinds: &'a [u8; MOST_CELLS],
-    widths: &'a [u16; MOST_CELLS],
-    depths: &'a [u8; MOST_CELLS],
-    n: usize,
-) -> Refusal
-    ensures { (qs : List ℕ) → result ≡ or_else (asked 4 (between 1 most_cells n) 0) (cells_refusal (table parents.now kinds.now widths.now depths.now qs n)) }
+pub fn part_refusal(t: &Columns) -> Result<(), Refusal>
+    ensures { result ≡ passed (or_else (asked 4 (between 1 most_cells t.now.count) 0) (cells_refusal (table_of t.now))) }
 {
-    let few = asked(4, counted(n), 0);
-    if few.number != 0 {
-        return few;
-    }
-    cells_refusal(parents, kinds, widths, depths, n)
+    asked(4, counted(t.count), 0)?;
+    cells_refusal(t)
 }

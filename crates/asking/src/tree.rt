@@ -1,34 +1,40 @@
 // What the questions and the engines read off a table whose parents are lower than their children.
-ghost use Rattle.std.specs.Prelude.{◌≡◌, List, ℕ, ◌+◌, ◌<◌, length, replicate};
-ghost use Rattle.plan.specs.Limits.{most_cells};
+ghost use Rattle.std.specs.Prelude.{◌+◌, length};
 ghost use Rattle.plan.specs.Plan.{children, level, row};
-ghost use Rattle.plan.specs.Columns.{table};
+ghost use Rattle.plan.specs.Columns.{«table_of»};
 ghost use Rattle.plan.specs.Trees.{Lower, Flat, Column};
 
+use plan::Columns;
 use plan::limits::MOST_CELLS;
 
-// The number of children, the level and, as S1 dictates it, the row of each cell, into columns of zeros. One pass, from parents to children.
-pub fn survey<'a>(
-    parents: &'a [u16; MOST_CELLS],
-    depths: &'a [u8; MOST_CELLS],
-    n: usize,
-    counts: &mut [u16; MOST_CELLS],
-    levels: &mut [u16; MOST_CELLS],
-    rows: &mut [u16; MOST_CELLS],
-)
-    requires lower { Lower parents.now n }
-    requires flat { Flat depths.now n }
-    requires counts_value { (counts.old ≡ replicate most_cells 0) × (levels.old ≡ replicate most_cells 0) × (rows.old ≡ replicate most_cells 0) }
-    ensures { (ks ws qs : List ℕ) → Column counts.new n (λ c. length (children (table parents.now ks ws depths.now qs n) c))
-        × Column levels.new n (level (table parents.now ks ws depths.now qs n))
-        × Column rows.new n (row (table parents.now ks ws depths.now qs n)) }
+// Of each cell, the number of children, the level and, as S1 dictates it, the row.
+#[derive(Clone, Copy, Drop)]
+pub struct Surveyed {
+    pub counts: [u16; MOST_CELLS],
+    pub levels: [u16; MOST_CELLS],
+    pub rows: [u16; MOST_CELLS],
+}
+
+// One pass, from parents to children.
+pub fn survey(t: &Columns) -> Surveyed
+    requires lower { Lower t.now.parent t.now.count }
+    requires flat { Flat t.now.depth t.now.count }
+    ensures { Column result.counts t.now.count (λ c. length (children (table_of t.now) c))
+        × Column result.levels t.now.count (level (table_of t.now))
+        × Column result.rows t.now.count (row (table_of t.now)) }
 {
-    let mut c: usize = 1;
-    while c < n {
-        let p = parents[c] as usize;
+    let mut counts = [0u16; MOST_CELLS];
+    let mut levels = [0u16; MOST_CELLS];
+    let mut rows = [0u16; MOST_CELLS];
+    for c in 1..t.count {
+        let p = t.parent[c] as usize;
         counts[p] = counts[p] + 1;
         levels[c] = levels[p] + 1;
-        rows[c] = rows[p] + (depths[p] as u16) + 1;
-        c += 1;
+        rows[c] = rows[p] + (t.depth[p] as u16) + 1;
+    }
+    Surveyed {
+        counts,
+        levels,
+        rows,
     }
 }

@@ -13,9 +13,7 @@ ghost use Rattle.season.specs.Pool.{pool};
 use answers::{
     CheckAnswer, CopyAnswer, DrillAnswer, EndsAnswer, FrameAnswer, JoinAnswer, LabelAnswer,
     LabelPart, LayoutAnswer, ListAnswer, MarkAnswer, MendAnswer, ReachAnswer, ReadAnswer,
-    ReportAnswer, StartAnswer, StepAnswer, StripAnswer, StrokeAnswer, told_check, told_copy,
-    told_drill, told_ends, told_frame, told_join, told_layout, told_list, told_mark, told_mend,
-    told_reach, told_read, told_report, told_start, told_step, told_strip, told_stroke,
+    ReportAnswer, StartAnswer, StepAnswer, StripAnswer, StrokeAnswer,
 };
 use plan::{Page, Record};
 use season::Report;
@@ -24,8 +22,7 @@ use season::Report;
 pub extern "C" fn kuzpalen_read(file: &[u8], table: &mut [Record]) -> ReadAnswer
     ensures { Filling file.now table.old table.new result }
 {
-    let answer = read_entry::read(file, table);
-    told_read(answer)
+    read_entry::read(file, table).into()
 }
 
 // Label. An exported function cannot return a reference: the part is told by its two ends.
@@ -44,10 +41,12 @@ pub extern "C" fn kuzpalen_label(file: &[u8], cell: usize) -> LabelPart
 pub extern "C" fn kuzpalen_label_refusal(file: &[u8], cell: usize) -> LabelAnswer
     ensures { (result.number ≡ (label_refusal file.now cell).number) × (result.cell ≡ (label_refusal file.now cell).cell) }
 {
-    let refusal = label_entry::label_refusal(file, cell);
-    LabelAnswer {
-        number: refusal.number,
-        cell: refusal.cell,
+    match label_entry::label_refusal(file, cell) {
+        Ok(()) => LabelAnswer { number: 0, cell: 0 },
+        Err(refusal) => LabelAnswer {
+            number: refusal.number,
+            cell: refusal.cell,
+        },
     }
 }
 
@@ -60,40 +59,35 @@ pub extern "C" fn kuzpalen_layout(
 ) -> LayoutAnswer
     ensures { Laying (cells_of table.now) allowance scratch.old scratch.new positions.old positions.new result }
 {
-    let answer = layout_entry::layout(table, allowance, scratch, positions);
-    told_layout(answer)
+    layout_entry::layout(table, allowance, scratch, positions).into()
 }
 
 #[unsafe(no_mangle)]
 pub extern "C" fn kuzpalen_check(table: &[Record], positions: &[i32], allowance: u32) -> CheckAnswer
     ensures { result ≡ check_answer (checked_of (cells_of table.now) positions.now allowance) }
 {
-    let answer = sheet_entry::check(table, positions, allowance);
-    told_check(answer)
+    sheet_entry::check(table, positions, allowance).into()
 }
 
 #[unsafe(no_mangle)]
 pub extern "C" fn kuzpalen_ends(table: &[Record], positions: &[i32], cell: usize) -> EndsAnswer
     ensures { result ≡ ends_answer (ended_of (cells_of table.now) positions.now cell) }
 {
-    let answer = sheet_entry::ends(table, positions, cell);
-    told_ends(answer)
+    sheet_entry::ends(table, positions, cell).into()
 }
 
 #[unsafe(no_mangle)]
 pub extern "C" fn kuzpalen_list(file: &[u8], out: &mut [u8]) -> ListAnswer
     ensures { ListFilling file.now out.old out.new result }
 {
-    let answer = printing::list(file, out);
-    told_list(answer)
+    printing::list(file, out).into()
 }
 
 #[unsafe(no_mangle)]
 pub extern "C" fn kuzpalen_frame(table: &[Record], squares: u32, scratch: &mut [u32]) -> FrameAnswer
     ensures { Framing (cells_of table.now) squares scratch.old scratch.new result }
 {
-    let answer = frame_entry::frame(table, squares, scratch);
-    told_frame(answer)
+    frame_entry::frame(table, squares, scratch).into()
 }
 
 #[unsafe(no_mangle)]
@@ -105,8 +99,7 @@ pub extern "C" fn kuzpalen_mark(
 ) -> MarkAnswer
     ensures { Marking (cells_of table.now) positions.now allowance scratch.old scratch.new result }
 {
-    let answer = mark_entry::mark(table, positions, allowance, scratch);
-    told_mark(answer)
+    mark_entry::mark(table, positions, allowance, scratch).into()
 }
 
 #[unsafe(no_mangle)]
@@ -118,16 +111,14 @@ pub extern "C" fn kuzpalen_copy(
 ) -> CopyAnswer
     ensures { CopyFilling table.now labels.now allowance out.old out.new result }
 {
-    let answer = copy_entry::copy(table, labels, allowance, out);
-    told_copy(answer)
+    copy_entry::copy(table, labels, allowance, out).into()
 }
 
 #[unsafe(no_mangle)]
 pub extern "C" fn kuzpalen_mend(file: &[u8], out: &mut [u8], lines: &mut [u8]) -> MendAnswer
     ensures { MendFilling file.now out.old out.new lines.old lines.new result }
 {
-    let answer = mending::mend(file, out, lines);
-    told_mend(answer)
+    mending::mend(file, out, lines).into()
 }
 
 #[unsafe(no_mangle)]
@@ -139,8 +130,7 @@ pub extern "C" fn kuzpalen_stroke(
 ) -> StrokeAnswer
     ensures { result ≡ stroke_answer (stroked_of (cells_of table.now) positions.now page s) }
 {
-    let answer = plotting::stroke_at(table, positions, page, s);
-    told_stroke(answer)
+    plotting::stroke_at(table, positions, page, s).into()
 }
 
 #[unsafe(no_mangle)]
@@ -153,8 +143,7 @@ pub extern "C" fn kuzpalen_strip(
 ) -> StripAnswer
     ensures { Stripping (cells_of table.now) positions.now row first bytes.old bytes.new result }
 {
-    let answer = strip_entry::strip(table, positions, row, first, bytes);
-    told_strip(answer)
+    strip_entry::strip(table, positions, row, first, bytes).into()
 }
 
 #[unsafe(no_mangle)]
@@ -166,16 +155,14 @@ pub extern "C" fn kuzpalen_join(
 ) -> JoinAnswer
     ensures { Joining first.now second.now cell table.old table.new result }
 {
-    let answer = join_entry::join(first, second, cell, table);
-    told_join(answer)
+    join_entry::join(first, second, cell, table).into()
 }
 
 #[unsafe(no_mangle)]
 pub extern "C" fn kuzpalen_drill(table: &[Record], answers: &[u8], list: &mut [u16]) -> DrillAnswer
     ensures { Drilling (cells_of table.now) answers.now list.old list.new result }
 {
-    let answer = drill_entry::drill(table, answers, list);
-    told_drill(answer)
+    drill_entry::drill(table, answers, list).into()
 }
 
 #[unsafe(no_mangle)]
@@ -187,8 +174,7 @@ pub extern "C" fn kuzpalen_start(
 ) -> StartAnswer
     ensures { Starting (cells_of table.now) allowance scratch.old scratch.new second.old second.new result }
 {
-    let answer = making::start(table, allowance, scratch, second);
-    told_start(answer)
+    making::start(table, allowance, scratch, second).into()
 }
 
 #[unsafe(no_mangle)]
@@ -201,8 +187,7 @@ pub extern "C" fn kuzpalen_step(
 ) -> StepAnswer
     ensures { Stepping (cells_of table.now) allowance scratch.old scratch.new second.old second.new positions.old positions.new result }
 {
-    let answer = making::step(table, allowance, scratch, second, positions);
-    told_step(answer)
+    making::step(table, allowance, scratch, second, positions).into()
 }
 
 #[unsafe(no_mangle)]
@@ -215,8 +200,7 @@ pub extern "C" fn kuzpalen_reach(
 ) -> ReachAnswer
     ensures { Reaching (cells_of table.now) allowance scratch.now second.now cell result }
 {
-    let answer = making::reach(table, allowance, scratch, second, cell);
-    told_reach(answer)
+    making::reach(table, allowance, scratch, second, cell).into()
 }
 
 #[unsafe(no_mangle)]
@@ -228,14 +212,12 @@ pub extern "C" fn kuzpalen_report(
 ) -> ReportAnswer
     ensures { Reporting file.now table.old table.new scratch.old scratch.new positions.old positions.new result }
 {
-    let answer = tallying::report(file, table, scratch, positions);
-    told_report(answer)
+    tallying::report(file, table, scratch, positions).into()
 }
 
 #[unsafe(no_mangle)]
 pub extern "C" fn kuzpalen_pool(a: Report, b: Report) -> ReportAnswer
     ensures { result ≡ report_answer (pool a b) }
 {
-    let answer = tallying::pool(a, b);
-    told_report(answer)
+    tallying::pool(a, b).into()
 }

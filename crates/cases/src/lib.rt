@@ -28,21 +28,13 @@ pub fn latest(text: &[u8], line: usize, before: usize) -> usize {
     }
 }
 
-fn low16(n: u32) -> u16 {
-    if n < 65536 { n as u16 } else { 0 }
-}
-
-fn low8(n: u32) -> u8 {
-    if n < 256 { n as u8 } else { 0 }
-}
-
 // The numbers of a line; what follows the last is of no cell.
 fn column16(text: &[u8], line: usize) -> [u16; 256] {
     let mut column = [0u16; 256];
     let mut at = line;
     for c in 0..256 {
         at = after(text, at, b' ');
-        column[c] = low16(number_at(text, at));
+        column[c] = u16::try_from(number_at(text, at)).unwrap_or(0);
     }
     column
 }
@@ -52,7 +44,7 @@ fn column8(text: &[u8], line: usize) -> [u8; 256] {
     let mut at = line;
     for c in 0..256 {
         at = after(text, at, b' ');
-        column[c] = low8(number_at(text, at));
+        column[c] = u8::try_from(number_at(text, at)).unwrap_or(0);
     }
     column
 }

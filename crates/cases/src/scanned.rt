@@ -7,24 +7,18 @@ pub fn byte_at(text: &[u8], i: usize) -> u8 {
 
 // The first place from `from` on with this byte; the end where there is none.
 pub fn find(text: &[u8], from: usize, b: u8) -> usize {
-    let mut i = from;
-    while i < text.len() {
+    for i in from..text.len() {
         if text[i] == b {
             return i;
         }
-        i += 1;
     }
-    i
+    text.len()
 }
 
 // The place after that.
 pub fn after(text: &[u8], from: usize, b: u8) -> usize {
     let i = find(text, from, b);
     if i < text.len() { i + 1 } else { i }
-}
-
-fn is_digit(b: u8) -> bool {
-    48 <= b && b <= 57
 }
 
 // One digit more, of a number of up to six.
@@ -39,14 +33,12 @@ fn with_digit(n: u32, b: u8) -> u32 {
 // The number whose digits begin at a place.
 pub fn number_at(text: &[u8], at: usize) -> u32 {
     let mut n: u32 = 0;
-    let mut i = at;
-    while i < text.len() {
+    for i in at..text.len() {
         let b = text[i];
-        if !is_digit(b) {
+        if !b.is_ascii_digit() {
             return n;
         }
         n = with_digit(n, b);
-        i += 1;
     }
     n
 }

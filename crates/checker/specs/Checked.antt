@@ -1,22 +1,19 @@
 -- Check's answer: document 01's numbers and values for each case. Assumes nothing.
-use Rattle.std.specs.Prelude.{List, cond, ℕ, eqb, ℤ}
+use Rattle.std.specs.Prelude.{List, ℕ, ℤ, Result}
 use Rattle.whole.specs.Whole.{plus}
 use Rattle.plan.specs.Plan.{Table}
 use Rattle.plan.specs.Questions.{refusal, check, check_given}
+use Rattle.plan.specs.Questions as asks
 use Rattle.plan.specs.declared.Refusal.{Refusal}
 use Rattle.rules.specs.Placement.{placed}
 use Rattle.rules.specs.Verdict.{Answer, fine, faulty, answer}
-use Rattle.checker.specs.declared.Checked.{Checked}
-use Rattle.checker.specs.declared.Checked.TheVariants.{Kept, Broken, Refused}
+use Rattle.checker.specs.declared.Verdict.{Verdict}
+use Rattle.checker.specs.declared.Verdict.TheVariants.{Kept, Broken}
 
 -- "kept" with width and rows, which are not negative where no question refuses (CheckedLaws); "broken" with rule, a and b
-unfoldable pub answered : Answer → Checked
-answered (fine w r) = Kept (plus w) (plus r)
-answered (faulty r a b) = Broken r a b
+unfoldable pub answered : Answer → Verdict
+answered (fine w r) = Kept (record { width = plus w; rows = plus r })
+answered (faulty r a b) = Broken (record { rule = r; a = a; b = b })
 
--- the number and the cell of a refusal, or the answer
-abbrev pub unless : Refusal → Checked → Checked
-unless r a = cond (eqb r.number 0) a (Refused r.number r.cell)
-
-unfoldable pub checked_of : Table → List ℤ → (allowance : ℕ) → Checked
-checked_of t ps al = unless (refusal check (check_given t al ps)) (answered (answer t (placed ps) al))
+unfoldable pub checked_of : Table → List ℤ → (allowance : ℕ) → Result Verdict Refusal
+checked_of t ps al = asks.answered (refusal check (check_given t al ps)) (answered (answer t (placed ps) al))

@@ -3,24 +3,28 @@
 #![tactic(auto)]
 
 use cases::{after, byte_at, first, latest, positions, print_name, second, table};
-use checker::{Checked, check};
+use checker::{Verdict, check};
 use ends::{Ended, ends};
 use outcomes::{end_line, pair, points, triple};
-use plan::Columns;
+use plan::{Columns, Refusal};
 use std::io;
 
-fn show(rt: &impl Print, r: Checked) -> io::Result<()> {
+fn refused(rt: &impl Print, r: Refusal) -> io::Result<()> {
+    pair(rt, b" refused", r.number as u32, r.cell as u32)
+}
+
+fn show(rt: &impl Print, r: Result<Verdict, Refusal>) -> io::Result<()> {
     match r {
-        Checked::Kept(w, h) => pair(rt, b" kept", w, h),
-        Checked::Broken(rule, a, b) => triple(rt, b" broken", rule as u32, a as u32, b as u32),
-        Checked::Refused(k, c) => pair(rt, b" refused", k as u32, c as u32),
+        Ok(Verdict::Kept(m)) => pair(rt, b" kept", m.width, m.rows),
+        Ok(Verdict::Broken(b)) => { triple(rt, b" broken", b.rule as u32, b.a as u32, b.b as u32) }
+        Err(r) => refused(rt, r),
     }
 }
 
-fn show_ends(rt: &impl Print, r: Ended) -> io::Result<()> {
+fn show_ends(rt: &impl Print, r: Result<Ended, Refusal>) -> io::Result<()> {
     match r {
-        Ended::Joined(x, y, u, v) => points(rt, b" joined", x, y, u, v),
-        Ended::Refused(k, c) => pair(rt, b" refused", k as u32, c as u32),
+        Ok(e) => points(rt, b" joined", e.from_x, e.from_y, e.to_x, e.to_y),
+        Err(r) => refused(rt, r),
     }
 }
 
@@ -85,7 +89,9 @@ fn run_all(rt: &impl Print, text: &[u8]) -> io::Result<()> {
 fn main(rt: HostRuntime) -> io::Result<()> {
     let mut from = rt.stdin();
     let mut text = [0u8; 16384];
-    let input = input::read_whole(&mut from, &mut text);
-    let n = input.length;
+    let n = match input::read_whole(&mut from, &mut text) {
+        Ok(input) => input.length,
+        Err(cut) => cut.length,
+    };
     run_all(&rt, &text[..n])
 }

@@ -1,11 +1,11 @@
 -- What the reader's state and answers say: the cells in its table, with their labels in the letters, or a fault and its line. Nothing that a reader must believe stands here. Assumes nothing.
-use Rattle.std.specs.Prelude.{List, map, cond, ℕ, ◌+◌, eqb, take}
+use Rattle.std.specs.Prelude.{List, map, ℕ, take, Result, Ok, Err}
 use Rattle.plan.specs.declared.Lettered.{Lettered}
 use Rattle.records.specs.Apart.{records_in}
 use Rattle.content.specs.Content.{Item, item_of}
 use Rattle.outline_spec.specs.Understood.{Cells, faulty, items, First, no_first, allowed, Understood, fault, plan}
-use Rattle.outline_spec.specs.Faults.{fault_of}
-use Rattle.compose.specs.declared.First.{First as First'}
+use Rattle.outline_spec.specs.declared.Fault.{Fault}
+use Rattle.compose.specs.declared.Misread.{Misread}
 use Rattle.compose.specs.declared.State.{State}
 use Rattle.compose.specs.declared.Understanding.{Understanding}
 
@@ -20,15 +20,17 @@ items_in letters used t = map (item_of (take used letters)) (records_in t)
 abbrev pub so_far : (letters : List ℕ) → State → List Item
 so_far letters s = items_in letters s.used s.table
 
--- a fault is on the line after the first line and those of the cells that were understood
-unfoldable pub cells_in : (letters : List ℕ) → State → Cells
-cells_in letters s = cond (eqb s.fault 0) (items (so_far letters s)) (faulty (count s + 2) (fault_of s.fault))
+-- all lines read; or the line that is not understood
+unfoldable pub cells_in : (letters : List ℕ) → Result State Misread → Cells
+cells_in letters (Ok s) = items (so_far letters s)
+cells_in letters (Err m) = faulty m.line m.fault
 
 -- the first line
-unfoldable pub first_in : First' → First
-first_in f = cond (eqb f.fault 0) (allowed f.allowance) (no_first (fault_of f.fault))
+unfoldable pub first_in : Result ℕ Fault → First
+first_in (Ok al) = allowed al
+first_in (Err f) = no_first f
 
 -- the whole text
-unfoldable pub meaning : (letters : List ℕ) → Understanding → Understood
-meaning letters u =
-    cond (eqb u.fault 0) (plan (record { items = items_in letters u.used u.table; allowance = u.allowance })) (fault u.line (fault_of u.fault))
+unfoldable pub meaning : (letters : List ℕ) → Result Understanding Misread → Understood
+meaning letters (Ok u) = plan (record { items = items_in letters u.used u.table; allowance = u.allowance })
+meaning letters (Err m) = fault m.line m.fault

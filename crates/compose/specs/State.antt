@@ -1,23 +1,20 @@
 -- The state of the reader of lines, and what is still to be read in it. Nothing that a reader must believe stands here. Assumes nothing.
-use Rattle.std.specs.Prelude.{◌≡◌, List, [], cond, ℕ, ◌+◌, ◌*◌, ◌≤◌, ◌<◌, eqb, length, get_or, take, drop, replicate}
+use Rattle.std.specs.Prelude.{◌≡◌, List, [], ℕ, ◌+◌, ◌*◌, ◌≤◌, ◌<◌, length, get_or, take, drop, replicate, Result, Ok, Err, IfOk}
 use Rattle.plan.specs.Limits.{most_cells}
 use Rattle.plan.specs.declared.Lettered.{Lettered}
 use Rattle.records.specs.Apart.{records_in}
 use Rattle.content.specs.Clean.{labels, entries}
-use Rattle.outline_spec.specs.Faults.{most_fault, fault_of}
+use Rattle.outline_spec.specs.declared.Fault.{Fault}
 use Rattle.outline_spec.specs.Understood.{Cells, faulty, cells, lines, understood}
 use Rattle.compose.specs.Prefixed.{prefixed}
 use Rattle.compose.specs.Meaning.{count, items_in, so_far, cells_in, meaning}
+use Rattle.compose.specs.declared.Misread.{Misread}
 use Rattle.compose.specs.declared.State.{State}
 use Rattle.compose.specs.declared.Understanding.{Understanding}
-
-unfoldable pub stopped_at : State → (fault at : ℕ) → State
-stopped_at s f i = record { fault = f; at = i; used = s.used; levels = s.levels; table = s.table }
 
 unfoldable pub start_at : ℕ → State
 start_at i =
     record {
-      fault = 0;
       at = i;
       used = 0;
       levels = replicate most_cells 0;
@@ -30,8 +27,12 @@ start_at i =
 
 -- what the lines say: the cells so far, and those still to be read
 unfoldable pub rest_of : (text letters : List ℕ) → State → Cells
-rest_of text letters s =
-    cond (eqb s.fault 0) (prefixed (so_far letters s) (cells (count s) (take (count s) s.levels) (lines (drop s.at text)))) (faulty (count s + 2) (fault_of s.fault))
+rest_of text letters s = prefixed (so_far letters s) (cells (count s) (take (count s) s.levels) (lines (drop s.at text)))
+
+-- the same after one line more; a fault is on the line after the first line and those of the n cells that were understood
+unfoldable pub rest_in : (text letters : List ℕ) (n : ℕ) → Result State Fault → Cells
+rest_in text letters n (Ok s) = rest_of text letters s
+rest_in text letters n (Err f) = faulty (n + 2) f
 
 -- arrays of 256
 pub record Long (l : Lettered) : Type 0 where
@@ -43,41 +44,32 @@ pub record Long (l : Lettered) : Type 0 where
   pub lengths : length l.label_length ≡ 256
   pub starts : length l.label_start ≡ 256
 
-pub record Well (size : ℕ) (s : State) : Type 0 where
+pub record Well (s : State) : Type 0 where
   pub few : count s ≤ most_cells
-  pub goes : s.at < size → s.fault ≡ 0
   pub brief : s.used ≤ 255 * count s
   pub within : (j : ℕ) → j < count s → get_or s.table.label_start j 0 + get_or s.table.label_length j 0 ≤ s.used
   pub long : Long s.table
   pub seen : length s.levels ≡ 256
-  pub known : s.fault ≤ most_fault
 
 -- the table is that of the clean copy of its items: labels back to back, in the order of the cells
 pub record Tight (letters : List ℕ) (used : ℕ) (t : Lettered) : Type 0 where
   pub rows : records_in t ≡ entries 0 (items_in letters used t)
   pub bytes : take used letters ≡ labels (items_in letters used t)
 
-pub record Turned (text letters : List ℕ) (s : State) (letters' : List ℕ) (r : State) : Type 0 where
-  pub same : rest_of text letters' r ≡ rest_of text letters s
-  pub well : Well (length text) r
-  pub tight : Tight letters s.used s.table → Tight letters' r.used r.table
-  pub on : s.at < r.at
+pub record Turned (text letters : List ℕ) (s : State) (letters' : List ℕ) (r : Result State Fault) : Type 0 where
+  pub same : rest_in text letters' (count s) r ≡ rest_of text letters s
+  pub well : IfOk r (λ t. Well t)
+  pub tight : Tight letters s.used s.table → IfOk r (λ t. Tight letters' t.used t.table)
+  pub on : IfOk r (λ t. s.at < t.at)
 
 -- all lines read
-pub record Reads (text : List ℕ) (at : ℕ) (letters : List ℕ) (r : State) : Type 0 where
+pub record Reads (text : List ℕ) (at : ℕ) (letters : List ℕ) (r : Result State Misread) : Type 0 where
   pub answers : cells_in letters r ≡ cells 0 [] (lines (drop at text))
-  pub few : count r ≤ most_cells
-  pub room : r.used ≤ 65536
-  pub known : r.fault ≤ most_fault
-  pub tight : Tight letters r.used r.table
+  pub room : IfOk r (λ s. s.used ≤ 65536)
+  pub tight : IfOk r (λ s. Tight letters s.used s.table)
 
 -- the whole text read
-pub record Understands (text letters : List ℕ) (u : Understanding) : Type 0 where
-  pub answers : meaning letters u ≡ understood text
-  pub room : u.used ≤ 65536
-  pub known : u.fault ≤ most_fault
-  pub tight : Tight letters u.used u.table
-
--- a fault of the first line
-unfoldable pub failed : ℕ → Understanding
-failed f = record { fault = f; line = 1; allowance = 0; used = 0; table = (start_at 0).table }
+pub record Understands (text letters : List ℕ) (r : Result Understanding Misread) : Type 0 where
+  pub answers : meaning letters r ≡ understood text
+  pub room : IfOk r (λ u. u.used ≤ 65536)
+  pub tight : IfOk r (λ u. Tight letters u.used u.table)

@@ -3,46 +3,65 @@
 
 ghost use Rattle.std.specs.Prelude.{◌≡◌, ◌+◌, ◌-◌, ◌≤◌, ◌<◌, length, take, drop};
 ghost use Rattle.listing.specs.Put.{Put};
-ghost use Rattle.outline_spec.specs.Faults.{most_fault};
 ghost use Rattle.outline_spec.specs.Understood.{first};
+ghost use Rattle.compose.specs.declared.ComposeError.TheVariants.{Refused, Wrong};
 ghost use Rattle.compose.specs.Steps.{line_long, past_line, record_from, note};
 ghost use Rattle.compose.specs.Meaning.{first_in};
-ghost use Rattle.compose.specs.State.{stopped_at, start_at, Well, Turned, Reads, failed, Understands};
+ghost use Rattle.compose.specs.State.{start_at, Well, Turned, Reads, Understands};
 ghost use Rattle.compose.specs.Composed.{Composes};
 
-use compose_fields::{Digits, begins, number};
-use compose_line::{Told, read_line};
-use copying::Copied;
+use compose_fields::{DigitsError, begins, number};
+use compose_line::{Told, clear, read_line};
 use decimals::put_text;
+use outline_spec::Fault;
 use plan::limits::{MOST_CELLS, MOST_FILE};
-use plan::{Columns, Lettered};
-use planfile_header::letters_printable;
+use plan::{Columns, Lettered, Refusal};
 
-// Where the reader of lines is: a fault, or 0, the place in the text, how many label bytes are used, the levels of the cells so far, and the cells.
-#[derive(Drop)]
+// Where the reader of lines is: the place in the text, how many label bytes are used, the levels of the cells so far, and the cells.
+#[derive(Clone, Copy, Drop)]
 pub struct State {
-    pub fault: u8,
     pub at: usize,
     pub used: usize,
     pub levels: [u8; MOST_CELLS],
     pub table: Lettered,
 }
 
-// The first line: a fault, or 0 and the allowance.
-#[derive(Drop)]
-pub struct First {
-    pub fault: u8,
-    pub allowance: u16,
-}
-
-// What a text says: a fault and its line, or 0, the allowance, how many label bytes were written, and the cells.
-#[derive(Drop)]
+// What a text says: the allowance, how many label bytes were written, and the cells.
+#[derive(Clone, Copy, Drop)]
 pub struct Understanding {
-    pub fault: u8,
-    pub line: usize,
     pub allowance: u16,
     pub used: usize,
     pub table: Lettered,
+}
+
+// The line that is not understood, and what is wrong with it.
+#[derive(Clone, Copy)]
+pub struct Misread {
+    pub line: usize,
+    pub fault: Fault,
+}
+
+// Why no file is written: the output or the plan is refused; or a line is not understood.
+#[derive(Clone, Copy, Drop)]
+pub enum ComposeError {
+    Refused(Refusal),
+    Wrong(Misread),
+}
+
+impl From<Refusal> for ComposeError {
+    ghost from_gives = { λ r e. e ≡ Refused r };
+
+    fn from(r: Refusal) -> ComposeError {
+        ComposeError::Refused(r)
+    }
+}
+
+impl From<Misread> for ComposeError {
+    ghost from_gives = { λ m e. e ≡ Wrong m };
+
+    fn from(m: Misread) -> ComposeError {
+        ComposeError::Wrong(m)
+    }
 }
 
 // The end of the line that begins at a place: the next line feed, or the end of the text.
@@ -50,14 +69,12 @@ fn line_end(text: &[u8], at: usize) -> usize
     requires { at ≤ length text.now }
     ensures { (result ≡ at + line_long (drop at text.now)) × (result ≤ length text.now) }
 {
-    let mut i = at;
-    while i < text.len() {
-        if text[i] == 10 {
+    for i in at..text.len() {
+        if text[i] == b'\n' {
             return i;
         }
-        i += 1;
     }
-    i
+    text.len()
 }
 
 // The place after a line that ends here: behind its line feed, or the end of the text.
@@ -83,78 +100,39 @@ fn noted(table: Lettered, c: usize, t: Told, start: usize) -> Lettered
     requires { (c < 256) × (t.start ≤ t.end) × (t.end ≤ 255) × (start ≤ 65535) }
     ensures { result ≡ note table c (record_from t start) }
 {
-    let mut parent = table.columns.parent;
-    parent[c] = t.parent;
-    let mut kind = table.columns.kind;
-    kind[c] = t.kind;
-    let mut width = table.columns.width;
-    width[c] = t.width;
-    let mut depth = table.columns.depth;
-    depth[c] = t.depth;
-    let mut rank = table.columns.rank;
-    rank[c] = t.rank;
-    let mut label_length = table.label_length;
-    label_length[c] = (t.end - t.start) as u8;
-    let mut label_start = table.label_start;
-    label_start[c] = start as u16;
-    let columns = Columns {
-        count: c + 1,
-        parent,
-        kind,
-        width,
-        depth,
-        rank,
-    };
-    Lettered {
-        columns,
-        label_length,
-        label_start,
-    }
-}
-
-// The state with a fault, at the end.
-fn stopped(s: State, fault: u8, at: usize) -> State
-    ensures { result ≡ stopped_at s fault at }
-{
-    let levels = s.levels;
-    let table = s.table;
-    State {
-        fault,
-        at,
-        used: s.used,
-        levels,
-        table,
-    }
+    let mut table = table;
+    table.columns.count = c + 1;
+    table.columns.parent[c] = t.parent;
+    table.columns.kind[c] = t.kind;
+    table.columns.width[c] = t.width;
+    table.columns.depth[c] = t.depth;
+    table.columns.rank[c] = t.rank;
+    table.label_length[c] = (t.end - t.start) as u8;
+    table.label_start[c] = start as u16;
+    table
 }
 
 // One line more.
-fn turn(text: &[u8], s: State, letters: &mut [u8]) -> State
-    requires { Well (length text.now) s × (s.at < length text.now) × (65536 ≤ length letters.old) }
+fn turn(text: &[u8], s: State, letters: &mut [u8]) -> Result<State, Fault>
+    requires { Well s × (s.at < length text.now) × (65536 ≤ length letters.old) }
     ensures { Turned text.now letters.old s letters.new result }
 {
-    let at = s.at;
     let c = s.table.columns.count;
     if MOST_CELLS <= c {
-        return stopped(s, 4, text.len());
+        return Err(Fault::ManyCells);
     }
-    let end = line_end(text, at);
-    let levels = s.levels;
-    let t = read_line(c, &levels, &text[at..end]);
-    if t.fault != 0 {
-        return stopped(s, t.fault, text.len());
-    }
-    let used = keep_label(&text[at..end], t.start, t.end, letters, s.used);
-    let mut seen = s.levels;
-    seen[c] = t.level as u8;
-    let table = noted(s.table, c, t, s.used);
-    let next = past_line(text, end);
-    State {
-        fault: 0,
-        at: next,
+    let end = line_end(text, s.at);
+    let line = &text[s.at..end];
+    let told = read_line(&s.levels[..c], line)?;
+    let used = keep_label(line, told.start, told.end, letters, s.used);
+    let mut levels = s.levels;
+    levels[c] = told.level as u8;
+    Ok(State {
+        at: past_line(text, end),
         used,
-        levels: seen,
-        table,
-    }
+        levels,
+        table: noted(s.table, c, told, s.used),
+    })
 }
 
 // Nothing read yet.
@@ -175,7 +153,6 @@ fn begun(at: usize) -> State
         label_start: [0u16; MOST_CELLS],
     };
     State {
-        fault: 0,
         at,
         used: 0,
         levels: [0u8; MOST_CELLS],
@@ -184,126 +161,79 @@ fn begun(at: usize) -> State
 }
 
 // The cells' lines, from a place on: the table, its label bytes written into the letters; or the fault, on the line after those of the cells before it.
-fn read_cells(text: &[u8], from: usize, letters: &mut [u8]) -> State
+fn read_cells(text: &[u8], from: usize, letters: &mut [u8]) -> Result<State, Misread>
     requires { 65536 ≤ length letters.old }
     ensures { Reads text.now from letters.new result }
 {
     let mut s = begun(from);
     while s.at < text.len() {
-        s = turn(text, s, letters);
+        match turn(text, s, letters) {
+            Ok(next) => s = next,
+            Err(fault) => {
+                return Err(Misread {
+                    line: s.table.columns.count + 2,
+                    fault,
+                });
+            }
+        }
     }
-    s
+    Ok(s)
 }
 
 // The line of the allowance.
-fn first_line(line: &[u8]) -> First
-    ensures { (first_in result ≡ first line.now) × (result.fault ≤ most_fault) }
+fn first_line(line: &[u8]) -> Result<u16, Fault>
+    ensures { first_in result ≡ first line.now }
 {
-    if !letters_printable(line, line.len()) {
-        return First {
-            fault: 2,
-            allowance: 0,
-        };
-    }
-    if 255 < line.len() {
-        return First {
-            fault: 3,
-            allowance: 0,
-        };
-    }
+    clear(line)?;
     if !begins(b"allowance ", line, 0) {
-        return First {
-            fault: 5,
-            allowance: 0,
-        };
+        return Err(Fault::NoAllowance);
     }
     match number(line, 10, 65535) {
-        Digits::Absent => First {
-            fault: 5,
-            allowance: 0,
-        },
-        Digits::Large => First {
-            fault: 9,
-            allowance: 0,
-        },
-        Digits::Read(n, next) => {
-            if next < line.len() {
-                return First {
-                    fault: 5,
-                    allowance: 0,
-                };
+        Err(DigitsError::Absent) => Err(Fault::NoAllowance),
+        Err(DigitsError::Large) => Err(Fault::LargeNumber),
+        Ok(n) => {
+            if n.next < line.len() {
+                return Err(Fault::NoAllowance);
             }
-            First {
-                fault: 0,
-                allowance: n as u16,
-            }
+            Ok(n.value as u16)
         }
     }
 }
 
-fn failing(fault: u8) -> Understanding
-    ensures { result ≡ failed fault }
-{
-    let s = begun(0);
-    let table = s.table;
-    Understanding {
-        fault,
-        line: 1,
-        allowance: 0,
-        used: 0,
-        table,
-    }
-}
-
 // What a text says.
-fn understand(text: &[u8], letters: &mut [u8]) -> Understanding
+fn understand(text: &[u8], letters: &mut [u8]) -> Result<Understanding, Misread>
     requires { 65536 ≤ length letters.old }
     ensures { Understands text.now letters.new result }
 {
     if text.len() == 0 {
-        return failing(1);
+        return Err(Misread {
+            line: 1,
+            fault: Fault::EmptyText,
+        });
     }
     let end = line_end(text, 0);
-    let f = first_line(&text[..end]);
-    if f.fault != 0 {
-        return failing(f.fault);
-    }
-    let s = read_cells(text, past_line(text, end), letters);
-    let table = s.table;
-    let line = table.columns.count + 2;
-    Understanding {
-        fault: s.fault,
-        line,
-        allowance: f.allowance,
-        used: s.used,
-        table,
+    match first_line(&text[..end]) {
+        Err(fault) => Err(Misread { line: 1, fault }),
+        Ok(allowance) => {
+            let s = read_cells(text, past_line(text, end), letters)?;
+            Ok(Understanding {
+                allowance,
+                used: s.used,
+                table: s.table,
+            })
+        }
     }
 }
 
-// The length of the plan file; the refusal's number and cell; or the line that is not understood, and the number of what is wrong with it.
-#[derive(Drop)]
-pub enum Composed {
-    Written(usize),
-    Refused(u8, u16),
-    Wrong(usize, u8),
-}
-
-// The plan file of an outline, from the output's first byte on. Beyond it the output stays as it was, and wholly where nothing is written.
-pub fn compose(text: &[u8], out: &mut [u8]) -> Composed
+// The plan file of an outline, from the output's first byte on: its length. Beyond it the output stays as it was, and wholly where nothing is written.
+pub fn compose(text: &[u8], out: &mut [u8]) -> Result<usize, ComposeError>
     ensures { Composes text.now out.old out.new result }
 {
     if out.len() < MOST_FILE {
-        return Composed::Refused(1, 0);
+        return Err(ComposeError::Refused(Refusal { number: 1, cell: 0 }));
     }
     let mut letters = [0u8; 65536];
-    let u = understand(text, &mut letters);
-    if u.fault != 0 {
-        return Composed::Wrong(u.line, u.fault);
-    }
-    let used = u.used;
-    let table = u.table;
-    match copying::copy(table, &letters[..used], u.allowance as u32, out) {
-        Copied::Written(n) => Composed::Written(n),
-        Copied::Refused(number, cell) => Composed::Refused(number, cell),
-    }
+    let u = understand(text, &mut letters)?;
+    let n = copying::copy(&u.table, &letters[..u.used], u32::from(u.allowance), out)?;
+    Ok(n)
 }

@@ -1,46 +1,44 @@
 // The parts of a line of an outline, each read from a place on: blanks, words, numbers, fields, a label.
 #![tactic(auto)]
 
-ghost use Rattle.std.specs.Prelude.{◌≡◌, ◌≤◌, length, drop};
-ghost use Rattle.outline_spec.specs.Understood.{number_from, number, indented, parted, or_usual};
-ghost use Rattle.compose_fields.specs.Steps.{begins, «word_at», Numbers, Levels, Options, Labels, Names, given_of};
+ghost use Rattle.std.specs.Prelude.{◌≡◌, ◌≢◌, ℕ, ◌≤◌, ◌<◌, length, drop, slice_index};
+ghost use Rattle.outline_spec.specs.Understood.{number_from, number, indented, parted};
+ghost use Rattle.compose_fields.specs.Steps.{begins, «word_at», Numbers, Levels, Options, Labels, Names};
+
+use outline_spec::Fault;
 
 const SPACE: u8 = 32;
 
-// No digit; one that is too large; or the number, and the place after it.
-#[derive(Drop)]
-pub enum Digits {
-    Absent,
-    Large,
-    Read(u64, usize),
-}
-
-// An odd number of blanks; or the level, which has two blanks each.
-#[derive(Drop)]
-pub enum Blanks {
-    Odd,
-    Level(usize),
-}
-
-// A word and its number, which may be left out: a fault, or 0, whether it is given, the number, and the place after it.
-#[derive(Drop)]
-pub struct Optional {
-    pub fault: u8,
-    pub given: bool,
+// A number and the place after it.
+#[derive(Clone, Copy)]
+pub struct Digits {
     pub value: u64,
     pub next: usize,
 }
 
-// A label, which may be left out: a fault, or 0 and where it starts and ends.
-#[derive(Drop)]
+// No digit, or a number that is too large.
+#[derive(Clone, Copy)]
+pub enum DigitsError {
+    Absent,
+    Large,
+}
+
+// The number behind a word, if both are there, and the place after them.
+#[derive(Clone, Copy)]
+pub struct Optional {
+    pub value: Option<u64>,
+    pub next: usize,
+}
+
+// Where a label starts and ends.
+#[derive(Clone, Copy)]
 pub struct Part {
-    pub fault: u8,
     pub start: usize,
     pub end: usize,
 }
 
-// A kind and the place after its word; 0 if the word is none.
-#[derive(Drop)]
+// A kind and the place after its word.
+#[derive(Clone, Copy)]
 pub struct Named {
     pub kind: u8,
     pub next: usize,
@@ -53,82 +51,64 @@ pub fn begins(word: &[u8], line: &[u8], at: usize) -> bool
     requires { (length word.now ≤ 16) × (length line.now ≤ 255) × (at ≤ length line.now) }
     ensures { result ≡ begins word.now (drop at line.now) }
 {
-    let mut i = 0;
-    while i < word.len() {
-        if line.len() <= at + i {
-            return false;
-        }
-        if line[at + i] != word[i] {
-            return false;
-        }
-        i += 1;
-    }
-    true
+    line[at..].starts_with(word)
 }
 
 // The number that goes on from the digits that say 0.
-fn number_from(line: &[u8], at: usize, most: u64) -> Digits
+fn number_from(line: &[u8], at: usize, most: u64) -> Result<Digits, DigitsError>
     requires { (length line.now ≤ 255) × (at ≤ length line.now) × (most ≤ 65535) }
     ensures { Numbers line.now most (number_from most 0 (drop at line.now)) result }
 {
-    let mut a: u64 = 0;
-    let mut i = at;
-    while i < line.len() {
-        let b = line[i];
-        if b < 48 {
-            return Digits::Read(a, i);
+    let mut value: u64 = 0;
+    for next in at..line.len() {
+        let b = line[next];
+        if !b.is_ascii_digit() {
+            return Ok(Digits { value, next });
         }
-        if 57 < b {
-            return Digits::Read(a, i);
+        value = 10 * value + u64::from(b - b'0');
+        if most < value {
+            return Err(DigitsError::Large);
         }
-        a = 10 * a + ((b - 48) as u64);
-        if most < a {
-            return Digits::Large;
-        }
-        i += 1;
     }
-    Digits::Read(a, i)
+    Ok(Digits {
+        value,
+        next: line.len(),
+    })
 }
 
 // A number that has a digit at least.
-pub fn number(line: &[u8], at: usize, most: u64) -> Digits
+pub fn number(line: &[u8], at: usize, most: u64) -> Result<Digits, DigitsError>
     requires { (length line.now ≤ 255) × (at ≤ length line.now) × (most ≤ 65535) }
     ensures { Numbers line.now most (number most (drop at line.now)) result }
 {
     if line.len() <= at {
-        return Digits::Absent;
+        return Err(DigitsError::Absent);
     }
-    let b = line[at];
-    if b < 48 {
-        return Digits::Absent;
-    }
-    if 57 < b {
-        return Digits::Absent;
+    if !line[at].is_ascii_digit() {
+        return Err(DigitsError::Absent);
     }
     number_from(line, at, most)
 }
 
-// The blanks before the word, two by two.
-pub fn indented(line: &[u8]) -> Blanks
+// How many blanks the line begins with.
+fn blanks(line: &[u8]) -> usize
+    ensures within { result ≤ length line.now }
+    ensures blank { (j : ℕ) → j < result → slice_index line.now j ≡ 32 }
+    ensures other { result < length line.now → slice_index line.now result ≢ 32 }
+{
+    line.iter().position(|b| *b != SPACE).unwrap_or(line.len())
+}
+
+// How far right the word stands: the level, which has two blanks each, unless their number is odd.
+pub fn indented(line: &[u8]) -> Option<usize>
     requires { length line.now ≤ 255 }
     ensures { Levels line.now (indented 0 line.now) result }
 {
-    let mut l: usize = 0;
-    while 2 * l + 1 < line.len() {
-        if line[2 * l] != SPACE {
-            return Blanks::Level(l);
-        }
-        if line[2 * l + 1] != SPACE {
-            return Blanks::Odd;
-        }
-        l += 1;
+    let n = blanks(line);
+    if n % 2 != 0 {
+        return None;
     }
-    if 2 * l < line.len() {
-        if line[2 * l] == SPACE {
-            return Blanks::Odd;
-        }
-    }
-    Blanks::Level(l)
+    Some(n / 2)
 }
 
 // Whether a word ends at a place: the line ends there, or goes on with a blank.
@@ -143,144 +123,82 @@ pub fn parted(line: &[u8], at: usize) -> bool
 }
 
 // A word and its number, if the line goes on with the word.
-pub fn field_at(word: &[u8], most: u64, line: &[u8], at: usize) -> Optional
+pub fn field_at(word: &[u8], most: u64, line: &[u8], at: usize) -> Result<Optional, Fault>
     requires { (length word.now ≤ 16) × (length line.now ≤ 255) × (at ≤ length line.now) × (most ≤ 65535) }
     ensures { Options word.now most line.now at result }
 {
     if !begins(word, line, at) {
-        return Optional {
-            fault: 0,
-            given: false,
-            value: 0,
+        return Ok(Optional {
+            value: None,
             next: at,
-        };
+        });
     }
-    let from = at + word.len();
-    match number(line, from, most) {
-        Digits::Absent => Optional {
-            fault: 8,
-            given: false,
-            value: 0,
-            next: at,
-        },
-        Digits::Large => Optional {
-            fault: 9,
-            given: false,
-            value: 0,
-            next: at,
-        },
-        Digits::Read(n, next) => Optional {
-            fault: 0,
-            given: true,
-            value: n,
-            next,
-        },
+    match number(line, at + word.len(), most) {
+        Ok(n) => Ok(Optional {
+            value: Some(n.value),
+            next: n.next,
+        }),
+        Err(DigitsError::Absent) => Err(Fault::UnknownField),
+        Err(DigitsError::Large) => Err(Fault::LargeNumber),
     }
 }
 
 // The label, if the line goes on with one; then the line ends.
-pub fn label_at(line: &[u8], at: usize) -> Part
+pub fn label_at(line: &[u8], at: usize) -> Result<Part, Fault>
     requires { (length line.now ≤ 255) × (at ≤ length line.now) }
     ensures { Labels line.now at result }
 {
     if line.len() <= at {
-        return Part {
-            fault: 0,
-            start: at,
-            end: at,
-        };
+        return Ok(Part { start: at, end: at });
     }
     if !begins(b" \"", line, at) {
-        return Part {
-            fault: 8,
-            start: at,
-            end: at,
-        };
+        return Err(Fault::UnknownField);
     }
     let start = at + 2;
     if line.len() <= start {
-        return Part {
-            fault: 10,
-            start: at,
-            end: at,
-        };
+        return Err(Fault::OpenLabel);
     }
     let end = line.len() - 1;
     if line[end] != QUOTE {
-        return Part {
-            fault: 10,
-            start: at,
-            end: at,
-        };
+        return Err(Fault::OpenLabel);
     }
-    Part {
-        fault: 0,
-        start,
-        end,
-    }
+    Ok(Part { start, end })
 }
 
-// The place after a word that ends there, if the line goes on with it; else 0.
-fn after_word(word: &[u8], line: &[u8], at: usize) -> usize
+// The place after a word that ends there, if the line goes on with it.
+fn after_word(word: &[u8], line: &[u8], at: usize) -> Option<usize>
     requires { (length word.now ≤ 16) × (length line.now ≤ 255) × (at ≤ length line.now) }
     ensures { result ≡ word_at word.now line.now at }
 {
     if !begins(word, line, at) {
-        return 0;
+        return None;
     }
     let next = at + word.len();
     if !parted(line, next) {
-        return 0;
+        return None;
     }
-    next
+    Some(next)
 }
 
 // The kind whose word the line goes on with.
-pub fn kind_at(line: &[u8], at: usize) -> Named
+pub fn kind_at(line: &[u8], at: usize) -> Option<Named>
     requires { (length line.now ≤ 255) × (at ≤ length line.now) }
     ensures { Names line.now at result }
 {
-    let step = after_word(b"step", line, at);
-    if step != 0 {
-        return Named {
-            kind: 1,
-            next: step,
-        };
+    if let Some(next) = after_word(b"step", line, at) {
+        return Some(Named { kind: 1, next });
     }
-    let run = after_word(b"run", line, at);
-    if run != 0 {
-        return Named { kind: 2, next: run };
+    if let Some(next) = after_word(b"run", line, at) {
+        return Some(Named { kind: 2, next });
     }
-    let repeat = after_word(b"repeat", line, at);
-    if repeat != 0 {
-        return Named {
-            kind: 3,
-            next: repeat,
-        };
+    if let Some(next) = after_word(b"repeat", line, at) {
+        return Some(Named { kind: 3, next });
     }
-    let choice = after_word(b"choice", line, at);
-    if choice != 0 {
-        return Named {
-            kind: 4,
-            next: choice,
-        };
+    if let Some(next) = after_word(b"choice", line, at) {
+        return Some(Named { kind: 4, next });
     }
-    let wait = after_word(b"wait", line, at);
-    if wait != 0 {
-        return Named {
-            kind: 5,
-            next: wait,
-        };
+    if let Some(next) = after_word(b"wait", line, at) {
+        return Some(Named { kind: 5, next });
     }
-    Named { kind: 0, next: at }
-}
-
-// The number that is given, or the usual one.
-pub fn or_usual(o: Optional, usual: u64) -> u64
-    ensures { result ≡ or_usual usual (given_of o) }
-{
-    if o.given {
-        return o.value;
-    }
-    usual
+    None
 }

@@ -3,10 +3,10 @@
 // The longest outline has 257 lines of 256 bytes; one byte more is read, so that a longer text is faulty.
 #![tactic(auto)]
 
-use compose::Composed;
+use compose::ComposeError;
 use compose_fault::put_fault;
 use plan::limits::MOST_FILE;
-use saving::Saved;
+use saving::SaveError;
 use std::process::Process;
 use std::rt::{Env, Files};
 
@@ -23,12 +23,12 @@ fn save<R: Env + Files>(rt: &R, process: Process, err: &impl Print, bytes: &[u8]
         return;
     }
     match saving::save(rt, process, &name[..n], bytes) {
-        Saved::Done => {}
-        Saved::NotRegular => trouble(
+        Ok(()) => {}
+        Err(SaveError::NotRegular) => trouble(
             err,
             b"compose: OUT is no regular file, and is not replaced\n",
         ),
-        Saved::Failed => trouble(err, b"compose: the file could not be written\n"),
+        Err(SaveError::Failed) => trouble(err, b"compose: the file could not be written\n"),
     }
 }
 
@@ -56,18 +56,15 @@ fn write_plan<R: Env + Files>(
     text: &[u8],
 ) {
     let mut file = [0u8; MOST_FILE];
-    let answer = compose::compose(text, &mut file);
-    match answer {
-        Composed::Written(length) => hand_over(rt, process, out, err, &file[..length]),
-        Composed::Refused(number, cell) => {
-            let line = listing::refused_line(number as u32, cell as u32);
-            let length = line.length;
-            let bytes = line.bytes;
-            trouble(err, &bytes[..length]);
+    match compose::compose(text, &mut file) {
+        Ok(length) => hand_over(rt, process, out, err, &file[..length]),
+        Err(ComposeError::Refused(refusal)) => {
+            let line = listing::refused_line(u32::from(refusal.number), u32::from(refusal.cell));
+            trouble(err, &line.bytes[..line.length]);
         }
-        Composed::Wrong(at, fault) => {
+        Err(ComposeError::Wrong(misread)) => {
             let mut told = [0u8; 192];
-            let length = put_fault(at, fault, &mut told);
+            let length = put_fault(misread.line, misread.fault, &mut told);
             trouble(err, &told[..length]);
         }
     }
@@ -81,11 +78,10 @@ fn main(rt: HostRuntime) {
     }
     let mut from = rt.stdin();
     let mut text = [0u8; 65793];
-    let input = input::read_whole(&mut from, &mut text);
-    if input::failed(input) {
+    let Ok(input) = input::read_whole(&mut from, &mut text) else {
         trouble(&err, b"compose: the text cannot be read\n");
         return;
-    }
+    };
     let n = input.length;
     write_plan(&rt, rt.process(), &rt.stdout(), &err, &text[..n]);
 }

@@ -7,7 +7,6 @@ ghost use Rattle.plan.specs.Near.{Near};
 ghost use Rattle.corners.specs.Corners.{Spot, x_up, y_up, Leftmost};
 
 use plan::limits::FARTHEST;
-use whole::numbers::lesser;
 use whole::raise_at;
 
 // x of a cell, moved up.
@@ -32,10 +31,8 @@ pub fn least_x(positions: &[i32], n: usize) -> u32
     ensures { Leftmost positions.now n result }
 {
     let mut low = raise_at(positions, 0, FARTHEST);
-    let mut c: usize = 0;
-    while c < n {
-        low = lesser(low, raise_at(positions, 2 * c, FARTHEST));
-        c += 1;
+    for c in 0..n {
+        low = low.min(x_of(positions, c));
     }
     low
 }

@@ -1,58 +1,19 @@
 // Texts, numbers and the line of a refusal written into a buffer at a place; each function hands the next place back. A float in millimetres is written to three digits after the point.
 #![tactic(auto)]
 
-ghost use Rattle.std.specs.Prelude.{◌≡◌, ◌+◌, ◌<◌, ◌≤◌, [], ◌∷◌, length};
-ghost use Rattle.listing.specs.Printed.{decimal, refused_line};
+ghost use Rattle.std.specs.Prelude.{◌≡◌, ◌+◌, ◌≤◌, length};
+ghost use Rattle.listing.specs.Printed.{refused_line};
 ghost use Rattle.listing.specs.Put.{Put};
 ghost use Rattle.decimals.specs.Fixed.{scaled, thousandths, fixed, millimetres};
+
+use listing::put::digit;
+pub use listing::put::{put_byte, put_decimal, put_text};
 
 const POINT: u8 = 46;
 
 const SPACE: u8 = 32;
 
 const LINE_FEED: u8 = 10;
-
-// One byte.
-pub fn put_byte(b: u8, out: &mut [u8], at: usize) -> usize
-    requires { at < length out.old }
-    ensures { Put out.old at (b ∷ []) out.new result }
-{
-    out[at] = b;
-    at + 1
-}
-
-// A text.
-pub fn put_text(text: &[u8], out: &mut [u8], at: usize) -> usize
-    requires { at + length text.now ≤ length out.old }
-    ensures { Put out.old at text.now out.new result }
-{
-    let mut i = 0;
-    while i < text.len() {
-        out[at + i] = text[i];
-        i += 1;
-    }
-    at + i
-}
-
-// A digit from 0 to 9.
-fn digit(d: u64) -> u8
-    requires { d < 10 }
-    ensures { result ≡ 48 + d }
-{
-    (48 + d) as u8
-}
-
-// A number in decimal.
-pub fn put_decimal(n: u64, out: &mut [u8], at: usize) -> usize
-    requires { at + 20 ≤ length out.old }
-    ensures { Put out.old at (decimal n) out.new result × (result ≤ at + 20) }
-{
-    if n < 10 {
-        return put_byte(digit(n), out, at);
-    }
-    let last = put_decimal(n / 10, out, at);
-    put_byte(digit(n % 10), out, last)
-}
 
 // The line of a refusal, as a listing has it.
 pub fn put_refused(number: u64, cell: u64, out: &mut [u8], at: usize) -> usize

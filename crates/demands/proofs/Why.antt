@@ -1,17 +1,19 @@
 -- THE KEY CARRIES ITS OWN PROOF, at the calls: statements only; each proof is one name. A reader needs of crate why_spec a link and when a rule gives it, a chain, what certifies a measure
 -- (specs/Links.antt), the four measures of demand 3 (specs/Measures.antt) and THE reason (specs/Search.antt); of crate why what the two calls answer (Shows, Judges). Assumes nothing.
-use Rattle.std.specs.Prelude.{◌≡◌, Bool, true, false, List, ℕ, ◌≤◌, ◌<◌, length, ℤ, pos, ◌+ℤ◌, ◌≤ℤ◌, ◌<ℤ◌}
+use Rattle.std.specs.Prelude.{◌≡◌, List, ℕ, ◌≤◌, ◌<◌, length, ℤ, pos, ◌+ℤ◌, ◌≤ℤ◌, ◌<ℤ◌, Some, None, Ok}
 use Rattle.plan.specs.Plan.{Table, Sound}
 use Rattle.rules.specs.Placement.{Placement, placed, width}
 use Rattle.rules.specs.Rules.{S1, Keeps}
 use Rattle.contours.specs.Sheet.{sheet}
-use Rattle.layout.specs.declared.Laid.TheVariants.{Sheet}
-use Rattle.checker.specs.declared.Checked.TheVariants.{Kept}
+use Rattle.plan.specs.declared.Measures.{Measures}
 use Rattle.why_spec.specs.Measures.{Measure, extent, across, Demanded}
 use Rattle.why_spec.specs.Links.{Link, Justified, Chain, adds_up, Reason, Certifies}
 use Rattle.why_spec.specs.Search.{reason}
 use Rattle.why_spec.proofs.Theorems as reasons
 use Rattle.why_search.specs.Explains.{told}
+use Rattle.why_search.specs.declared.Chain as chains
+use Rattle.why.specs.declared.Shown.{Shown}
+use Rattle.why.specs.declared.Judged.TheVariants.{Kept}
 use Rattle.why.specs.Shows.{Shows}
 use Rattle.why.specs.Judges.{Judges}
 use Rattle.demands.proofs.Laws.Why as laws
@@ -48,28 +50,28 @@ module _ (t : Table) (some_cell : 1 ≤ length t) (sound : Sound t) (al : ℕ) w
     reason_short = reasons.reason_short t some_cell sound al μ demanded
 
 -- ==== OUR SHEET AND ITS REASON: where `why` answers with a sheet, the cells that it gives are those of a reason
-module _ (t : Table) (al : ℕ) (s s' : List ℕ) (ps ps' : List ℤ) (w h : ℕ) (found : Bool) (count : ℕ) (cells rules : List ℕ) (r : Shows t al s s' ps ps' (Sheet w h) found count cells rules) where
+module _ (t : Table) (al : ℕ) (s s' : List ℕ) (ps ps' : List ℤ) (x : Shown) (r : Shows t al s s' ps ps' (Ok x)) where
   -- that certifies the width that it answers, from the table alone,
-  pub why_certifies : Certifies t al (across t) (pos w) (told t al (placed ps') count cells)
-  why_certifies = laws.why_certifies t al s s' ps ps' w h found count cells rules r
+  pub why_certifies : Certifies t al (across t) (pos x.measures.width) (told t al (placed ps') x.chain.count x.chain.cells)
+  why_certifies = laws.why_certifies t al s s' ps ps' x r
 
   -- so that no placement that keeps the rules is narrower,
-  pub why-least : (p : Placement) → Keeps t p al → pos w ≤ℤ width t p
-  why-least = laws.why-least t al s s' ps ps' w h found count cells rules r
+  pub why-least : (p : Placement) → Keeps t p al → pos x.measures.width ≤ℤ width t p
+  why-least = laws.why-least t al s s' ps ps' x r
 
   -- with the fewest links that there can be, fewer than there are cells.
-  pub why-fewest : (q : Reason) → Certifies t al (across t) (pos w) q → count ≤ length q.links
-  why-fewest = laws.why-fewest t al s s' ps ps' w h found count cells rules r
+  pub why-fewest : (q : Reason) → Certifies t al (across t) (pos x.measures.width) q → x.chain.count ≤ length q.links
+  why-fewest = laws.why-fewest t al s s' ps ps' x r
 
-  pub why_short : count < length t
-  why_short = laws.why_short t al s s' ps ps' w h found count cells rules r
+  pub why_short : x.chain.count < length t
+  why_short = laws.why_short t al s s' ps ps' x r
 
--- ==== ANYONE'S PLACEMENT that Check accepts, with its width w
-module _ (t : Table) (al : ℕ) (ps : List ℤ) (w h : ℕ) (count : ℕ) (cells rules : List ℕ) where
-  -- with a reason: it certifies w, and our sheet is as wide;
-  pub judge-least : Judges t al ps (Kept w h) true count cells rules → Certifies t al (across t) (pos w) (told t al (placed ps) count cells) × (width t (sheet t al) ≡ pos w)
-  judge-least = laws.judge-least t al ps w h count cells rules
+-- ==== ANYONE'S PLACEMENT that Check accepts, with its width and rows m
+module _ (t : Table) (al : ℕ) (ps : List ℤ) (m : Measures) where
+  -- with a reason: it certifies the width, and our sheet is as wide;
+  pub judge-least : (c : chains.Chain) → Judges t al ps (Ok (Kept m (Some c))) → Certifies t al (across t) (pos m.width) (told t al (placed ps) c.count c.cells) × (width t (sheet t al) ≡ pos m.width)
+  judge-least = laws.judge-least t al ps m
 
   -- without: our sheet is narrower.
-  pub judge_wider : Judges t al ps (Kept w h) false count cells rules → width t (sheet t al) <ℤ pos w
-  judge_wider = laws.judge_wider t al ps w h count cells rules
+  pub judge_wider : Judges t al ps (Ok (Kept m None)) → width t (sheet t al) <ℤ pos m.width
+  judge_wider = laws.judge_wider t al ps m

@@ -1,5 +1,5 @@
 -- WHAT THE CALLS GIVE where no question refuses, in document 01's own terms. Assumes nothing.
-use Rattle.std.specs.Prelude.{◌≡◌, List, [], ◌∷◌, ◌++◌, map, ℕ, ◌≤◌, length, drop, replicate, ℤ, pos, ◌-ℤ◌}
+use Rattle.std.specs.Prelude.{◌≡◌, List, [], ◌∷◌, ◌++◌, map, ℕ, ◌≤◌, length, drop, replicate, ℤ, pos, ◌-ℤ◌, Result, Ok, Err}
 use Rattle.plan.specs.Limits.{scratch_size, listing_size}
 use Rattle.plan.specs.Lists.{from}
 use Rattle.plan.specs.Plan.{Table, box_width, box_depth}
@@ -9,18 +9,38 @@ use Rattle.contours.specs.Sheet.{sheet}
 use Rattle.least.specs.Alike.{Twin}
 use Rattle.positions.specs.Written.{written}
 use Rattle.finishing.specs.After.{After}
-use Rattle.layout.specs.declared.Laid.{Laid}
-use Rattle.layout.specs.declared.Laid.TheVariants.{Sheet}
+use Rattle.plan.specs.declared.Measures.{Measures}
+use Rattle.checker.specs.declared.Verdict.{Verdict}
+use Rattle.checker.specs.declared.Verdict.TheVariants.{Kept, Broken}
+use Rattle.read_entry.specs.declared.ReadPlan.{ReadPlan}
+use Rattle.plan.specs.declared.Refusal.{Refusal}
 use Rattle.listing.specs.Printed.{Bytes, sheet_line, cell_line, lines_joined}
 use Rattle.printing.specs.Printing.{text_of}
-use Rattle.printing.specs.declared.Listed.{Listed}
-use Rattle.printing.specs.declared.Listed.TheVariants.{Text}
+
+-- Layout's answer of a sheet, by its width and its rows
+abbrev pub sheet_of : (width rows : ℕ) → Result Measures Refusal
+sheet_of w h = Ok (record { width = w; rows = h })
+
+-- Read's of a plan, by the number of records and the allowance
+abbrev pub plan_of : (count allowance : ℕ) → Result ReadPlan Refusal
+plan_of n al = Ok (record { count = n; allowance = al })
+
+-- Check's of a placement that is kept, by its width and its rows, and of one that is broken, by the rule and the pair
+abbrev pub kept_of : (width rows : ℕ) → Result Verdict Refusal
+kept_of w h = Ok (Kept (record { width = w; rows = h }))
+
+abbrev pub breach_of : (rule a b : ℕ) → Result Verdict Refusal
+breach_of r a b = Ok (Broken (record { rule = r; a = a; b = b }))
+
+-- a refusal, by its number and its cell
+abbrev pub refusing : {A : Type 0} → (number cell : ℕ) → Result A Refusal
+refusing k c = Err (record { number = k; cell = c })
 
 -- Layout: our sheet of this width and these rows, written into the positions, with the scratch cleared
-pub record Gives (t : Table) (al : ℕ) (s s' : List ℕ) (ps ps' : List ℤ) (r : Laid) : Type 0 where
+pub record Gives (t : Table) (al : ℕ) (s s' : List ℕ) (ps ps' : List ℤ) (r : Result Measures Refusal) : Type 0 where
   pub w : ℕ
   pub h : ℕ
-  pub answers : r ≡ Sheet w h
+  pub answers : r ≡ sheet_of w h
   pub wide : pos w ≡ width t (sheet t al)
   pub deep : pos h ≡ rows t (sheet t al)
   pub positions : ps' ≡ written ps (sheet t al) (length t)
@@ -39,8 +59,8 @@ pub record Judged (t : Table) (p : Placement) (al w h : ℕ) : Type 0 where
   pub deep : rows t p ≡ pos h
 
 -- List: every byte of the listing, and after it the output as it was
-pub record Listing (f out out' : Bytes) (r : Listed) : Type 0 where
-  pub answers : r ≡ Text (length (text_of f))
+pub record Listing (f out out' : Bytes) (r : Result ℕ Refusal) : Type 0 where
+  pub answers : r ≡ Ok (length (text_of f))
   pub bytes : out' ≡ text_of f ++ drop (length (text_of f)) out
   pub suffices : length (text_of f) ≤ listing_size
 

@@ -1,20 +1,15 @@
 -- The reader as the code has it. Nothing that a reader must believe stands here. Assumes nothing.
-use Rattle.std.specs.Prelude.{◌≡◌, List, [], ◌∷◌, Bool, true, false, not, cond, ℕ, suc, ◌+◌, ◌-◌, ◌*◌, ◌≤◌, ◌<◌, eqb, leb, ℤ, pos, length, get_or, take, drop}
-use Rattle.std.proofs.Math.Option.{Option, none, some}
+use Rattle.std.specs.Prelude.{◌≡◌, List, [], ◌∷◌, Bool, true, not, cond, ℕ, suc, ◌-◌, ◌*◌, ◌≤◌, eqb, leb, ltb, ℤ, pos, length, get_or, take, drop, Option, Some, None, Result, Ok, Err, ⊤}
+use Rattle.std.proofs.Math.Option as optional
 use Rattle.whole.specs.Range.{in_range, InRange}
-use Rattle.whole.specs.Bias.{bias}
 use Rattle.plan.specs.Limits.{most_cells, farthest}
 use Rattle.listing.specs.Printed.{Bytes, line_feed}
-use Rattle.drawing_spec.specs.Words.{lines, blank, words, first, others}
-use Rattle.drawing_spec.specs.Said.{Line, passed, unread, gives, Said, wrong, Sketch, Step, goes, stops, step, complete, said_lines}
+use Rattle.drawing_spec.specs.Words.{lines, blank, words, first, others, natural, integer}
+use Rattle.drawing_spec.specs.Said.{Line, passed, unread, gives, numbered, line_said, Said, wrong, Sketch, Step, goes, stops, step, lowest, complete, said_lines}
 use Rattle.drawing_spec.specs.declared.Fault.{Fault}
-use Rattle.drawing_spec.specs.declared.Fault.TheVariants.{NoNumber, NoCell, Twice, Far}
-use Rattle.drawing.specs.Drawn.{most_text}
+use Rattle.drawing_spec.specs.declared.Fault.TheVariants.{NoNumber}
 use Rattle.drawing.specs.declared.Span.{Span}
-use Rattle.drawing.specs.declared.Number.{Number}
-use Rattle.drawing.specs.declared.Signed.{Signed}
-use Rattle.drawing.specs.declared.Told.{Told}
-use Rattle.drawing.specs.declared.State.{State}
+use Rattle.drawing.specs.declared.Corner.{Corner}
 
 -- ---- how many bytes come before the first that passes the test
 unfoldable pub until : (ℕ → Bool) → Bytes → ℕ
@@ -47,22 +42,51 @@ pub record Grows (a b : ℕ) : Type 0 where
   pub low : 48 ≤ b
   pub high : b ≤ 57
 
-unfoldable pub number_told : Option ℕ → Number
-number_told none = record { number = false; value = 0 }
-number_told (some v) = record { number = true; value = capped v }
+unfoldable pub number_told : optional.Option ℕ → Option ℕ
+number_told optional.none = None
+number_told (optional.some v) = Some (capped v)
 
--- a number that is near, moved up; else 0
-unfoldable pub near_up : ℤ → ℕ
-near_up z = cond (in_range farthest z) (bias farthest z) 0
+-- r stands for z: it is past the bound by one at most, near where z is, and then it is z
+pub record Cut (z r : ℤ) : Type 0 where
+  pub small : InRange beyond r
+  pub same : in_range farthest r ≡ in_range farthest z
+  pub near : in_range farthest z ≡ true → r ≡ z
 
-unfoldable pub integer_told : Option ℤ → Signed
-integer_told none = record { number = false; near = false; value = 0 }
-integer_told (some z) = record { number = true; near = in_range farthest z; value = near_up z }
+abbrev pub IntegerTold : optional.Option ℤ → Option ℤ → Type 0
+IntegerTold optional.none None = Unit {0}
+IntegerTold optional.none (Some r) = ⊥
+IntegerTold (optional.some z) None = ⊥
+IntegerTold (optional.some z) (Some r) = Cut z r
 
-unfoldable pub line_told : Line → Told
-line_told passed = record { kind = 0; cell = 0; x_near = false; x = 0; y_near = false; y = 0 }
-line_told unread = record { kind = 1; cell = 0; x_near = false; x = 0; y_near = false; y = 0 }
-line_told (gives c x y) = record { kind = 2; cell = capped c; x_near = in_range farthest x; x = near_up x; y_near = in_range farthest y; y = near_up y }
+-- the corner c x y as the code has it
+pub record Marks (c : ℕ) (x y : ℤ) (r : Corner) : Type 0 where
+  pub cell : r.cell ≡ capped c
+  pub x_cut : Cut x r.x
+  pub y_cut : Cut y r.y
+
+-- three words as numbers
+abbrev pub NumberedTold : Line → Option Corner → Type 0
+NumberedTold passed r = ⊥
+NumberedTold unread None = Unit {0}
+NumberedTold unread (Some r) = ⊥
+NumberedTold (gives c x y) None = ⊥
+NumberedTold (gives c x y) (Some r) = Marks c x y r
+
+-- the part of a line that is a word
+abbrev pub part : Bytes → Span → Bytes
+part line a = take (a.end - a.start) (drop a.start line)
+
+-- of a line's words from the first on
+abbrev pub CornerTold : Bytes → Span → Option Corner → Type 0
+CornerTold line a r =
+    NumberedTold (numbered (natural (part line a)) (integer (first (words (drop a.end line)))) (integer (first (others (words (drop a.end line)))))) r
+
+abbrev pub LineTold : (k : ℕ) → Line → Result (Option Corner) Fault → Type 0
+LineTold k passed r = r ≡ Ok None
+LineTold k unread r = r ≡ Err (NoNumber k)
+LineTold k (gives c x y) (Err f) = ⊥
+LineTold k (gives c x y) (Ok None) = ⊥
+LineTold k (gives c x y) (Ok (Some r)) = Marks c x y r
 
 -- ---- one line
 -- every number is near
@@ -78,41 +102,29 @@ pub record Sized (n : ℕ) (given : List ℕ) (places : List ℤ) : Type 0 where
 abbrev pub sketch : List ℕ → List ℤ → Sketch
 sketch g ps = record { given = g; places = ps }
 
--- a fault by its number
-unfoldable pub fault_said : (fault line cell : ℕ) → Fault
-fault_said f k c = cond (eqb f 1) (NoNumber k) (cond (eqb f 2) (NoCell k) (cond (eqb f 3) (Twice k c) (Far k)))
+-- a line is noted, or its fault
+unfoldable pub stepped : Sketch → Result ⊤ Fault → Step
+stepped s (Ok u) = goes s
+stepped s (Err f) = stops (wrong f)
 
-unfoldable pub stepped : (k fault cell : ℕ) → Sketch → Step
-stepped k f c s = cond (eqb f 0) (goes s) (stops (wrong (fault_said f k c)))
+pub record Steps (n k : ℕ) (t : Corner) (g : List ℕ) (ps : List ℤ) (g' : List ℕ) (ps' : List ℤ) (r : Result ⊤ Fault) : Type 0 where
+  pub is : (c : ℕ) (x y : ℤ) → Marks c x y t → step n k (sketch g ps) (gives c x y) ≡ stepped (sketch g' ps') r
+  pub held : Held ps'
 
-pub record Steps (n : ℕ) (t : Told) (g : List ℕ) (ps : List ℤ) (g' : List ℕ) (ps' : List ℤ) (r : ℕ) : Type 0 where
-  pub is : (k : ℕ) (l : Line) → t ≡ line_told l → step n k (sketch g ps) l ≡ stepped k r t.cell (sketch g' ps')
+pub record Turned (n k : ℕ) (line : Bytes) (g : List ℕ) (ps : List ℤ) (g' : List ℕ) (ps' : List ℤ) (r : Result ⊤ Fault) : Type 0 where
+  pub is : step n k (sketch g ps) (line_said k line) ≡ stepped (sketch g' ps') r
   pub held : Held ps'
 
 -- ---- all lines
--- what is still to be read
-unfoldable pub rest_said : (n : ℕ) (text : Bytes) → State → List ℕ → List ℤ → Said
-rest_said n text s g ps =
-    cond (eqb s.fault 0) (said_lines n s.line (sketch g ps) (lines (drop s.at text))) (wrong (fault_said s.fault s.line s.cell))
-
-pub record Ready (n : ℕ) (text : Bytes) (s : State) (g : List ℕ) (ps : List ℤ) : Type 0 where
-  pub sized : Sized n g ps
-  pub held : Held ps
-  pub short : length text ≤ most_text
-  pub going : s.at < length text → s.fault ≡ 0
-  pub counted : s.line ≤ s.at + 1
-
-pub record Turned (n : ℕ) (text : Bytes) (s : State) (g : List ℕ) (ps : List ℤ) (r : State) (g' : List ℕ) (ps' : List ℤ) : Type 0 where
-  pub same : rest_said n text r g' ps' ≡ rest_said n text s g ps
-  pub held : Held ps'
-  pub on : s.at < r.at
-  pub going : r.at < length text → r.fault ≡ 0
-  pub counted : r.line ≤ r.at + 1
-
 -- what the reader of lines answers: all cells so far, or a fault
-unfoldable pub read_said : (n : ℕ) → State → List ℕ → List ℤ → Said
-read_said n s g ps = cond (eqb s.fault 0) (complete n (sketch g ps)) (wrong (fault_said s.fault s.line s.cell))
+unfoldable pub read_said : (n : ℕ) → List ℕ → List ℤ → Result ⊤ Fault → Said
+read_said n g ps (Ok u) = complete n (sketch g ps)
+read_said n g ps (Err f) = wrong f
 
-pub record Reads (n : ℕ) (text : Bytes) (g : List ℕ) (ps : List ℤ) (r : State) (g' : List ℕ) (ps' : List ℤ) : Type 0 where
-  pub is : read_said n r g' ps' ≡ said_lines n 1 (sketch g ps) (lines text)
+pub record Reads (n : ℕ) (text : Bytes) (g : List ℕ) (ps : List ℤ) (g' : List ℕ) (ps' : List ℤ) (r : Result ⊤ Fault) : Type 0 where
+  pub is : read_said n g' ps' r ≡ said_lines n 1 (sketch g ps) (lines text)
   pub held : Held ps'
+
+-- the lowest cell that is not given
+unfoldable pub missing : List ℕ → (n : ℕ) → Option ℕ
+missing g n = let c = lowest g 0 n in cond (ltb c n) (Some c) None

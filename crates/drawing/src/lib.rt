@@ -1,27 +1,18 @@
 // A DRAWING AS TEXT, READ: the corners of a plan's cells, or what is wrong with the text.
 #![tactic(auto)]
 
-ghost use Rattle.std.specs.Prelude.{◌≡◌, Bool, ℕ, ◌+◌, ◌-◌, ◌*◌, ◌≤◌, ◌<◌, eqb, ℤ, ◌-ℤ◌, pos, length, drop, get_or, set};
-ghost use Rattle.std.proofs.Math.Option.{Option};
-ghost use Rattle.plan.specs.Limits.{farthest};
+ghost use Rattle.std.specs.Prelude.{◌≡◌, ◌+◌, ◌-◌, ◌*◌, ◌≤◌, ◌<◌, ◌-ℤ◌, pos, length, drop, get_or, set};
 ghost use Rattle.rules.specs.Placement.{placed};
 ghost use Rattle.positions.specs.Written.{written};
-ghost use Rattle.drawing_spec.specs.Words.{blank, natural, with_sign, begins_below, integer};
-ghost use Rattle.drawing_spec.specs.Said.{begins, passes, numbered, line_said, lowest, moved};
+ghost use Rattle.drawing_spec.specs.Words.{blank, natural, begins_below, integer};
+ghost use Rattle.drawing_spec.specs.Said.{begins, passes, line_said, moved};
 ghost use Rattle.drawing.specs.Drawn.{most_text, Draws};
-ghost use Rattle.drawing.specs.Steps.{until, feed, solid, capped, beyond, number_told, integer_told, line_told, Next, Grows, Held, Sized, Steps, fault_said, Ready, Turned, Reads};
+ghost use Rattle.drawing.specs.Steps.{until, feed, solid, capped, beyond, «number_told», IntegerTold, LineTold, CornerTold, Next, Grows, Held, Sized, Steps, Turned, Reads, missing};
 
-use drawing_spec::Fault;
+use asking::asked;
+use drawing_spec::{DrawError, Fault};
 use plan::limits::{FARTHEST, MOST_CELLS};
-use whole::{difference, raise_at};
-
-// What a text says: the corner of each cell, which the positions hold; or what is wrong with it. Refused: more than 256 cells (4), or not room enough for their positions (1).
-#[derive(Drop)]
-pub enum Drawn {
-    Placed,
-    Wrong(Fault),
-    Refused(u8, u16),
-}
+use whole::{difference, raise_at, within};
 
 // A word of a line.
 #[derive(Clone, Copy, Drop)]
@@ -30,39 +21,12 @@ struct Span {
     end: usize,
 }
 
-// A natural number, if the word is one; one past the bound stands for any that is greater.
+// The corner of a cell, as a line gives it. A number past the bound stands for any that is farther.
 #[derive(Clone, Copy, Drop)]
-struct Number {
-    number: bool,
-    value: u32,
-}
-
-// A whole number, if the word is one, and whether it is near; moved up by 262,143, so that none is negative.
-#[derive(Clone, Copy, Drop)]
-struct Signed {
-    number: bool,
-    near: bool,
-    value: u32,
-}
-
-// A line: passed over (0), not three numbers (1), or the corner of a cell (2), x and y moved up.
-#[derive(Clone, Copy, Drop)]
-struct Told {
-    kind: u8,
+struct Corner {
     cell: u32,
-    x_near: bool,
-    x: u32,
-    y_near: bool,
-    y: u32,
-}
-
-// Where the reader is: a fault, or 0, the line's number, the cell of the fault, and the place in the text.
-#[derive(Clone, Copy, Drop)]
-struct State {
-    fault: u8,
-    line: usize,
-    cell: usize,
-    at: usize,
+    x: i32,
+    y: i32,
 }
 
 pub const TEXT_SIZE: usize = 65536;
@@ -81,14 +45,12 @@ fn line_end(text: &[u8], at: usize) -> usize
     requires { at ≤ length text.now }
     ensures { (result ≡ at + until feed (drop at text.now)) × (result ≤ length text.now) }
 {
-    let mut i = at;
-    while i < text.len() {
+    for i in at..text.len() {
         if text[i] == LINE_FEED {
             return i;
         }
-        i += 1;
     }
-    i
+    text.len()
 }
 
 // What parts words.
@@ -109,14 +71,12 @@ fn blanks_end(line: &[u8], at: usize) -> usize
     requires { at ≤ length line.now }
     ensures { (result ≡ at + until solid (drop at line.now)) × (result ≤ length line.now) }
 {
-    let mut i = at;
-    while i < line.len() {
+    for i in at..line.len() {
         if !blank(line[i]) {
             return i;
         }
-        i += 1;
     }
-    i
+    line.len()
 }
 
 // The end of the word from a place on.
@@ -124,14 +84,12 @@ fn word_end(line: &[u8], at: usize) -> usize
     requires { at ≤ length line.now }
     ensures { (result ≡ at + until blank (drop at line.now)) × (result ≤ length line.now) }
 {
-    let mut i = at;
-    while i < line.len() {
+    for i in at..line.len() {
         if blank(line[i]) {
             return i;
         }
-        i += 1;
     }
-    i
+    line.len()
 }
 
 // The next word from a place on; an empty one if there is none.
@@ -148,15 +106,13 @@ fn next_word(line: &[u8], at: usize) -> Span
 fn begins(word: &[u8], text: &[u8]) -> bool
     ensures { result ≡ begins word.now text.now }
 {
-    let mut i = 0;
-    while i < word.len() {
+    for i in 0..word.len() {
         if text.len() <= i {
             return false;
         }
         if text[i] != word[i] {
             return false;
         }
-        i += 1;
     }
     true
 }
@@ -189,71 +145,25 @@ fn grown(a: u32, b: u8) -> u32
     next
 }
 
-// The natural number that a word says.
-fn natural(word: &[u8]) -> Number
+// The natural number that a word says, if it is one; one past the bound stands for any that is greater.
+fn natural(word: &[u8]) -> Option<u32>
     ensures { result ≡ number_told (natural word.now) }
 {
     if word.len() == 0 {
-        return Number {
-            number: false,
-            value: 0,
-        };
+        return None;
     }
     let mut a: u32 = 0;
-    let mut i = 0;
-    while i < word.len() {
+    for i in 0..word.len() {
         let b = word[i];
         if b < 48 {
-            return Number {
-                number: false,
-                value: 0,
-            };
+            return None;
         }
         if 57 < b {
-            return Number {
-                number: false,
-                value: 0,
-            };
+            return None;
         }
         a = grown(a, b);
-        i += 1;
     }
-    Number {
-        number: true,
-        value: a,
-    }
-}
-
-// The same with its sign.
-fn signed_as(m: Number, below: bool) -> Signed
-    ensures { (o : Option ℕ) → m ≡ number_told o → result ≡ integer_told (with_sign o below) }
-{
-    if !m.number {
-        return Signed {
-            number: false,
-            near: false,
-            value: 0,
-        };
-    }
-    if FARTHEST < m.value {
-        return Signed {
-            number: true,
-            near: false,
-            value: 0,
-        };
-    }
-    if below {
-        return Signed {
-            number: true,
-            near: true,
-            value: FARTHEST - m.value,
-        };
-    }
-    Signed {
-        number: true,
-        near: true,
-        value: FARTHEST + m.value,
-    }
+    Some(a)
 }
 
 // Whether a word begins with a minus sign.
@@ -266,73 +176,41 @@ fn begins_below(word: &[u8]) -> bool
     word[0] == MINUS_SIGN
 }
 
-// The whole number that a word says.
-fn integer(word: &[u8]) -> Signed
-    ensures { result ≡ integer_told (integer word.now) }
+// The whole number that a word says, if it is one.
+fn integer(word: &[u8]) -> Option<i32>
+    ensures { IntegerTold (integer word.now) result }
 {
     if begins_below(word) {
-        return signed_as(natural(&word[1..]), true);
+        return Some(difference(0, natural(&word[1..])?));
     }
-    signed_as(natural(word), false)
+    Some(difference(natural(word)?, 0))
 }
 
-// A line that gives no cell.
-fn no_cell(kind: u8) -> Told
-    ensures { result ≡ record { kind = kind; cell = 0; x_near = Bool.false; x = 0; y_near = Bool.false; y = 0 } }
+// The corner that a line gives whose first word is this; none if the first three words are not three numbers.
+fn three(line: &[u8], first: Span) -> Option<Corner>
+    requires { (first.start ≤ first.end) × (first.end ≤ length line.now) }
+    ensures { CornerTold line.now first result }
 {
-    Told {
-        kind,
-        cell: 0,
-        x_near: false,
-        x: 0,
-        y_near: false,
-        y: 0,
-    }
+    let cell = natural(&line[first.start..first.end])?;
+    let second = next_word(line, first.end);
+    let x = integer(&line[second.start..second.end])?;
+    let third = next_word(line, second.end);
+    let y = integer(&line[third.start..third.end])?;
+    Some(Corner { cell, x, y })
 }
 
-// The first three words of a line.
-fn three(c: Number, x: Signed, y: Signed) -> Told
-    ensures { (o : Option ℕ) (u v : Option ℤ) → c ≡ number_told o → x ≡ integer_told u → y ≡ integer_told v → result ≡ line_told (numbered o u v) }
+// What line number k says: nothing, or the corner of a cell.
+fn read_line(line: &[u8], k: usize) -> Result<Option<Corner>, Fault>
+    ensures { LineTold k (line_said k line.now) result }
 {
-    if !c.number {
-        return no_cell(1);
+    let first = next_word(line, 0);
+    if passes(k == 1, &line[first.start..first.end]) {
+        return Ok(None);
     }
-    if !x.number {
-        return no_cell(1);
+    match three(line, first) {
+        Some(corner) => Ok(Some(corner)),
+        None => Err(Fault::NoNumber(k)),
     }
-    if !y.number {
-        return no_cell(1);
-    }
-    Told {
-        kind: 2,
-        cell: c.value,
-        x_near: x.near,
-        x: x.value,
-        y_near: y.near,
-        y: y.value,
-    }
-}
-
-// A line, the first or not.
-fn read_line(line: &[u8], first: bool) -> Told
-    ensures { (k : ℕ) → first ≡ eqb k 1 → result ≡ line_told (line_said k line.now) }
-{
-    let a = next_word(line, 0);
-    let start = a.start;
-    let end = a.end;
-    if passes(first, &line[start..end]) {
-        return no_cell(0);
-    }
-    let c = natural(&line[start..end]);
-    let b = next_word(line, end);
-    let x_start = b.start;
-    let x_end = b.end;
-    let x = integer(&line[x_start..x_end]);
-    let d = next_word(line, x_end);
-    let y_start = d.start;
-    let y_end = d.end;
-    let y = integer(&line[y_start..y_end]);
-    three(c, x, y)
 }
 
 // The corner of a cell is noted.
@@ -344,95 +222,73 @@ fn put_corner(places: &mut [i32], c: usize, x: i32, y: i32)
     places[2 * c + 1] = y;
 }
 
-// What a line says is noted, or the number of the fault.
-fn put_cell(t: Told, n: usize, given: &mut [u8], places: &mut [i32]) -> u8
-    requires { Sized n given.old places.old × Held places.old × (t.x ≤ farthest + farthest) × (t.y ≤ farthest + farthest) }
-    ensures { Steps n t given.old places.old given.new places.new result }
+// The corner that line number k gives is noted, if it is that of a cell of n, near, and the first of it.
+fn put_cell(
+    corner: Corner,
+    k: usize,
+    n: usize,
+    given: &mut [u8],
+    places: &mut [i32],
+) -> Result<(), Fault>
+    requires { Sized n given.old places.old × Held places.old }
+    ensures { Steps n k corner given.old places.old given.new places.new result }
 {
-    if t.kind == 0 {
-        return 0;
-    }
-    if t.kind == 1 {
-        return 1;
-    }
-    let c = t.cell as usize;
+    let c = corner.cell as usize;
     if n <= c {
-        return 2;
+        return Err(Fault::NoCell(k));
     }
     if given[c] != 0 {
-        return 3;
+        return Err(Fault::Twice(k, c));
     }
-    if !t.x_near {
-        return 4;
+    if !within(corner.x, FARTHEST) {
+        return Err(Fault::Far(k));
     }
-    if !t.y_near {
-        return 4;
+    if !within(corner.y, FARTHEST) {
+        return Err(Fault::Far(k));
     }
     given[c] = 1;
-    put_corner(
-        places,
-        c,
-        difference(t.x, FARTHEST),
-        difference(t.y, FARTHEST),
-    );
-    0
+    put_corner(places, c, corner.x, corner.y);
+    Ok(())
 }
 
-// One line more.
-fn turn(text: &[u8], s: State, n: usize, given: &mut [u8], places: &mut [i32]) -> State
-    requires { Ready n text.now s given.old places.old × (s.at < length text.now) }
-    ensures { Turned n text.now s given.old places.old result given.new places.new }
+// What line number k says is noted.
+fn turn(line: &[u8], k: usize, n: usize, given: &mut [u8], places: &mut [i32]) -> Result<(), Fault>
+    requires { Sized n given.old places.old × Held places.old }
+    ensures { Turned n k line.now given.old places.old given.new places.new result }
 {
-    let at = s.at;
-    let end = line_end(text, at);
-    let t = read_line(&text[at..end], s.line == 1);
-    let fault = put_cell(t, n, given, places);
-    if fault != 0 {
-        return State {
-            fault,
-            line: s.line,
-            cell: t.cell as usize,
-            at: text.len(),
-        };
-    }
-    State {
-        fault: 0,
-        line: s.line + 1,
-        cell: 0,
-        at: end + 1,
+    match read_line(line, k)? {
+        Some(corner) => put_cell(corner, k, n, given, places),
+        None => Ok(()),
     }
 }
 
-// All lines, from the first on.
-fn read_lines(text: &[u8], n: usize, given: &mut [u8], places: &mut [i32]) -> State
+// All lines, from the first on, to the first that is wrong.
+fn read_lines(text: &[u8], n: usize, given: &mut [u8], places: &mut [i32]) -> Result<(), Fault>
     requires { Sized n given.old places.old × Held places.old × (length text.now ≤ most_text) }
-    ensures { Reads n text.now given.old places.old result given.new places.new }
+    ensures { Reads n text.now given.old places.old given.new places.new result }
 {
-    let mut s = State {
-        fault: 0,
-        line: 1,
-        cell: 0,
-        at: 0,
-    };
-    while s.at < text.len() {
-        s = turn(text, s, n, given, places);
+    let mut at = 0;
+    let mut k = 1;
+    while at < text.len() {
+        let end = line_end(text, at);
+        turn(&text[at..end], k, n, given, places)?;
+        at = end + 1;
+        k += 1;
     }
-    s
+    Ok(())
 }
 
-// The lowest cell that is not given; n if there is none.
-fn lowest(given: &[u8], n: usize) -> usize
+// The lowest cell that is not given, if one is not.
+fn lowest(given: &[u8], n: usize) -> Option<usize>
     requires { n ≤ length given.now }
-    ensures { result ≡ lowest given.now 0 n }
+    ensures { result ≡ missing given.now n }
 {
-    let mut c: usize = 0;
-    while c < n {
+    for c in 0..n {
         if given[c] == 0 {
-            return c;
+            return Some(c);
         }
-        c += 1;
     }
-    c
+    None
 }
 
 // The number at a place less that at another.
@@ -448,57 +304,31 @@ fn put_moved(places: &[i32], n: usize, positions: &mut [i32])
     requires { Held places.now × (2 * n ≤ length places.now) × (2 * n ≤ length positions.old) }
     ensures { positions.new ≡ written positions.old (moved (placed places.now)) n }
 {
-    let mut c: usize = 0;
-    while c < n {
+    for c in 0..n {
         put_corner(
             positions,
             c,
             apart(places, 2 * c, 0),
             apart(places, 2 * c + 1, 1),
         );
-        c += 1;
     }
 }
 
-// What is wrong with a line.
-fn fault_told(s: State) -> Fault
-    ensures { result ≡ fault_said s.fault s.line s.cell }
-{
-    if s.fault == 1 {
-        return Fault::NoNumber(s.line);
-    }
-    if s.fault == 2 {
-        return Fault::NoCell(s.line);
-    }
-    if s.fault == 3 {
-        return Fault::Twice(s.line, s.cell);
-    }
-    Fault::Far(s.line)
-}
-
-// A TEXT READ as the drawing of a plan of n cells: what it says; if that is the corner of each cell, the positions hold them, the root's at 0 0, else they are as they were.
-pub fn read_drawing(text: &[u8], n: usize, positions: &mut [i32]) -> Drawn
+// A TEXT READ as the drawing of a plan of n cells: if it says the corner of each cell, the positions hold them, the root's at 0 0, else they are as they were.
+pub fn read_drawing(text: &[u8], n: usize, positions: &mut [i32]) -> Result<(), DrawError>
     ensures { Draws n text.now positions.old positions.new result }
 {
-    if MOST_CELLS < n {
-        return Drawn::Refused(4, 0);
-    }
-    if positions.len() < 2 * n {
-        return Drawn::Refused(1, 0);
-    }
+    asked(4, n <= MOST_CELLS, 0)?;
+    asked(1, 2 * n <= positions.len(), 0)?;
     if TEXT_SIZE < text.len() {
-        return Drawn::Wrong(Fault::Long);
+        return Err(DrawError::Wrong(Fault::Long));
     }
     let mut given = [0u8; MOST_CELLS];
     let mut places = [0i32; 2 * MOST_CELLS];
-    let s = read_lines(text, n, &mut given, &mut places);
-    if s.fault != 0 {
-        return Drawn::Wrong(fault_told(s));
-    }
-    let c = lowest(&given, n);
-    if c < n {
-        return Drawn::Wrong(Fault::Missing(c));
+    read_lines(text, n, &mut given, &mut places)?;
+    if let Some(c) = lowest(&given, n) {
+        return Err(DrawError::Wrong(Fault::Missing(c)));
     }
     put_moved(&places, n, positions);
-    Drawn::Placed
+    Ok(())
 }

@@ -2,7 +2,7 @@
 use Rattle.std.specs.Prelude.{◌≡◌}
 use Rattle.positions.specs.Written.{corners}
 use Rattle.listing.specs.Printed.{Bytes}
-use Rattle.planfile_spec.specs.declared.Reading.{Reading}
+use Rattle.planfile_spec.specs.Read.{Reading}
 use Rattle.printing.specs.Printing.{ours, text_of, Taken}
 use Rattle.drawing_spec.specs.Said.{placed_at, said}
 use Rattle.drawing_listing.proofs.Laws.Listed as laws

@@ -7,73 +7,46 @@ use std::io::Read;
 use std::rt::{Env, Files};
 use transcript::{TRANSCRIPT_SIZE, write_transcript};
 
-fn trouble(err: &impl Print, line: &[u8]) {
-    err.write_all(line).is_ok();
-}
+// What a step of the program gives, or what the trouble is.
+type Told<T> = Result<T, &'static str>;
 
-// The plan's file, opened; or none, and what the trouble is.
-fn open_plan<R: Env + Files>(rt: &R, err: &impl Print) -> Option<R::File> {
+// The plan's file, opened.
+fn open_plan<R: Env + Files>(rt: &R) -> Told<R::File> {
     if input::argument_count(rt) != 2 {
-        trouble(
-            err,
-            b"drill: it takes one argument, the plan's file; the answers are on standard input\n",
-        );
-        return None;
+        return Err("it takes one argument, the plan's file; the answers are on standard input");
     }
     let mut path = [0u8; 4096];
-    match rt.arg(1, &mut path) {
-        Ok(length) => match input::open(rt, &path[..length]) {
-            Ok(file) => Some(file),
-            Err(_) => {
-                trouble(err, b"drill: the plan's file cannot be opened\n");
-                None
-            }
-        },
-        Err(_) => {
-            trouble(err, b"drill: the name of the plan's file is too long\n");
-            None
-        }
-    }
+    let length = rt
+        .arg(1, &mut path)
+        .map_err(|_| "the name of the plan's file is too long")?;
+    input::open(rt, &path[..length]).map_err(|_| "the plan's file cannot be opened")
 }
 
-fn print_drill(out: &impl Print, err: &impl Print, file: &[u8], answers: &[u8]) {
+fn print_drill(out: &impl Print, file: &[u8], answers: &[u8]) -> Told<()> {
     let mut text = [0u8; TRANSCRIPT_SIZE];
     let length = write_transcript(file, answers, &mut text);
-    if out.write_all(&text[..length]).is_err() {
-        trouble(err, b"drill: the transcript could not be written whole\n");
-    }
+    out.write_all(&text[..length])
+        .map_err(|_| "the transcript could not be written whole")
 }
 
 // Reads the plan, and stops where that fails: a folder can be opened, and not read.
-fn drill_plan<F: Read>(out: &impl Print, err: &impl Print, from: &mut F, answers: &[u8]) {
+fn drill_plan<F: Read>(out: &impl Print, from: &mut F, answers: &[u8]) -> Told<()> {
     let mut file = [0u8; MOST_FILE + 1];
-    let input = input::read_whole(from, &mut file);
-    if input::failed(input) {
-        trouble(err, b"drill: the plan's file cannot be read\n");
-        return;
-    }
-    let n = input.length;
-    print_drill(out, err, &file[..n], answers);
-}
-
-fn drill_with<R: Env + Files>(rt: &R, out: &impl Print, err: &impl Print, answers: &[u8]) {
-    if let Some(file) = open_plan(rt, err) {
-        let mut from = file;
-        drill_plan(out, err, &mut from, answers);
-    }
+    let input = input::read_whole(from, &mut file).map_err(|_| "the plan's file cannot be read")?;
+    print_drill(out, &file[..input.length], answers)
 }
 
 // The answers are read before the plan is opened: were standard input closed, the plan would take its number. A list that was cut by
 // an error is not drilled.
-fn main(rt: HostRuntime) {
-    let err = rt.stderr();
-    let mut from = rt.stdin();
+fn drill<R: Env + Files, F: Read>(rt: &R, out: &impl Print, from: &mut F) -> Told<()> {
     let mut answers = [0u8; MOST_ANSWERS + 1];
-    let input = input::read_whole(&mut from, &mut answers);
-    if input::failed(input) {
-        trouble(&err, b"drill: the answers cannot be read\n");
-        return;
+    let input = input::read_whole(from, &mut answers).map_err(|_| "the answers cannot be read")?;
+    let mut plan = open_plan(rt)?;
+    drill_plan(out, &mut plan, &answers[..input.length])
+}
+
+fn main(rt: HostRuntime) {
+    if let Err(trouble) = drill(&rt, &rt.stdout(), &mut rt.stdin()) {
+        eprintln!(rt; "drill: {trouble}").is_ok();
     }
-    let n = input.length;
-    drill_with(&rt, &rt.stdout(), &err, &answers[..n]);
 }

@@ -1,11 +1,10 @@
 -- From positions to the ends of a connector. Assumes nothing.
-use mathlib.Core.Path.{◌≡◌, refl, sym, ap, ◌∙◌}
+use mathlib.Core.Path.{◌≡◌, refl, sym, ◌∙◌}
 use mathlib.Core.List.{List}
 use Prim.Native.Nat.{ℕ, ◌+◌, ◌*◌, ◌≤◌, ◌<◌}
 use native.Mathlib.Omega.{arith}
 use lib.ListN.{length, get_or}
 use lib.IntN.{ℤ, pos, ◌+ℤ◌, ◌-ℤ◌}
-use borrow.Author.Tests.{eq-eqb, ne_eqb}
 use mir.Syntax.{w32}
 use mir.Val.{to_z, of_z, SFits}
 use mir.ValLaws.{to_z-of_z}
@@ -19,15 +18,15 @@ use Rattle.plan.specs.Fit.{Fit}
 use Rattle.plan.specs.Near.{Near}
 use Rattle.plan.specs.Columns.{table_of}
 use Rattle.plan.proofs.Laws.Tables.{length-is, parent_is, width_is, depth_is, count_few, parent_lower}
-use Rattle.plan.specs.Questions.{refusal, ends, ends_given}
+use Rattle.plan.specs.Questions.{refusal, ends, ends_given, passed}
 use Rattle.rules.specs.Placement.{placed}
-use Rattle.ends.specs.Ended.{half, joined, unless}
+use Rattle.ends.specs.Ended.{half, joined}
 use Rattle.ends.proofs.Laws.Ended.{accepted}
 use Rattle.ends.proofs.Laws.Halves.{half_close}
 use Rattle.plan.specs.declared.Columns.{Columns}
-use Rattle.plan.specs.declared.Refusal.{Refusal}
+use Rattle.plan.proofs.Laws.Answered.{passes}
+use Rattle.std.specs.Prelude.{Ok, ⊤}
 use Rattle.ends.specs.declared.Ended.{Ended}
-use Rattle.ends.specs.declared.Ended.TheVariants.{Joined, Refused}
 
 -- moved up, moved on, and moved back
 module _ (z : ℤ) (w : InRange farthest z) (by : ℕ) where
@@ -60,7 +59,7 @@ module _ (t : Columns) (fit : Fit (table_of t)) where
       → h ≡ half (get_or t.width f 0) → d ≡ get_or t.depth f 0 → k ≡ half (get_or t.width c 0)
       → u ≡ get_or ps (2 * f) (pos 0) +ℤ pos h → v ≡ get_or ps (2 * f + 1) (pos 0) +ℤ pos d
       → x ≡ get_or ps (2 * c) (pos 0) +ℤ pos k → y ≡ get_or ps (2 * c + 1) (pos 0) +ℤ pos 0
-      → Joined u v x y ≡ joined (table_of t) (placed ps) c
+      → ◌≡◌ {A = Ended} (record { from_x = u; from_y = v; to_x = x; to_y = y }) (joined (table_of t) (placed ps) c)
   unfolding joined placed
   joined_is ps c f h d k i j e eh ed ek eu ev ex ey =
       let p : parent (table_of t) c ≡ f = parent_is t c i ∙ sym e in
@@ -76,14 +75,7 @@ pub record Endable (t : Columns) (ps : List ℤ) (c : ℕ) : Type 0 where
   pub is : c < t.count
   pub lower : get_or t.parent c 0 < c
 
-pub endable : (t : Columns) (ps : List ℤ) (c : ℕ) (q : Refusal) → q ≡ refusal ends (ends_given (table_of t) ps c) → q.number ≡ 0 → Endable t ps c
-endable t ps c q e h =
-    let ok = accepted t ps c (ap (λ (x : Refusal). x.number) (sym e) ∙ h) in
+pub endable : (t : Columns) (ps : List ℤ) (c : ℕ) (u : ⊤) → Ok u ≡ passed (refusal ends (ends_given (table_of t) ps c)) → Endable t ps c
+endable t ps c u e =
+    let ok = accepted t ps c (passes _ u e) in
     record { fit = ok.0; near = ok.1; room = ok.1.room; few = count_few t ok.0; is = ok.2; lower = parent_lower t ok.0 c ok.3 ok.2 }
-
--- the refusal, or the answer
-pub unless-refused : (r q : Refusal) (a : Ended) → q ≡ r → ¬ (q.number ≡ 0) → Refused q.number q.cell ≡ unless r a
-unless-refused r q a e h = rw (← e, ne_eqb q.number 0 h)
-
-pub unless-none : (r q : Refusal) (a : Ended) → q ≡ r → q.number ≡ 0 → a ≡ unless r a
-unless-none r q a e h = rw (← e, eq-eqb q.number 0 h)

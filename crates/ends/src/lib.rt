@@ -5,21 +5,22 @@ ghost use Rattle.std.specs.Prelude.{◌≡◌, ◌&&◌, ◌<◌, ◌≤◌, ltb
 ghost use Rattle.whole.specs.Range.{InRange};
 ghost use Rattle.plan.specs.Limits.{farthest, most_width};
 ghost use Rattle.plan.specs.Columns.{«table_of»};
-ghost use Rattle.plan.specs.Questions.{refusal, ends, ends_given};
+ghost use Rattle.plan.specs.Questions.{refusal, ends, ends_given, passed};
 ghost use Rattle.ends.specs.Ended.{half, «ended_of»};
 
 use asking::{asked, lent_refusal, near_refusal};
 use plan::limits::FARTHEST;
 use plan::{Columns, Refusal};
 use spans::parent_of;
-use whole::numbers::wide8to32;
 use whole::{difference, raise_at};
 
-// Joined: x and y at the parent, x and y at the child. Refused: number and cell.
-#[derive(Drop)]
-pub enum Ended {
-    Joined(i32, i32, i32, i32),
-    Refused(u8, u16),
+// Where a connector begins, at the parent, and where it ends, at the child.
+#[derive(Clone, Copy, Drop)]
+pub struct Ended {
+    pub from_x: i32,
+    pub from_y: i32,
+    pub to_x: i32,
+    pub to_y: i32,
 }
 
 // Half a width: the nearer whole number, a tie to the even one.
@@ -47,19 +48,12 @@ fn named(cell: usize, n: usize) -> bool
 }
 
 // The questions, in their sequence.
-fn refuse(t: Columns, positions: &[i32], cell: usize) -> Refusal
-    ensures { result ≡ refusal ends (ends_given (table_of t) positions.now cell) }
+fn refuse(t: &Columns, positions: &[i32], cell: usize) -> Result<(), Refusal>
+    ensures { result ≡ passed (refusal ends (ends_given (table_of t.now) positions.now cell)) }
 {
-    let n = t.count;
-    let lent = lent_refusal(&t.parent, &t.kind, &t.width, &t.depth, n, positions.len());
-    if lent.number != 0 {
-        return lent;
-    }
-    let near = near_refusal(positions, n);
-    if near.number != 0 {
-        return near;
-    }
-    asked(16, named(cell, n), 0)
+    lent_refusal(t, positions.len())?;
+    near_refusal(positions, t.count)?;
+    asked(16, named(cell, t.count), 0)
 }
 
 // The number at a place of the positions, moved right or down.
@@ -70,18 +64,15 @@ fn moved(positions: &[i32], i: usize, by: u32) -> i32
     difference(raise_at(positions, i, FARTHEST) + by, FARTHEST)
 }
 
-pub fn ends(t: Columns, positions: &[i32], cell: usize) -> Ended
+pub fn ends(t: Columns, positions: &[i32], cell: usize) -> Result<Ended, Refusal>
     ensures { result ≡ ended_of (table_of t) positions.now cell }
 {
-    let no = refuse(t, positions, cell);
-    if no.number != 0 {
-        return Ended::Refused(no.number, no.cell);
-    }
+    refuse(&t, positions, cell)?;
     let p = parent_of(&t.parent, cell);
-    Ended::Joined(
-        moved(positions, 2 * p, half(t.width[p])),
-        moved(positions, 2 * p + 1, wide8to32(t.depth[p])),
-        moved(positions, 2 * cell, half(t.width[cell])),
-        moved(positions, 2 * cell + 1, 0),
-    )
+    Ok(Ended {
+        from_x: moved(positions, 2 * p, half(t.width[p])),
+        from_y: moved(positions, 2 * p + 1, u32::from(t.depth[p])),
+        to_x: moved(positions, 2 * cell, half(t.width[cell])),
+        to_y: moved(positions, 2 * cell + 1, 0),
+    })
 }

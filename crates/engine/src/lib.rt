@@ -10,6 +10,6 @@ pub use layout_entry::layout;
 pub use mark_entry::mark;
 pub use mending::mend;
 pub use printing::list;
-pub use read_entry::{ReadAnswer, read};
+pub use read_entry::{ReadPlan, read};
 pub use sheet_entry::{check, ends};
 pub use strip_entry::strip;

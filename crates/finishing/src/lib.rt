@@ -6,50 +6,42 @@ ghost use Rattle.finishing.specs.Finishing.{Starts};
 ghost use Rattle.finishing_step.specs.Stepping.{Steps};
 
 use finishing_asks::{start_refusal, step_refusal};
-use finishing_step::{Stepped, advance};
-use layout::clear;
-use plan::Columns;
+use finishing_step::advance;
 use plan::limits::{SCRATCH_SIZE, SECOND_SIZE};
-
-// A start's answer: the sheet is begun; or the refusal's number and cell.
-#[derive(Drop)]
-pub enum Started {
-    Begun,
-    Refused(u8, u16),
-}
+use plan::{Columns, Refusal};
 
 // A START: the questions, then both scratches are cleared.
-pub fn start(t: Columns, allowance: u32, scratch: &mut [u32], second: &mut [u32]) -> Started
-    ensures { Starts (table_of t) allowance scratch.old scratch.new second.old second.new result }
+pub fn start(
+    t: &Columns,
+    allowance: u32,
+    scratch: &mut [u32],
+    second: &mut [u32],
+) -> Result<(), Refusal>
+    ensures { Starts (table_of t.now) allowance scratch.old scratch.new second.old second.new result }
 {
-    let r = start_refusal(t, allowance, scratch.len(), second.len());
-    if r.number != 0 {
-        return Started::Refused(r.number, r.cell);
-    }
-    clear(&mut scratch[..SCRATCH_SIZE]);
-    clear(&mut second[..SECOND_SIZE]);
-    Started::Begun
+    start_refusal(t, allowance, scratch.len(), second.len())?;
+    scratch[..SCRATCH_SIZE].fill(0);
+    second[..SECOND_SIZE].fill(0);
+    Ok(())
 }
 
-// A STEP: the questions, then one cell is finished; or all are.
+// A STEP: the questions, then one cell is finished, and told; or all are, and none is.
 pub fn step(
-    t: Columns,
+    t: &Columns,
     allowance: u32,
     scratch: &mut [u32],
     second: &mut [u32],
     positions: &mut [i32],
-) -> Stepped
-    ensures { Steps (table_of t) allowance scratch.old scratch.new second.old second.new positions.old positions.new result }
+) -> Result<Option<u16>, Refusal>
+    ensures { Steps (table_of t.now) allowance scratch.old scratch.new second.old second.new positions.old positions.new result }
 {
-    let r = step_refusal(t, allowance, scratch.len(), second.len(), positions.len());
-    if r.number != 0 {
-        return Stepped::Refused(r.number, r.cell);
-    }
-    advance(
+    step_refusal(t, allowance, scratch.len(), second.len(), positions.len())?;
+    let told = advance(
         t,
         allowance,
         &mut scratch[..SCRATCH_SIZE],
         &mut second[..SECOND_SIZE],
         positions,
-    )
+    );
+    Ok(told)
 }

@@ -1,6 +1,6 @@
 -- THE GUARD of a step over any content of the scratches: what the step reads can be added, and its rows are there. What the functions that finish one cell need and give.
 -- Nothing that a reader must believe stands here. Assumes nothing.
-use Rattle.std.specs.Prelude.{◌≡◌, ◌≢◌, List, Bool, true, false, ℕ, zero, suc, ◌+◌, ◌*◌, ◌≤◌, ◌<◌, length, get_or, set}
+use Rattle.std.specs.Prelude.{◌≡◌, ◌≢◌, List, Bool, true, false, ℕ, zero, suc, ◌+◌, ◌*◌, ◌≤◌, ◌<◌, length, set}
 use Rattle.plan.specs.Limits.{scratch_size, second_size, most_cells, last_row, farthest}
 use Rattle.rows.specs.Rows.{Low}
 use Rattle.joining.specs.Joining.{Memory, memory_of, mark, joined_rows}
@@ -32,11 +32,6 @@ Guards xs ms (suc p) f d y = Guarded xs ms (suc p) f d y
 pub record Tells (r : Bool) (P : Type 0) : Type 0 where
   pub yes : r ≡ true → P
   pub no : r ≡ false → P → ⊥
-
--- the greatest number of a list, and of its first i numbers
-pub record Greatest (xs : List ℕ) (g : ℕ) : Type 0 where
-  pub most : (i : ℕ) → get_or xs i 0 ≤ g
-  pub least : (b : ℕ) → ((i : ℕ) → get_or xs i 0 ≤ b) → g ≤ b
 
 -- ---- one cell
 -- what holds of the table and of the lengths, whatever the scratches hold

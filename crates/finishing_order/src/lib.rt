@@ -1,7 +1,7 @@
 // THE ORDER OF FINISHING (document 02, E9) along the links: its cell number k, and whether a cell is among the first k.
 #![tactic(auto)]
 
-ghost use Rattle.std.specs.Prelude.{◌≡◌, ◌||◌, ◌≤◌, ◌<◌, min, get_or, take};
+ghost use Rattle.std.specs.Prelude.{◌≡◌, ◌≤◌, ◌<◌, take};
 ghost use Rattle.plan.specs.Lists.{mem};
 ghost use Rattle.plan.specs.Fit.{Fit};
 ghost use Rattle.plan.specs.Columns.{table_of};
@@ -12,7 +12,6 @@ ghost use Rattle.finishing_order.specs.Order.{Falls, Seeks};
 use links::{link_of, links_of};
 use plan::Columns;
 use plan::limits::MOST_CELLS;
-use whole::numbers::wide16;
 
 // Cell number k of the order of finishing, and whether the cell sought is among the first k.
 #[derive(Drop)]
@@ -35,13 +34,6 @@ fn leaf(links: &[u16], c: usize, n: usize) -> usize
     a
 }
 
-pub fn parent_of(parents: &[u16; MOST_CELLS], c: usize) -> usize
-    requires { c < 256 }
-    ensures { result ≡ get_or parents.now c 0 }
-{
-    wide16(parents[c])
-}
-
 // The cell to finish after c.
 fn after(links: &[u16], parents: &[u16; MOST_CELLS], c: usize, n: usize) -> usize
     requires { Seeks links.now parents.now n × (c < n) }
@@ -52,18 +44,9 @@ fn after(links: &[u16], parents: &[u16; MOST_CELLS], c: usize, n: usize) -> usiz
     }
     let s = link_of(links, c, 1);
     if s == 0 {
-        return parent_of(parents, c);
+        return usize::from(parents[c]);
     }
     leaf(links, s, n)
-}
-
-fn either(a: bool, b: bool) -> bool
-    ensures { result ≡ a || b }
-{
-    if a {
-        return true;
-    }
-    b
 }
 
 // Cell number k of the order of finishing, and whether x is before it.
@@ -73,31 +56,20 @@ pub fn seek(links: &[u16], parents: &[u16; MOST_CELLS], k: usize, x: usize, n: u
 {
     let mut cell = leaf(links, 0, n);
     let mut met = false;
-    let mut i: usize = 0;
-    while i < k {
-        met = either(met, x == cell);
+    for _i in 0..k {
+        met = met || x == cell;
         cell = after(links, parents, cell, n);
-        i += 1;
     }
-    Sought {
-        cell: cell,
-        met: met,
-    }
-}
-
-fn fewer(a: usize, b: usize) -> usize
-    ensures { result ≡ min a b }
-{
-    if a < b { a } else { b }
+    Sought { cell, met }
 }
 
 // Whether x is among the first k cells of the order.
-pub fn is_finished(t: Columns, k: usize, x: usize) -> bool
-    requires { Fit (table_of t) }
-    ensures { result ≡ mem x (take k (postorder (table_of t))) }
+pub fn is_finished(t: &Columns, k: usize, x: usize) -> bool
+    requires { Fit (table_of t.now) }
+    ensures { result ≡ mem x (take k (postorder (table_of t.now))) }
 {
     let n = t.count;
-    let links = links_of(t);
-    let s = seek(&links, &t.parent, fewer(k, n), x, n);
+    let links = links_of(*t);
+    let s = seek(&links, &t.parent, k.min(n), x, n);
     s.met
 }

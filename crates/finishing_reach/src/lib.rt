@@ -8,40 +8,43 @@ ghost use Rattle.plan.specs.Columns.{table_of};
 ghost use Rattle.finishing_reach.specs.Reaching.{Reaches};
 ghost use Rattle.finishing_reach.specs.Reading.{read};
 
+use asking::asked;
 use finishing_asks::start_refusal;
 use finishing_order::is_finished;
 use finishing_step::count_of;
 use joining_cells::mark_of;
-use plan::Columns;
+use plan::{Columns, Refusal};
 
-// The left and the right reach of a finished subtree; or the refusal's number and cell.
+// The left and the right reach of a finished subtree.
 #[derive(Drop)]
-pub enum Reached {
-    Sides(u32, u32),
-    Refused(u8, u16),
+pub struct Sides {
+    pub left: u32,
+    pub right: u32,
 }
 
 // A reading, for a table that no question refuses: the marks of a finished cell.
-fn reading(t: Columns, scratch: &[u32], second: &[u32], c: usize) -> Reached
-    requires { Fit (table_of t) × (63 < length scratch.now) × (second_size ≤ length second.now) × (c < t.count) }
-    ensures { result ≡ read (table_of t) scratch.now second.now c }
+fn reading(t: &Columns, scratch: &[u32], second: &[u32], c: usize) -> Result<Sides, Refusal>
+    requires { Fit (table_of t.now) × (63 < length scratch.now) × (second_size ≤ length second.now) × (c < t.now.count) }
+    ensures { result ≡ read (table_of t.now) scratch.now second.now c }
 {
-    if is_finished(t, count_of(scratch), c) {
-        return Reached::Sides(mark_of(second, c, 1), mark_of(second, c, 2));
-    }
-    Reached::Refused(20, c as u16)
+    asked(20, is_finished(t, count_of(scratch), c), c)?;
+    Ok(Sides {
+        left: mark_of(second, c, 1),
+        right: mark_of(second, c, 2),
+    })
 }
 
 // THE REACH of the cell c, if it is finished: the questions, then the reading.
-pub fn reach(t: Columns, allowance: u32, scratch: &[u32], second: &[u32], cell: usize) -> Reached
-    ensures { Reaches (table_of t) allowance scratch.now second.now cell result }
+pub fn reach(
+    t: &Columns,
+    allowance: u32,
+    scratch: &[u32],
+    second: &[u32],
+    cell: usize,
+) -> Result<Sides, Refusal>
+    ensures { Reaches (table_of t.now) allowance scratch.now second.now cell result }
 {
-    let r = start_refusal(t, allowance, scratch.len(), second.len());
-    if r.number != 0 {
-        return Reached::Refused(r.number, r.cell);
-    }
-    if t.count <= cell {
-        return Reached::Refused(16, 0);
-    }
+    start_refusal(t, allowance, scratch.len(), second.len())?;
+    asked(16, cell < t.count, 0)?;
     reading(t, scratch, second, cell)
 }

@@ -12,22 +12,13 @@ use finishing_cell::take;
 use finishing_guard::COUNT_AT;
 use layout::draw;
 use plan::Columns;
-use whole::numbers::wide32;
-
-// A step's answer: the cell that it finished, or that all are finished; or the refusal's number and cell.
-#[derive(Drop)]
-pub enum Stepped {
-    Cell(u16),
-    Done,
-    Refused(u8, u16),
-}
 
 // The number of steps made.
 pub fn count_of(scratch: &[u32]) -> usize
     requires { 63 < length scratch.now }
     ensures { result ≡ get_or scratch.now 63 0 }
 {
-    wide32(scratch[COUNT_AT])
+    scratch[COUNT_AT] as usize
 }
 
 fn put_count(scratch: &mut [u32], v: u32)
@@ -38,39 +29,33 @@ fn put_count(scratch: &mut [u32], v: u32)
 }
 
 // After the last step the sheet is written.
-fn conclude(t: Columns, allowance: u32, last: bool, scratch: &mut [u32], positions: &mut [i32])
-    requires { Drawable (table_of t) (length scratch.old) (length positions.old) }
-    ensures { Concluded (table_of t) allowance last scratch.old scratch.new positions.old positions.new }
+fn conclude(t: &Columns, allowance: u32, last: bool, scratch: &mut [u32], positions: &mut [i32])
+    requires { Drawable (table_of t.now) (length scratch.old) (length positions.old) }
+    ensures { Concluded (table_of t.now) allowance last scratch.old scratch.new positions.old positions.new }
 {
     if last {
-        draw(t, allowance, scratch, positions);
-        return;
+        draw(*t, allowance, scratch, positions);
     }
 }
 
-// A step, for a table that no question refuses, over scratches of 16,384 and 1,024 numbers.
+// A step, for a table that no question refuses, over scratches of 16,384 and 1,024 numbers: the cell that it finished, or none if all are.
 pub fn advance(
-    t: Columns,
+    t: &Columns,
     allowance: u32,
     scratch: &mut [u32],
     marks: &mut [u32],
     positions: &mut [i32],
-) -> Stepped
-    requires { Steppable (table_of t) (length scratch.old) (length marks.old) × (2 * length (table_of t) ≤ length positions.old) }
-    ensures { Advances (table_of t) allowance (memory_of scratch.old marks.old) (memory_of scratch.new marks.new) positions.old positions.new result }
+) -> Option<u16>
+    requires { Steppable (table_of t.now) (length scratch.old) (length marks.old) × (2 * length (table_of t.now) ≤ length positions.old) }
+    ensures { Advances (table_of t.now) allowance (memory_of scratch.old marks.old) (memory_of scratch.new marks.new) positions.old positions.new result }
 {
     let n = t.count;
     let k = count_of(scratch);
     if n <= k {
-        return Stepped::Done;
+        return None;
     }
-    let s = take(t, k, allowance, scratch, marks);
-    let done = s.done;
-    let c = s.cell;
-    if done {
-        conclude(t, allowance, k + 1 == n, scratch, positions);
-        put_count(scratch, (k + 1) as u32);
-        return Stepped::Cell(c as u16);
-    }
-    Stepped::Done
+    let c = take(t, k, allowance, scratch, marks)?;
+    conclude(t, allowance, k + 1 == n, scratch, positions);
+    put_count(scratch, (k + 1) as u32);
+    Some(c as u16)
 }

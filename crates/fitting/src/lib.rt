@@ -7,7 +7,7 @@ ghost use Rattle.plan.specs.Plan.{row};
 ghost use Rattle.plan.specs.Fit.{Fit};
 ghost use Rattle.plan.specs.Trees.{Column};
 ghost use Rattle.plan.specs.Columns.{table_of};
-ghost use Rattle.plan.specs.Questions.{refusal, frame, frame_given};
+ghost use Rattle.plan.specs.Questions.{refusal, frame, frame_given, «passed»};
 ghost use Rattle.rules.specs.Placement.{width};
 ghost use Rattle.contours.specs.Sheet.{sheet};
 ghost use Rattle.least.specs.Frame.{fits, least_allowance, found};
@@ -16,51 +16,26 @@ ghost use Rattle.fitting.specs.Fitted.{told, Frames};
 
 use asking::tree::survey;
 use asking::{asked, counted_refusal};
-use layout::{clear, place};
+use layout::place;
 use plan::limits::{MOST_ALLOWANCE, MOST_CELLS, SCRATCH_SIZE};
 use plan::{Columns, Refusal};
 use positions::sheet_width;
 
-// The least allowance that fits, or none that does; or the refusal's number and cell.
-#[derive(Drop)]
-pub enum Fitted {
-    Allowance(u32),
-    None,
-    Refused(u8, u16),
-}
-
 // The questions that Frame puts: 1 (scratch), 4, 6 to 8, 11 to 13, 19.
-fn frame_refusal(t: Columns, squares: u32, scratch: usize) -> Refusal
-    ensures { result ≡ refusal frame (frame_given (table_of t) squares scratch) }
+fn frame_refusal(t: &Columns, squares: u32, scratch: usize) -> Result<(), Refusal>
+    ensures { result ≡ passed (refusal frame (frame_given (table_of t.now) squares scratch)) }
 {
-    let long = asked(1, SCRATCH_SIZE <= scratch, 0);
-    if long.number != 0 {
-        return long;
-    }
-    let lent = counted_refusal(&t.parent, &t.kind, &t.width, &t.depth, t.count);
-    if lent.number != 0 {
-        return lent;
-    }
+    asked(1, SCRATCH_SIZE <= scratch, 0)?;
+    counted_refusal(t)?;
     asked(19, 1 <= squares, 0)
 }
 
 // The row of each cell.
-pub fn tops_of(t: Columns) -> [u16; MOST_CELLS]
-    requires { Fit (table_of t) }
-    ensures { Column result t.count (row (table_of t)) }
+pub fn tops_of(t: &Columns) -> [u16; MOST_CELLS]
+    requires { Fit (table_of t.now) }
+    ensures { Column result t.now.count (row (table_of t.now)) }
 {
-    let mut counts = [0u16; MOST_CELLS];
-    let mut levels = [0u16; MOST_CELLS];
-    let mut tops = [0u16; MOST_CELLS];
-    survey(
-        &t.parent,
-        &t.depth,
-        t.count,
-        &mut counts,
-        &mut levels,
-        &mut tops,
-    );
-    tops
+    survey(t).rows
 }
 
 // The width of the sheet for this allowance, over a scratch of zeros. No position is written.
@@ -122,26 +97,24 @@ fn halved(t: Columns, tops: &[u16; MOST_CELLS], squares: u32, scratch: &mut [u32
     low
 }
 
-// The answer for a table that no question refuses, over a scratch of 16,384 numbers: at most 17 sheets, one clearing.
-fn searched(t: Columns, squares: u32, scratch: &mut [u32]) -> Fitted
+// The least allowance that fits, or none that does, for a table that no question refuses and a scratch of 16,384 numbers:
+// at most 17 sheets, one clearing.
+fn searched(t: Columns, squares: u32, scratch: &mut [u32]) -> Option<u32>
     requires { Fit (table_of t) × (length scratch.old ≡ scratch_size) }
     ensures { (result ≡ told (least_allowance (table_of t) squares)) × (scratch.new ≡ replicate scratch_size 0) }
 {
-    clear(scratch);
-    let tops = tops_of(t);
+    scratch.fill(0);
+    let tops = tops_of(&t);
     if fits(t, &tops, squares, MOST_ALLOWANCE, scratch) {
-        return Fitted::Allowance(halved(t, &tops, squares, scratch));
+        return Some(halved(t, &tops, squares, scratch));
     }
-    Fitted::None
+    None
 }
 
 // Frame: the questions, then the search.
-pub fn frame(t: Columns, squares: u32, scratch: &mut [u32]) -> Fitted
+pub fn frame(t: Columns, squares: u32, scratch: &mut [u32]) -> Result<Option<u32>, Refusal>
     ensures { Frames (table_of t) squares scratch.old scratch.new result }
 {
-    let r = frame_refusal(t, squares, scratch.len());
-    if r.number != 0 {
-        return Fitted::Refused(r.number, r.cell);
-    }
-    searched(t, squares, &mut scratch[..SCRATCH_SIZE])
+    frame_refusal(&t, squares, scratch.len())?;
+    Ok(searched(t, squares, &mut scratch[..SCRATCH_SIZE]))
 }

@@ -3,9 +3,7 @@
 
 ghost use Rattle.std.specs.Prelude.{◌≡◌, ◌+◌, ◌*◌, ◌≤◌, ◌<◌, length, get_or};
 ghost use Rattle.links.specs.Links.{link};
-ghost use Rattle.following_cell.specs.Opening.{after, later, hops, repeated, picked, waiting, answered, opened, Row, Cell};
-
-use whole::numbers::wide16;
+ghost use Rattle.following_cell.specs.Opening.{nothing, once, after, later, hops, repeated, picked, waiting, answered, opened, Row, Cell};
 
 // What is still to do of an open cell: the next child, 0 where there is none, and how often.
 #[derive(Drop)]
@@ -14,12 +12,21 @@ pub struct Todo {
     pub times: u8,
 }
 
-// What a cell does when it is opened: its next child and how often; how the drill ended (0 goes on, 1 spent, 2 wrong, 3 full); bytes used.
+// Whether the drill goes on, and how it ended where it does not.
+#[derive(Clone, Copy, PartialEq, Eq)]
+pub enum Halt {
+    Going,
+    Spent,
+    Wrong,
+    Full,
+}
+
+// What a cell does when it is opened: its next child and how often; whether the drill goes on; bytes used.
 #[derive(Drop)]
 pub struct Opened {
     pub next: u16,
     pub times: u8,
-    pub halt: u8,
+    pub halt: Halt,
     pub used: usize,
 }
 
@@ -28,7 +35,7 @@ fn link(links: &[u16], c: u16, k: usize) -> u16
     requires { (4 * c + 4 ≤ length links.now) × (k < 4) }
     ensures { result ≡ link links.now c k }
 {
-    links[4 * wide16(c) + k]
+    links[4 * usize::from(c) + k]
 }
 
 // What an open cell of this kind does after its child n, which was to be done so often.
@@ -68,12 +75,34 @@ fn sibling(links: &[u16], n: u16, a: u8) -> u16
     ensures { result ≡ hops links.now n a }
 {
     let mut s = n;
-    let mut i = a;
-    while 0 < i {
+    for _i in 0..a {
         s = later(links, s);
-        i -= 1;
     }
     s
+}
+
+// Nothing is to do.
+fn nothing(halt: Halt, used: usize) -> Opened
+    ensures { result ≡ nothing halt used }
+{
+    Opened {
+        next: 0,
+        times: 0,
+        halt,
+        used,
+    }
+}
+
+// The child n is to be done once.
+fn once(n: u16, used: usize) -> Opened
+    ensures { result ≡ once n used }
+{
+    Opened {
+        next: n,
+        times: 1,
+        halt: Halt::Going,
+        used,
+    }
 }
 
 // A repeat, whose byte is a.
@@ -81,17 +110,12 @@ fn repeated(first: u16, a: u8, used: usize) -> Opened
     ensures { result ≡ repeated first a used }
 {
     if a == 0 {
-        return Opened {
-            next: 0,
-            times: 0,
-            halt: 0,
-            used,
-        };
+        return nothing(Halt::Going, used);
     }
     Opened {
         next: first,
         times: a,
-        halt: 0,
+        halt: Halt::Going,
         used,
     }
 }
@@ -101,19 +125,9 @@ fn picked(n: u16, used: usize) -> Opened
     ensures { result ≡ picked n used }
 {
     if n == 0 {
-        return Opened {
-            next: 0,
-            times: 0,
-            halt: 2,
-            used,
-        };
+        return nothing(Halt::Wrong, used);
     }
-    Opened {
-        next: n,
-        times: 1,
-        halt: 0,
-        used,
-    }
+    once(n, used)
 }
 
 // A wait, whose byte is a.
@@ -121,27 +135,12 @@ fn waiting(first: u16, a: u8, used: usize) -> Opened
     ensures { result ≡ waiting first a used }
 {
     if a == 0 {
-        return Opened {
-            next: 0,
-            times: 0,
-            halt: 0,
-            used,
-        };
+        return nothing(Halt::Going, used);
     }
     if a == 1 {
-        return Opened {
-            next: first,
-            times: 1,
-            halt: 0,
-            used,
-        };
+        return once(first, used);
     }
-    Opened {
-        next: 0,
-        times: 0,
-        halt: 2,
-        used,
-    }
+    nothing(Halt::Wrong, used)
 }
 
 // A repeat, a choice or a wait s, whose byte is a.
@@ -172,20 +171,10 @@ pub fn open_cell(links: &[u16], answers: &[u8], s: u16, kind: u8, used: usize) -
     ensures { result ≡ opened links.now answers.now s kind used }
 {
     if kind == 2 {
-        return Opened {
-            next: link(links, s, 0),
-            times: 1,
-            halt: 0,
-            used,
-        };
+        return once(link(links, s, 0), used);
     }
     if used < answers.len() {
         return answered(links, s, kind, byte_at(answers, used), used + 1);
     }
-    Opened {
-        next: 0,
-        times: 0,
-        halt: 1,
-        used,
-    }
+    nothing(Halt::Spent, used)
 }

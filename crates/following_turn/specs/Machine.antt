@@ -1,6 +1,9 @@
 -- The drill as a machine: a stack of open cells, each with what is still to do of it. What the code's functions are proved equal to; nothing that a reader must believe stands here. Assumes nothing.
-use Rattle.std.specs.Prelude.{◌≡◌, List, [], ◌∷◌, true, false, ℕ, zero, suc, ◌-◌, ◌≤◌, get_or, take, eqb}
+use Rattle.std.specs.Prelude.{◌≡◌, Bool, List, [], ◌∷◌, true, false, ℕ, zero, suc, ◌-◌, ◌≤◌, get_or, take, eqb}
 use Rattle.following_cell.specs.declared.Opened.{Opened}
+use Rattle.following_cell.specs.declared.Halt.{Halt}
+use Rattle.following_cell.specs.declared.Halt.TheVariants.{Going, Spent, Wrong, Full}
+use Rattle.following_turn.specs.declared.Open.{Open}
 use Rattle.moves.specs.Drill.{Outcome, finished, spent, wrong, full, Drill, recorded}
 use Rattle.following_cell.specs.Opening.{after, opened}
 
@@ -24,8 +27,8 @@ pub record Chain : Type 0 where
   pub times : List ℕ
   pub count : ℕ
 
-abbrev pub chain : (cells nexts times : List ℕ) → ℕ → Chain
-chain cs ns ks n = record { cells = cs; nexts = ns; times = ks; count = n }
+abbrev pub chain : Open → ℕ → Chain
+chain o n = record { cells = o.cells; nexts = o.nexts; times = o.times; count = n }
 
 abbrev pub frames : Chain → List Frame
 frames c = frames_of c.cells c.nexts c.times c.count
@@ -42,17 +45,23 @@ pub record State : Type 0 where
   pub stack : List Frame
   pub drill : Drill
 
--- how it ended, as the code numbers it
-unfoldable pub outcome_of : ℕ → Outcome
-outcome_of zero = finished
-outcome_of (suc zero) = spent
-outcome_of (suc (suc zero)) = wrong
-outcome_of (suc (suc (suc k))) = full
+-- how it ended; it is finished if nothing is left to do
+unfoldable pub outcome_of : Halt → Outcome
+outcome_of Going = finished
+outcome_of Spent = spent
+outcome_of Wrong = wrong
+outcome_of Full = full
 
-abbrev pub so_far : (halt used records : ℕ) → List ℕ → Drill
+abbrev pub goes : Halt → Bool
+goes Going = true
+goes Spent = false
+goes Wrong = false
+goes Full = false
+
+abbrev pub so_far : Halt → (used records : ℕ) → List ℕ → Drill
 so_far halt used records list = record { outcome = outcome_of halt; used = used; steps = take records list }
 
-abbrev pub state_of : Chain → (halt used records : ℕ) → List ℕ → State
+abbrev pub state_of : Chain → Halt → (used records : ℕ) → List ℕ → State
 state_of c halt used records list = record { stack = frames c; drill = so_far halt used records list }
 
 -- what is beyond stays

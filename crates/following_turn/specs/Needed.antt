@@ -1,14 +1,15 @@
 -- What the drill's functions need, and what they write. Nothing that a reader must believe stands here. Assumes nothing.
 use Rattle.std.specs.Prelude.{◌≡◌, List, ℕ, ◌+◌, ◌*◌, ◌≤◌, ◌<◌, length, get_or}
 use Rattle.plan.specs.Limits.{most_steps}
+use Rattle.following_turn.specs.declared.Open.{Open}
 use Rattle.following_turn.specs.Machine.{Chain, top, Beyond}
 use Rattle.following_cell.specs.Opening.{Cell}
 
 -- the arrays of the chain have 32 places each
-pub record Arrays (cells nexts times : List ℕ) : Type 0 where
-  pub cells_long : length cells ≡ 32
-  pub nexts_long : length nexts ≡ 32
-  pub times_long : length times ≡ 32
+pub record Arrays (o : Open) : Type 0 where
+  pub cells_long : length o.cells ≡ 32
+  pub nexts_long : length o.nexts ≡ 32
+  pub times_long : length o.times ≡ 32
 
 -- the child at place k of the chain may be begun
 pub record Passing (ls nexts : List ℕ) (k : ℕ) : Type 0 where

@@ -5,18 +5,26 @@ ghost use Rattle.std.specs.Prelude.{◌≡◌, ◌∷◌, ◌+◌, ◌≤◌, �
 ghost use Rattle.plan.specs.Limits.{most_steps};
 ghost use Rattle.moves.specs.Drill.{recorded};
 ghost use Rattle.following_cell.specs.Opening.{after};
-ghost use Rattle.following_turn.specs.Machine.{frame, frames_of, chain, enter, step, «so_far», state_of};
+ghost use Rattle.following_cell.specs.declared.Halt.TheVariants.{Going};
+ghost use Rattle.following_turn.specs.Machine.{frame, frames, chain, enter, step, «so_far», state_of};
 ghost use Rattle.following_turn.specs.Needed.{Arrays, Passing, Entering, Turning, Wrote};
 
-use following_cell::{after, open_cell};
+use following_cell::{Halt, after, open_cell};
 use plan::limits::MOST_STEPS;
-use whole::numbers::wide16;
 
-// The drill after a turn: the number of open cells, how it ended, as above, bytes used and records.
+// The chain of open cells, from the root down: the cell, its next child, how often that one. It is lent, not copied.
+#[derive(Drop)]
+pub struct Open {
+    pub cells: [u16; 32],
+    pub nexts: [u16; 32],
+    pub times: [u8; 32],
+}
+
+// The drill after a turn: the number of open cells, whether it goes on, bytes used and records.
 #[derive(Drop)]
 pub struct Turned {
     pub count: usize,
-    pub halt: u8,
+    pub halt: Halt,
     pub used: usize,
     pub records: usize,
 }
@@ -25,43 +33,36 @@ fn kind_of(kinds: &[u8], c: u16) -> u8
     requires { c < length kinds.now }
     ensures { result ≡ get_or kinds.now c 0 }
 {
-    kinds[wide16(c)]
+    kinds[usize::from(c)]
 }
 
-// The chain of open cells, from the root down, is three arrays that are lent, not copied: the cell, its next child, how often that one. One more open cell.
-fn pushed(
-    cells: &mut [u16; 32],
-    nexts: &mut [u16; 32],
-    times: &mut [u8; 32],
-    count: usize,
-    s: u16,
-    next: u16,
-    often: u8,
-)
-    requires { (count < 32) × Arrays cells.old nexts.old times.old }
-    ensures arrays { Arrays cells.new nexts.new times.new }
-    ensures count_after { frames_of cells.new nexts.new times.new (count + 1) ≡ frame s next often ∷ frames_of cells.old nexts.old times.old count }
+// One more open cell.
+fn pushed(path: &mut Open, count: usize, s: u16, next: u16, often: u8)
+    requires { (count < 32) × Arrays path.old }
+    ensures arrays { Arrays path.new }
+    ensures count_after { frames (chain path.new (count + 1)) ≡ frame s next often ∷ frames (chain path.old count) }
 {
-    cells[count] = s;
-    nexts[count] = next;
-    times[count] = often;
+    path.cells[count] = s;
+    path.nexts[count] = next;
+    path.times[count] = often;
 }
 
 // The next child of the latest open cell, which is of this kind, is begun: what is to do after it.
-fn passed(links: &[u16], kind: u8, nexts: &mut [u16; 32], times: &mut [u8; 32], k: usize)
-    requires { Passing links.now nexts.old k }
-    ensures nexts_after { nexts.new ≡ set nexts.old k (after links.now kind (get_or nexts.old k 0) (get_or times.old k 0)).next }
-    ensures times_after { times.new ≡ set times.old k (after links.now kind (get_or nexts.old k 0) (get_or times.old k 0)).times }
+fn passed(links: &[u16], kind: u8, path: &mut Open, k: usize)
+    requires { Passing links.now path.old.nexts k }
+    ensures cells_after { path.new.cells ≡ path.old.cells }
+    ensures nexts_after { path.new.nexts ≡ set path.old.nexts k (after links.now kind (get_or path.old.nexts k 0) (get_or path.old.times k 0)).next }
+    ensures times_after { path.new.times ≡ set path.old.times k (after links.now kind (get_or path.old.nexts k 0) (get_or path.old.times k 0)).times }
 {
-    let t = after(links, kind, nexts[k], times[k]);
-    nexts[k] = t.next;
-    times[k] = t.times;
+    let t = after(links, kind, path.nexts[k], path.times[k]);
+    path.nexts[k] = t.next;
+    path.times[k] = t.times;
 }
 
 // A step s, which is opened, is recorded, where there is room.
 fn recorded(s: u16, at: Turned, list: &mut [u16]) -> Turned
     requires { (at.count < 32) × (at.records ≤ most_steps) × (most_steps ≤ length list.old) }
-    ensures count_value { (result.count ≡ at.count + 1) × (so_far result.halt result.used result.records list.new ≡ recorded s (so_far 0 at.used at.records list.old)) }
+    ensures count_value { (result.count ≡ at.count + 1) × (so_far result.halt result.used result.records list.new ≡ recorded s (so_far Going at.used at.records list.old)) }
     ensures wrote { Wrote at.records result.records list.old list.new }
 {
     let k = at.records;
@@ -69,14 +70,14 @@ fn recorded(s: u16, at: Turned, list: &mut [u16]) -> Turned
         list[k] = s;
         return Turned {
             count: at.count + 1,
-            halt: 0,
+            halt: Halt::Going,
             used: at.used,
             records: k + 1,
         };
     }
     Turned {
         count: at.count + 1,
-        halt: 3,
+        halt: Halt::Full,
         used: at.used,
         records: k,
     }
@@ -88,23 +89,21 @@ pub fn entered(
     kinds: &[u8],
     answers: &[u8],
     s: u16,
-    cells: &mut [u16; 32],
-    nexts: &mut [u16; 32],
-    times: &mut [u8; 32],
+    path: &mut Open,
     at: Turned,
     list: &mut [u16],
 ) -> Turned
-    requires { Entering links.now kinds.now s at.count at.records list.old × Arrays cells.old nexts.old times.old }
-    ensures list_after { state_of (chain cells.new nexts.new times.new result.count) result.halt result.used result.records list.new ≡ enter links.now kinds.now answers.now s (frames_of cells.old nexts.old times.old at.count) (so_far 0 at.used at.records list.old) }
-    ensures wrote { Wrote at.records result.records list.old list.new × Arrays cells.new nexts.new times.new }
+    requires { Entering links.now kinds.now s at.count at.records list.old × Arrays path.old }
+    ensures list_after { state_of (chain path.new result.count) result.halt result.used result.records list.new ≡ enter links.now kinds.now answers.now s (frames (chain path.old at.count)) (so_far Going at.used at.records list.old) }
+    ensures wrote { Wrote at.records result.records list.old list.new × Arrays path.new }
 {
     let kind = kind_of(kinds, s);
     if kind == 1 {
-        pushed(cells, nexts, times, at.count, s, 0, 0);
+        pushed(path, at.count, s, 0, 0);
         return recorded(s, at, list);
     }
     let o = open_cell(links, answers, s, kind, at.used);
-    pushed(cells, nexts, times, at.count, s, o.next, o.times);
+    pushed(path, at.count, s, o.next, o.times);
     Turned {
         count: at.count + 1,
         halt: o.halt,
@@ -118,26 +117,24 @@ pub fn turn(
     links: &[u16],
     kinds: &[u8],
     answers: &[u8],
-    cells: &mut [u16; 32],
-    nexts: &mut [u16; 32],
-    times: &mut [u8; 32],
+    path: &mut Open,
     at: Turned,
     list: &mut [u16],
 ) -> Turned
-    requires { Turning links.now kinds.now (chain cells.old nexts.old times.old at.count) at.records list.old × Arrays cells.old nexts.old times.old }
-    ensures list_after { state_of (chain cells.new nexts.new times.new result.count) result.halt result.used result.records list.new ≡ step links.now kinds.now answers.now (state_of (chain cells.old nexts.old times.old at.count) 0 at.used at.records list.old) }
-    ensures wrote { Wrote at.records result.records list.old list.new × Arrays cells.new nexts.new times.new }
+    requires { Turning links.now kinds.now (chain path.old at.count) at.records list.old × Arrays path.old }
+    ensures list_after { state_of (chain path.new result.count) result.halt result.used result.records list.new ≡ step links.now kinds.now answers.now (state_of (chain path.old at.count) Going at.used at.records list.old) }
+    ensures wrote { Wrote at.records result.records list.old list.new × Arrays path.new }
 {
     let k = at.count - 1;
-    let n = nexts[k];
+    let n = path.nexts[k];
     if n == 0 {
         return Turned {
             count: k,
-            halt: 0,
+            halt: Halt::Going,
             used: at.used,
             records: at.records,
         };
     }
-    passed(links, kind_of(kinds, cells[k]), nexts, times, k);
-    entered(links, kinds, answers, n, cells, nexts, times, at, list)
+    passed(links, kind_of(kinds, path.cells[k]), path, k);
+    entered(links, kinds, answers, n, path, at, list)
 }

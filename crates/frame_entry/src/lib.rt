@@ -4,12 +4,11 @@
 ghost use Rattle.plan.specs.Records.{«cells_of»};
 ghost use Rattle.fitting.specs.Fitted.{Frames};
 
-use fitting::Fitted;
-use plan::Record;
+use plan::{Record, Refusal};
 use records::columns_of;
 
 // Frame: the least allowance whose sheet is no wider than a frame of so many squares, or none; or the refusal.
-pub fn frame(table: &[Record], squares: u32, scratch: &mut [u32]) -> Fitted
+pub fn frame(table: &[Record], squares: u32, scratch: &mut [u32]) -> Result<Option<u32>, Refusal>
     ensures { Frames (cells_of table.now) squares scratch.old scratch.new result }
 {
     let t = columns_of(table);

@@ -2,7 +2,7 @@
 // Trouble is told in one line on standard error. One byte more than a plan file may have is read, so that a longer one is refused.
 #![tactic(auto)]
 
-use argument_number::{NO_NUMBER, number_in};
+use argument_number::number_in;
 use frame_text::{FRAME_SIZE, write_frame};
 use plan::limits::MOST_FILE;
 use std::io::Read;
@@ -13,9 +13,9 @@ fn trouble(err: &impl Print, line: &[u8]) {
 }
 
 // The number that the one argument tells.
-fn squares<R: Env>(rt: &R) -> u64 {
+fn squares<R: Env>(rt: &R) -> Option<u32> {
     if input::argument_count(rt) != 2 {
-        return NO_NUMBER;
+        return None;
     }
     let mut text = [0u8; 4096];
     let n = input::argument(rt, 1, &mut text);
@@ -33,22 +33,20 @@ fn print_frame(out: &impl Print, err: &impl Print, file: &[u8], squares: u32) {
 // Reads the plan, and stops where that fails.
 fn frame_plan<F: Read>(out: &impl Print, err: &impl Print, from: &mut F, squares: u32) {
     let mut file = [0u8; MOST_FILE + 1];
-    let input = input::read_whole(from, &mut file);
-    if input::failed(input) {
+    let Ok(input) = input::read_whole(from, &mut file) else {
         trouble(err, b"frame: the plan cannot be read\n");
         return;
-    }
+    };
     let n = input.length;
     print_frame(out, err, &file[..n], squares);
 }
 
 fn main(rt: HostRuntime) {
     let err = rt.stderr();
-    let told = squares(&rt);
-    if NO_NUMBER <= told {
+    let Some(squares) = squares(&rt) else {
         trouble(&err, b"frame: the frame is a number of squares\n");
         return;
-    }
+    };
     let mut from = rt.stdin();
-    frame_plan(&rt.stdout(), &err, &mut from, told as u32);
+    frame_plan(&rt.stdout(), &err, &mut from, squares);
 }

@@ -1,5 +1,5 @@
 -- WHAT THE PROGRAM `frame` PRINTS (document 02, E2) of a plan file and a frame of so many squares, every byte of it: one line. Every definition computes. Assumes nothing.
-use Rattle.std.specs.Prelude.{cond, List, [], ◌∷◌, ℕ, eqb}
+use Rattle.std.specs.Prelude.{cond, List, [], ◌∷◌, ℕ, eqb, Option, Some, None, Result, Ok, Err}
 use Rattle.whole.specs.Whole.{plus}
 use Rattle.plan.specs.Limits.{most_cells, most_allowance, scratch_size}
 use Rattle.plan.specs.Plan.{Table}
@@ -7,12 +7,11 @@ use Rattle.plan.specs.Columns.{table_of}
 use Rattle.plan.specs.Questions.{refusal, frame, frame_given}
 use Rattle.rules.specs.Placement.{width, rows}
 use Rattle.contours.specs.Sheet.{sheet}
-use Rattle.layout.specs.declared.Measures.{Measures}
+use Rattle.plan.specs.declared.Measures.{Measures}
+use Rattle.plan.specs.declared.Refusal.{Refusal}
 use Rattle.planfile_spec.specs.Reading.{reading_of}
 use Rattle.listing.specs.Printed.{Bytes, line, decimal, refused_line}
 use Rattle.fitting.specs.Fitted.{fitted_of}
-use Rattle.fitting.specs.declared.Fitted.{Fitted}
-use Rattle.fitting.specs.declared.Fitted.TheVariants.{Allowance, None, Refused}
 
 -- the words `allowance`, `none`, `width` and `rows`
 abbrev pub allowance_word : Bytes
@@ -43,10 +42,10 @@ unfoldable pub measures_of : Table → (allowance : ℕ) → Measures
 measures_of t al = record { width = plus (width t (sheet t al)); rows = plus (rows t (sheet t al)) }
 
 -- the line of Frame's answer: the allowance with its sheet; none with the sheet at 65,535, than which none is narrower; or the refusal
-unfoldable pub fitted_line : Table → Fitted → Bytes
-fitted_line t (Allowance a) = allowance_line a (measures_of t a).width (measures_of t a).rows
-fitted_line t None = none_line (measures_of t most_allowance).width (measures_of t most_allowance).rows
-fitted_line t (Refused k c) = refused_line k c
+unfoldable pub fitted_line : Table → Result (Option ℕ) Refusal → Bytes
+fitted_line t (Ok (Some a)) = allowance_line a (measures_of t a).width (measures_of t a).rows
+fitted_line t (Ok None) = none_line (measures_of t most_allowance).width (measures_of t most_allowance).rows
+fitted_line t (Err r) = refused_line r.number r.cell
 
 -- Frame's answer of a table, with a scratch that is long enough
 unfoldable pub answer_line : Table → (squares : ℕ) → Bytes

@@ -1,21 +1,27 @@
 -- A join in columns, as the code makes it. Nothing that a reader must believe stands here. Assumes nothing.
-use Rattle.std.specs.Prelude.{List, cond, ℕ, ◌+◌, ◌-◌, ◌≤◌, ◌<◌, eqb, leb, ltb, length, get_or}
+use Rattle.std.specs.Prelude.{List, Result, cond, ℕ, zero, suc, ◌+◌, ◌-◌, ◌≤◌, ◌<◌, eqb, leb, ltb, length, get_or, set, replicate}
 use Rattle.plan.specs.Limits.{most_cells}
 use Rattle.plan.specs.Plan.{Table}
 use Rattle.plan.specs.Columns.{table_of}
-use Rattle.plan.specs.Questions.{none, asked, or_else}
+use Rattle.plan.specs.Questions.{asked, or_else, answered}
 use Rattle.plan.specs.declared.Columns.{Columns}
 use Rattle.plan.specs.declared.Lettered.{Lettered}
 use Rattle.plan.specs.declared.Refusal.{Refusal}
 use Rattle.planfile_spec.specs.Reading.{column}
-use Rattle.planfile_spec.specs.FileSteps.{blank_reading}
 use Rattle.graft.specs.Sequence.{join_refusal, counted, part_refusal}
-use Rattle.grafting.specs.declared.Graft.{Graft}
-use Rattle.grafting.specs.declared.JoinAnswer.TheVariants.{Plan, Refused}
 
--- a number of cell i, n cells being the first's
+-- a value of cell i, n cells being the first's, and z where none is
+unfoldable pub picked_of : {A : Type 0} → (z : A) → (n : ℕ) → List A → List A → ℕ → A
+picked_of z n xs ys i = cond (ltb i n) (get_or xs i z) (get_or ys (i - n) z)
+
+-- 256 values: those of the first n cells, then z
+unfoldable pub column_of : {A : Type 0} → (z : A) → (ℕ → A) → ℕ → List A
+column_of z f zero = replicate most_cells z
+column_of z f (suc n) = set (column_of z f n) n (f n)
+
+-- a number of it
 unfoldable pub picked : (n : ℕ) → List ℕ → List ℕ → ℕ → ℕ
-picked n xs ys i = cond (ltb i n) (get_or xs i 0) (get_or ys (i - n) 0)
+picked n xs ys = picked_of 0 n xs ys
 
 -- its parent: the first's, c for the second's root, the second's raised
 unfoldable pub picked_parent : (n c : ℕ) → List ℕ → List ℕ → ℕ → ℕ
@@ -51,27 +57,16 @@ unfoldable pub ready_refusal : (room : ℕ) → Table → Table → ℕ → Refu
 ready_refusal room t u c =
     or_else (asked 1 (leb most_cells room) 0) (or_else (part_refusal t) (or_else (part_refusal u) (or_else (asked 16 (ltb c (length t)) 0) (counted (length t + length u)))))
 
--- no record, and the refusal
-unfoldable pub refused : Refusal → Graft
-refused r = record { reading = blank_reading r; answer = Refused r.number r.cell }
-
 -- these columns, with the label fields of both
-unfoldable pub accepted : Lettered → Lettered → Columns → Graft
+unfoldable pub accepted : Lettered → Lettered → Columns → Lettered
 accepted t u j =
     let n = t.columns.count in
     record {
-      reading = record {
-        refusal = none;
-        allowance = 0;
-        columns = j;
-        label_length = column (picked n t.label_length u.label_length) j.count;
-        label_start = column (picked n t.label_start u.label_start) j.count;
-      };
-      answer = Plan j.count;
+      columns = j;
+      label_length = column (picked n t.label_length u.label_length) j.count;
+      label_start = column (picked n t.label_start u.label_start) j.count;
     }
 
 -- THE answer of the code, for a table of so many records
-unfoldable pub graft_of : (room : ℕ) → Lettered → Lettered → ℕ → Graft
-graft_of room t u c =
-    let r = join_refusal room (table_of t.columns) (table_of u.columns) c in
-    cond (eqb r.number 0) (accepted t u (grafted t.columns u.columns c)) (refused r)
+unfoldable pub graft_of : (room : ℕ) → Lettered → Lettered → ℕ → Result Lettered Refusal
+graft_of room t u c = answered (join_refusal room (table_of t.columns) (table_of u.columns) c) (accepted t u (grafted t.columns u.columns c))

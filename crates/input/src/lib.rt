@@ -1,9 +1,9 @@
 // The whole of an input, read into a buffer. Every program reads by this: what was cut by an error is never taken for what the input has.
-// A contract can say how many bytes came, not which (they are the world's); that the three ends are told apart is tested from outside.
+// A contract can say how many bytes came, not which (they are the world's); that its end, more behind the buffer and an error are told apart is tested from outside.
 // Beside it what programs need that open their inputs themselves: how many arguments there are, a file by its name, and the line for one that cannot be read.
 #![tactic(auto)]
 
-ghost use Rattle.std.specs.Prelude.{◌≤◌, length};
+ghost use Rattle.std.specs.Prelude.{◌≤◌, length, IfOk, IfErr};
 ghost use Rattle.io.specs.Counts.{IsPrefixLen};
 
 use std::env::FillError;
@@ -11,78 +11,53 @@ use std::io::{ErrorKind, Read, Write};
 use std::rt::{Env, Files};
 use std::{fs, io};
 
-// How an input ended: all of it is in the buffer; it goes on behind the buffer's last byte; a read failed, and why.
-#[derive(Clone, Copy)]
-pub enum End {
-    Whole,
-    Longer,
-    Failed(io::Error),
-}
-
-// How many bytes at the buffer's start are the input's, and how it ended.
+// How many bytes at the buffer's start are the input's, and whether it goes on behind the buffer's last byte.
 #[derive(Clone, Copy)]
 pub struct Input {
     pub length: usize,
-    pub end: End,
+    pub longer: bool,
 }
 
-// How an input ends whose bytes fill the buffer.
-fn end_behind<R: Read>(from: &mut R) -> End {
-    let mut next = [0u8; 1];
-    match from.read(&mut next) {
-        Ok(count) => {
-            if count == 0 {
-                return End::Whole;
-            }
-            End::Longer
-        }
-        Err(e) => End::Failed(e),
-    }
+// A read failed: how many bytes at the buffer's start had come before it, and why it failed.
+#[derive(Clone, Copy)]
+pub struct Cut {
+    pub length: usize,
+    pub error: io::Error,
 }
 
-// Reads until the buffer is full, the input ends or a read fails.
-pub fn read_whole<R: Read>(from: &mut R, buffer: &mut [u8]) -> Input
-    ensures { IsPrefixLen result.length buffer.new }
+// Reads until the buffer is full, the input ends or a read fails; then what came is not the input.
+pub fn read_whole<R: Read>(from: &mut R, buffer: &mut [u8]) -> Result<Input, Cut>
+    ensures whole { IfOk result (λ i. IsPrefixLen i.length buffer.new) }
+    ensures cut { IfErr result (λ e. IsPrefixLen e.length buffer.new) }
 {
     let mut done: usize = 0;
     while done < buffer.len() {
         match from.read(&mut buffer[done..]) {
-            Ok(count) => {
-                if count == 0 {
-                    return Input {
-                        length: done,
-                        end: End::Whole,
-                    };
-                }
-                done += count;
-            }
-            Err(e) => {
-                return Input {
+            Ok(0) => {
+                return Ok(Input {
                     length: done,
-                    end: End::Failed(e),
-                };
+                    longer: false,
+                });
+            }
+            Ok(count) => done += count,
+            Err(error) => {
+                return Err(Cut {
+                    length: done,
+                    error,
+                });
             }
         }
     }
-    let end = end_behind(from);
-    Input { length: done, end }
-}
-
-// Whether a read failed, so that what came is not the input.
-pub fn failed(input: Input) -> bool {
-    if let End::Failed(_) = input.end {
-        true
-    } else {
-        false
-    }
-}
-
-// Whether the input is longer than the buffer.
-pub fn longer(input: Input) -> bool {
-    if let End::Longer = input.end {
-        true
-    } else {
-        false
+    let mut next = [0u8; 1];
+    match from.read(&mut next) {
+        Ok(more) => Ok(Input {
+            length: done,
+            longer: more != 0,
+        }),
+        Err(error) => Err(Cut {
+            length: done,
+            error,
+        }),
     }
 }
 

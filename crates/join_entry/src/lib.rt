@@ -4,25 +4,33 @@
 ghost use Rattle.grafting.specs.Joins.{Joins};
 ghost use Rattle.join_entry.specs.Hung.{Hangs};
 
-use grafting::JoinAnswer;
-use plan::{Lettered, Record};
+use plan::{Lettered, Record, Refusal};
 use records::{fill, lettered_of};
 
 // The joined records of two tables that were taken apart are written into the table to fill.
-fn hang(first: Lettered, second: Lettered, cell: usize, table: &mut [Record]) -> JoinAnswer
-    ensures { Hangs first second cell table.old table.new result }
+fn hang(
+    first: &Lettered,
+    second: &Lettered,
+    cell: usize,
+    table: &mut [Record],
+) -> Result<u16, Refusal>
+    ensures { Hangs first.now second.now cell table.old table.new result }
 {
-    let graft = grafting::join(first, second, cell, table.len());
-    let joined = graft.reading;
-    fill(joined, joined.columns.count, table);
-    graft.answer
+    let joined = grafting::join(first, second, cell, table.len())?;
+    fill(&joined, table);
+    Ok(joined.columns.count as u16)
 }
 
 // Join: the second plan, hung under a cell of the first, is written into the table to fill; how many records, or the refusal.
-pub fn join(first: &[Record], second: &[Record], cell: usize, table: &mut [Record]) -> JoinAnswer
+pub fn join(
+    first: &[Record],
+    second: &[Record],
+    cell: usize,
+    table: &mut [Record],
+) -> Result<u16, Refusal>
     ensures { Joins first.now second.now cell table.old table.new result }
 {
     let a = lettered_of(first);
     let b = lettered_of(second);
-    hang(a, b, cell, table)
+    hang(&a, &b, cell, table)
 }

@@ -1,16 +1,15 @@
 -- The join of two files as the code does it: what its functions ask of each other and give. Nothing that a reader must believe stands here. Assumes nothing.
-use Rattle.std.specs.Prelude.{◌≡◌, List, ℕ, ◌+◌, ◌≤◌, ◌<◌, length, get_or}
+use Rattle.std.specs.Prelude.{◌≡◌, List, Result, Ok, Err, ℕ, ◌+◌, ◌≤◌, ◌<◌, length, get_or}
 use Rattle.plan.specs.Limits.{most_cells, most_file, trailer_size}
 use Rattle.plan.specs.declared.Lettered.{Lettered}
-use Rattle.planfile_spec.specs.declared.Reading.{Reading}
+use Rattle.planfile_spec.specs.Read.{Reading}
 use Rattle.planfile_spec.specs.Format.{trailer_of}
 use Rattle.planfile_spec.specs.Reading.{column, reading_of}
 use Rattle.records.specs.Apart.{records_in}
 use Rattle.copying.specs.Copied.{Copies}
-use Rattle.copying.specs.declared.Copied.{Copied}
-use Rattle.copying.specs.declared.Copied.TheVariants.{Written, Refused}
-use Rattle.join_file_spec.specs.declared.Joined.{Joined}
-use Rattle.join_file_spec.specs.declared.Joined.TheVariants as joined
+use Rattle.plan.specs.declared.Refusal.{Refusal}
+use Rattle.join_file_spec.specs.declared.JoinError.{JoinError}
+use Rattle.join_file_spec.specs.declared.JoinError.TheVariants.{Refused}
 
 -- a file whose trailer is there, and points back into it
 pub record Ended (f : List ℕ) : Type 0 where
@@ -40,12 +39,12 @@ shifted by p =
     record { columns = p.columns; label_length = p.label_length; label_start = column (λ i. by + get_or p.label_start i 0) p.columns.count }
 
 -- the writer's answer as that of the join
-unfoldable pub told : Copied → Joined
-told (Written n) = joined.Written n
-told (Refused k a) = joined.Refused k a
+unfoldable pub told : Result ℕ Refusal → Result ℕ JoinError
+told (Ok n) = Ok n
+told (Err r) = Err (Refused r)
 
 -- the clean copy of a plan in columns is written
-pub record Writes (p : Reading) (letters : List ℕ) (al : ℕ) (out out' : List ℕ) (r : Joined) : Type 0 where
-  pub copied : Copied
-  pub copies : Copies (records_in (lettered p)) letters al out out' copied
+pub record Writes (t : Lettered) (letters : List ℕ) (al : ℕ) (out out' : List ℕ) (r : Result ℕ JoinError) : Type 0 where
+  pub copied : Result ℕ Refusal
+  pub copies : Copies (records_in t) letters al out out' copied
   pub answers : r ≡ told copied

@@ -1,5 +1,5 @@
 -- WHAT IS PROMISED of a joined file (document 02, E10). Statements only; the proofs are in laws/. Assumes nothing.
-use Rattle.std.specs.Prelude.{◌≡◌, List, [], ◌∷◌, ◌++◌, ℕ, ◌+◌, ◌≤◌, ◌<◌, T, length, drop}
+use Rattle.std.specs.Prelude.{◌≡◌, Result, Ok, Err, List, [], ◌∷◌, ◌++◌, ℕ, ◌+◌, ◌≤◌, ◌<◌, T, length, drop}
 use Rattle.plan.specs.Limits.{most_cells, most_file}
 use Rattle.plan.specs.Plan.{Is, within}
 use Rattle.plan.specs.Records.{cells_of}
@@ -12,35 +12,35 @@ use Rattle.planfile.specs.Subslice.{bytes_in}
 use Rattle.content.specs.Content.{file_content}
 use Rattle.graft.specs.Joined.{joined}
 use Rattle.join_file_spec.specs.Contents.{joined_content}
-use Rattle.join_file_spec.specs.Joined.{joined_file, tables_refusal, JoinsFiles}
-use Rattle.join_file_spec.specs.declared.Joined.{Joined}
-use Rattle.join_file_spec.specs.declared.Joined.TheVariants.{Written, FirstRefused, SecondRefused, Refused}
+use Rattle.join_file_spec.specs.Joined.{too_short, joined_file, tables_refusal, JoinsFiles}
+use Rattle.join_file_spec.specs.declared.JoinError.{JoinError}
+use Rattle.join_file_spec.specs.declared.JoinError.TheVariants.{FirstRefused, SecondRefused, Refused}
 use Rattle.join_file_spec.proofs.Laws.Answers as answers
 use Rattle.join_file_spec.proofs.Laws.Promised as laws
 
 -- ---- A call, refused or not. An output that is too short: 1;
-module _ (f : List ℕ) (c : ℕ) (g out out' : List ℕ) (r : Joined) (h : JoinsFiles f c g out out' r) where
-  pub short : length out < most_file → (r ≡ Refused 1 0) × (out' ≡ out)
+module _ (f : List ℕ) (c : ℕ) (g out out' : List ℕ) (r : Result ℕ JoinError) (h : JoinsFiles f c g out out' r) where
+  pub short : length out < most_file → (r ≡ Err (Refused too_short)) × (out' ≡ out)
   short = answers.short_refused f c g out out' r h
 
   module _ (room : most_file ≤ length out) where
     -- else Read's refusal of the first file;
-    pub first-refused : ¬ ((reading_of f most_cells).refusal.number ≡ 0) → (r ≡ FirstRefused (reading_of f most_cells).refusal.number (reading_of f most_cells).refusal.cell) × (out' ≡ out)
+    pub first-refused : ¬ ((reading_of f most_cells).refusal.number ≡ 0) → (r ≡ Err (FirstRefused (reading_of f most_cells).refusal)) × (out' ≡ out)
     first-refused = answers.first-refused f c g out out' r h room
 
     -- else Read's of the second;
     pub second-refused : (reading_of f most_cells).refusal.number ≡ 0 → ¬ ((reading_of g most_cells).refusal.number ≡ 0)
-        → (r ≡ SecondRefused (reading_of g most_cells).refusal.number (reading_of g most_cells).refusal.cell) × (out' ≡ out)
+        → (r ≡ Err (SecondRefused (reading_of g most_cells).refusal)) × (out' ≡ out)
     second-refused = answers.second-refused f c g out out' r h room
 
     -- else Join's; and the output is as it was;
     pub join-refused : (reading_of f most_cells).refusal.number ≡ 0 → (reading_of g most_cells).refusal.number ≡ 0 → ¬ ((tables_refusal f c g).number ≡ 0)
-        → (r ≡ Refused (tables_refusal f c g).number (tables_refusal f c g).cell) × (out' ≡ out)
+        → (r ≡ Err (Refused (tables_refusal f c g))) × (out' ≡ out)
     join-refused = answers.join-refused f c g out out' r h room
 
     -- else the joined file, and the rest of the output as it was: Copy refuses none of it.
     pub written : (reading_of f most_cells).refusal.number ≡ 0 → (reading_of g most_cells).refusal.number ≡ 0 → (tables_refusal f c g).number ≡ 0
-        → (r ≡ Written (length (joined_file f c g))) × (out' ≡ joined_file f c g ++ drop (length (joined_file f c g)) out)
+        → (r ≡ Ok (length (joined_file f c g))) × (out' ≡ joined_file f c g ++ drop (length (joined_file f c g)) out)
     written = answers.written f c g out out' r h room
 
 -- ---- Two files that Read accepts, and a cell of the first under which Join hangs the second

@@ -1,5 +1,5 @@
 -- WHAT THE JOIN OF TWO PLAN FILES ANSWERS (document 02, E10), and what it leaves in the output lent to it, on every input. Assumes nothing.
-use Rattle.std.specs.Prelude.{◌≡◌, cond, List, ◌++◌, ℕ, ◌≤◌, eqb, leb, length, drop}
+use Rattle.std.specs.Prelude.{◌≡◌, cond, List, ◌++◌, Result, Ok, Err, ℕ, ◌≤◌, eqb, leb, length, drop}
 use Rattle.plan.specs.Limits.{most_cells, most_file}
 use Rattle.plan.specs.Records.{cells_of}
 use Rattle.plan.specs.declared.Refusal.{Refusal}
@@ -9,8 +9,12 @@ use Rattle.content.specs.Content.{file_content}
 use Rattle.content.specs.Clean.{clean}
 use Rattle.graft.specs.Sequence.{join_refusal}
 use Rattle.join_file_spec.specs.Contents.{joined_content}
-use Rattle.join_file_spec.specs.declared.Joined.{Joined}
-use Rattle.join_file_spec.specs.declared.Joined.TheVariants.{Written, FirstRefused, SecondRefused, Refused}
+use Rattle.join_file_spec.specs.declared.JoinError.{JoinError}
+use Rattle.join_file_spec.specs.declared.JoinError.TheVariants.{FirstRefused, SecondRefused, Refused}
+
+-- question 1
+abbrev pub too_short : Refusal
+too_short = record { number = 1; cell = 0 }
 
 module _ (f : List ℕ) (c : ℕ) (g : List ℕ) where
   -- THE joined file: the clean copy of the joined content
@@ -22,34 +26,30 @@ module _ (f : List ℕ) (c : ℕ) (g : List ℕ) where
   tables_refusal = join_refusal most_cells (cells_of (records_of f)) (cells_of (records_of g)) c
 
   -- the answer, with an output of so many bytes: 1 (the output has 16,384), Read's questions of the first file, then of the second, then Join's
-  unfoldable pub joined_of : (room : ℕ) → Joined
+  unfoldable pub joined_of : (room : ℕ) → Result ℕ JoinError
   joined_of room =
       let a = (reading_of f most_cells).refusal in
       let b = (reading_of g most_cells).refusal in
       cond (leb most_file room)
       (cond (eqb a.number 0)
       (cond (eqb b.number 0)
-      (cond (eqb tables_refusal.number 0) (Written (length joined_file)) (Refused tables_refusal.number tables_refusal.cell))
-      (SecondRefused b.number b.cell))
-      (FirstRefused a.number a.cell))
-      (Refused 1 0)
+      (cond (eqb tables_refusal.number 0) (Ok (length joined_file)) (Err (Refused tables_refusal)))
+      (Err (SecondRefused b)))
+      (Err (FirstRefused a)))
+      (Err (Refused too_short))
 
   -- the lent output after it. Of a joined file: the file, the rest as it was. Of a refusal: as it was
-  unfoldable pub joined_after : Joined → (out : List ℕ) → List ℕ
-  joined_after (Written n) out = joined_file ++ drop n out
-  joined_after (FirstRefused k a) out = out
-  joined_after (SecondRefused k a) out = out
-  joined_after (Refused k a) out = out
+  unfoldable pub joined_after : Result ℕ JoinError → (out : List ℕ) → List ℕ
+  joined_after (Ok n) out = joined_file ++ drop n out
+  joined_after (Err e) out = out
 
 -- bytes of the file that is given
-unfoldable pub size : Joined → ℕ
-size (Written n) = n
-size (FirstRefused k a) = 0
-size (SecondRefused k a) = 0
-size (Refused k a) = 0
+unfoldable pub size : Result ℕ JoinError → ℕ
+size (Ok n) = n
+size (Err e) = 0
 
 -- a call: the answer, and the output before and after it. The length that question 1 asks for suffices
-pub record JoinsFiles (f : List ℕ) (c : ℕ) (g out out' : List ℕ) (r : Joined) : Type 0 where
+pub record JoinsFiles (f : List ℕ) (c : ℕ) (g out out' : List ℕ) (r : Result ℕ JoinError) : Type 0 where
   pub answers : r ≡ joined_of f c g (length out)
   pub output : out' ≡ joined_after f c g r out
   pub suffices : size r ≤ most_file

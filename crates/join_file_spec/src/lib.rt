@@ -1,11 +1,23 @@
-// The answer of which the definitions of a joined plan file speak.
+// The failure of which the definitions of a joined plan file speak.
 #![tactic(auto)]
 
-// The length of the joined file; or number and cell of a refusal: Read's of the first file, Read's of the second, or the join's.
-#[derive(Drop)]
-pub enum Joined {
-    Written(usize),
-    FirstRefused(u8, u16),
-    SecondRefused(u8, u16),
-    Refused(u8, u16),
+ghost use Rattle.std.specs.Prelude.{◌≡◌};
+ghost use Rattle.join_file_spec.specs.declared.JoinError.TheVariants.{Refused};
+
+use plan::Refusal;
+
+// Why two plan files are not joined: Read refuses the first file, or the second, or the join is refused.
+#[derive(Clone, Copy, Drop)]
+pub enum JoinError {
+    FirstRefused(Refusal),
+    SecondRefused(Refusal),
+    Refused(Refusal),
+}
+
+impl From<Refusal> for JoinError {
+    ghost from_gives = { λ r e. e ≡ Refused r };
+
+    fn from(refusal: Refusal) -> JoinError {
+        JoinError::Refused(refusal)
+    }
 }

@@ -3,12 +3,12 @@
 // One byte more than a plan file may have is read, so that a longer one is refused.
 #![tactic(auto)]
 
-use argument_number::{NO_NUMBER, number_in};
+use argument_number::number_in;
 use join_file::join_files;
-use join_file_spec::Joined;
+use join_file_spec::JoinError;
 use join_text::{JOIN_SIZE, write_join};
 use plan::limits::MOST_FILE;
-use saving::Saved;
+use saving::SaveError;
 use std::process::Process;
 use std::rt::{Env, Files};
 
@@ -16,45 +16,19 @@ fn trouble(err: &impl Print, text: &[u8]) {
     err.write_all(text).is_ok();
 }
 
-// The first bytes of a buffer; all of them where it is shorter.
-fn first(buffer: &[u8], n: usize) -> &[u8] {
-    if n > buffer.len() {
-        return buffer;
-    }
-    &buffer[..n]
-}
-
-// Stands for a file that cannot be read: more bytes than any buffer here has.
-const UNREAD: usize = 65536;
-
-// Reads the file of this name: how many bytes; UNREAD where it cannot be opened or read.
-fn read_file<R: Files>(rt: &R, path: &[u8], file: &mut [u8]) -> usize {
-    match input::open(rt, path) {
-        Ok(opened) => {
-            let mut from = opened;
-            let input = input::read_whole(&mut from, file);
-            if input::failed(input) {
-                return UNREAD;
-            }
-            input.length
-        }
-        Err(_) => UNREAD,
-    }
-}
-
-// The same of the file that argument i names.
-fn read_argument<R: Env + Files>(rt: &R, i: usize, file: &mut [u8]) -> usize {
+// The bytes of the file that argument i names; nothing where it cannot be opened or read.
+fn read_argument<'a, R: Env + Files>(rt: &R, i: usize, file: &'a mut [u8]) -> Option<&'a [u8]> {
     let mut path = [0u8; 4096];
-    match rt.arg(i, &mut path) {
-        Ok(length) => read_file(rt, &path[..length], file),
-        Err(_) => UNREAD,
-    }
+    let length = rt.arg(i, &mut path).ok()?;
+    let mut from = input::open(rt, &path[..length]).ok()?;
+    let n = input::read_whole(&mut from, file).ok()?.length;
+    Some(&file[..n])
 }
 
 // The line of a refusal.
-fn print_answer(out: &impl Print, err: &impl Print, answer: Joined) {
+fn print_error(out: &impl Print, err: &impl Print, error: JoinError) {
     let mut text = [0u8; JOIN_SIZE];
-    let n = write_join(answer, &mut text);
+    let n = write_join(Err(error), &mut text);
     if out.write_all(&text[..n]).is_err() {
         trouble(err, b"join: the refusal could not be written whole\n");
     }
@@ -69,9 +43,12 @@ fn hand_over<R: Env + Files>(rt: &R, process: Process, err: &impl Print, bytes: 
         return;
     }
     match saving::save(rt, process, &name[..n], bytes) {
-        Saved::Done => {}
-        Saved::NotRegular => trouble(err, b"join: OUT is no regular file, and is not replaced\n"),
-        Saved::Failed => trouble(err, b"join: the file could not be written\n"),
+        Ok(()) => {}
+        Err(SaveError::NotRegular) => trouble(
+            err,
+            b"join: OUT is no regular file, and is not replaced\n",
+        ),
+        Err(SaveError::Failed) => trouble(err, b"join: the file could not be written\n"),
     }
 }
 
@@ -85,10 +62,9 @@ fn join_plans<R: Env + Files>(
     second_plan: &[u8],
 ) {
     let mut joined = [0u8; MOST_FILE];
-    let answer = join_files(first_plan, cell, second_plan, &mut joined);
-    match answer {
-        Joined::Written(length) => hand_over(rt, process, err, first(&joined, length)),
-        refused => print_answer(out, err, refused),
+    match join_files(first_plan, cell, second_plan, &mut joined) {
+        Ok(length) => hand_over(rt, process, err, joined.get(..length).unwrap_or(&joined)),
+        Err(error) => print_error(out, err, error),
     }
 }
 
@@ -101,18 +77,16 @@ fn read_plans<R: Env + Files>(
     cell: usize,
 ) {
     let mut a = [0u8; MOST_FILE + 1];
-    let n = read_argument(rt, 1, &mut a);
-    if n == UNREAD {
+    let Some(first_plan) = read_argument(rt, 1, &mut a) else {
         trouble(err, b"join: the first plan's file cannot be read\n");
         return;
-    }
+    };
     let mut b = [0u8; MOST_FILE + 1];
-    let m = read_argument(rt, 3, &mut b);
-    if m == UNREAD {
+    let Some(second_plan) = read_argument(rt, 3, &mut b) else {
         trouble(err, b"join: the second plan's file cannot be read\n");
         return;
-    }
-    join_plans(rt, process, out, err, first(&a, n), cell, first(&b, m));
+    };
+    join_plans(rt, process, out, err, first_plan, cell, second_plan);
 }
 
 fn main(rt: HostRuntime) {
@@ -126,10 +100,9 @@ fn main(rt: HostRuntime) {
     }
     let mut text = [0u8; 4096];
     let n = input::argument(&rt, 2, &mut text);
-    let cell = number_in(&text[..n]);
-    if NO_NUMBER <= cell {
+    let Some(cell) = number_in(&text[..n]) else {
         trouble(&err, b"join: the cell is a number\n");
         return;
-    }
+    };
     read_plans(&rt, rt.process(), &rt.stdout(), &err, cell as usize);
 }

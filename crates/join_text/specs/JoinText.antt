@@ -1,8 +1,8 @@
 -- WHAT THE PROGRAM `join` PRINTS, every byte of it: `first refused 7 3`, `second refused 2 0`, `refused 16 0`; nothing where the joined file is written. Every definition computes. Assumes nothing.
-use Rattle.std.specs.Prelude.{[], ◌∷◌, ◌++◌, ℕ}
+use Rattle.std.specs.Prelude.{[], ◌∷◌, ◌++◌, Result, Ok, Err, ℕ}
 use Rattle.listing.specs.Printed.{Bytes, space, refused_line}
-use Rattle.join_file_spec.specs.declared.Joined.{Joined}
-use Rattle.join_file_spec.specs.declared.Joined.TheVariants.{Written, FirstRefused, SecondRefused, Refused}
+use Rattle.join_file_spec.specs.declared.JoinError.{JoinError}
+use Rattle.join_file_spec.specs.declared.JoinError.TheVariants.{FirstRefused, SecondRefused, Refused}
 
 -- the words `first` and `second`
 abbrev pub first_word : Bytes
@@ -12,11 +12,11 @@ abbrev pub second_word : Bytes
 second_word = 115 ∷ 101 ∷ 99 ∷ 111 ∷ 110 ∷ 100 ∷ []
 
 -- THE text of an answer
-unfoldable pub join_text : Joined → Bytes
-join_text (Written n) = []
-join_text (FirstRefused k c) = first_word ++ (space ∷ refused_line k c)
-join_text (SecondRefused k c) = second_word ++ (space ∷ refused_line k c)
-join_text (Refused k c) = refused_line k c
+unfoldable pub join_text : Result ℕ JoinError → Bytes
+join_text (Ok n) = []
+join_text (Err (FirstRefused r)) = first_word ++ (space ∷ refused_line r.number r.cell)
+join_text (Err (SecondRefused r)) = second_word ++ (space ∷ refused_line r.number r.cell)
+join_text (Err (Refused r)) = refused_line r.number r.cell
 
 -- bytes of it, at most
 abbrev pub join_size : ℕ

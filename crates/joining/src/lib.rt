@@ -7,10 +7,9 @@
 ghost use Rattle.std.specs.Prelude.{◌≡◌};
 ghost use Rattle.joining.specs.Joining.{memory_of, settled_apart, settled_first, settled_by, settled, Settling};
 
-use joining_cells::{mark_of, note, put_marks, taller};
+use joining_cells::{mark_of, note, put_marks};
 use joining_separation::{join_side, separation};
 use rows::join_upto;
-use whole::numbers::wide32;
 
 // The first child c joins its parent f.
 fn settle_first(rows: &mut [u32], marks: &mut [u32], at: usize, f: usize, c: usize, hs: usize)
@@ -38,11 +37,11 @@ fn settle_later(
 {
     let g = separation(rows, marks, at, f, c, hs, allowance);
     let x = mark_of(marks, f, 3) + g;
-    let hf = wide32(mark_of(marks, f, 0));
+    let hf = mark_of(marks, f, 0) as usize;
     let past = join_side(rows, at, beyond, hf, hs, mark_of(marks, f, 2), g);
     let r = mark_of(marks, c, 2);
     note(marks, c, x);
-    put_marks(marks, f, taller(hf, hs) as u32, r, past, x);
+    put_marks(marks, f, hf.max(hs) as u32, r, past, x);
 }
 
 // The complete child c, at the given place among its siblings, joins its parent f, whose appointed child has the place apt.

@@ -5,18 +5,11 @@
 // extent, and its own distance from its first sibling.
 #![tactic(auto)]
 
-ghost use Rattle.std.specs.Prelude.{◌≡◌, ◌+◌, ◌*◌, ◌≤◌, ◌<◌, max, length};
+ghost use Rattle.std.specs.Prelude.{◌≡◌, ◌+◌, ◌*◌, ◌≤◌, ◌<◌, length};
 ghost use Rattle.plan.specs.Limits.{last_row};
 ghost use Rattle.joining_cells.specs.Cells.{memory_of, mark, four, noted, height, joined_rows, completed, Completing};
 
 use rows::{box_rows, column_max};
-use whole::numbers::wide32;
-
-pub fn taller(a: usize, b: usize) -> usize
-    ensures { result ≡ max a b }
-{
-    if a < b { b } else { a }
-}
 
 pub fn mark_of(marks: &[u32], c: usize, k: usize) -> u32
     requires { (4 * c + 4 ≤ length marks.now) × (k < 4) }
@@ -30,10 +23,8 @@ pub fn joined_rows(marks: &[u32], f: usize, c: usize, d: usize) -> usize
     requires { (4 * f + 4 ≤ length marks.now) × (4 * c + 4 ≤ length marks.now) × (height marks.now c d ≤ last_row + 1) }
     ensures { result ≡ joined_rows marks.now f c d }
 {
-    taller(
-        wide32(mark_of(marks, f, 0)),
-        d + 1 + wide32(mark_of(marks, c, 0)),
-    )
+    let before = mark_of(marks, f, 0) as usize;
+    before.max(d + 1 + mark_of(marks, c, 0) as usize)
 }
 
 pub fn put_marks(marks: &mut [u32], c: usize, m0: u32, m1: u32, m2: u32, m3: u32)
@@ -60,7 +51,7 @@ pub fn complete(rows: &mut [u32], marks: &mut [u32], at: usize, c: usize, d: usi
     requires { Completing (memory_of rows.old marks.old) at c d }
     ensures { (memory_of rows.new marks.new ≡ completed (memory_of rows.old marks.old) at c d w) × (result ≡ height marks.old c d) }
 {
-    let hs = d + 1 + wide32(mark_of(marks, c, 0));
+    let hs = d + 1 + mark_of(marks, c, 0) as usize;
     let middle = mark_of(marks, c, 3) - mark_of(marks, c, 2);
     box_rows(rows, at, d + 1, w);
     let l = column_max(rows, at, hs);

@@ -4,21 +4,14 @@
 // the rows of either.
 #![tactic(auto)]
 
-ghost use Rattle.std.specs.Prelude.{◌≡◌, cond, ◌+◌, ◌*◌, ◌≤◌, max, min};
+ghost use Rattle.std.specs.Prelude.{◌≡◌, cond, ◌+◌, ◌*◌, ◌≤◌, max};
 ghost use Rattle.plan.specs.Limits.{farthest};
 ghost use Rattle.rows.specs.Rows.{upto_rows, beyond_rows};
 ghost use Rattle.joining_cells.specs.Cells.{memory_of};
 ghost use Rattle.joining_separation.specs.Separation.{settled_apart, Settling, Siding};
 
-use joining_cells::{mark_of, taller};
-use rows::{clash, join_beyond, join_upto, less};
-use whole::numbers::{greater, wide32};
-
-fn shorter(a: usize, b: usize) -> usize
-    ensures { result ≡ min a b }
-{
-    if a < b { a } else { b }
-}
+use joining_cells::mark_of;
+use rows::{clash, join_beyond, join_upto};
 
 // The least distance of the child c from the child before it: S3, S3, S4, S5.
 pub fn separation(
@@ -35,12 +28,11 @@ pub fn separation(
 {
     let r = mark_of(marks, f, 1);
     let l = mark_of(marks, c, 1);
-    let n = shorter(wide32(mark_of(marks, f, 0)), hs);
+    let n = (mark_of(marks, f, 0) as usize).min(hs);
     let row = clash(rows, at, mark_of(marks, f, 2), n);
-    greater(
-        greater(r + 1, l + 1),
-        greater(row, less(r + l + 1, allowance)),
-    )
+    (r + 1)
+        .max(l + 1)
+        .max(row.max((r + l + 1).saturating_sub(allowance)))
 }
 
 // The rows of a child that stands g from the one before it join those up to the appointed child, or those beyond it. How far past the appointed one it stands.
@@ -60,6 +52,6 @@ pub fn join_side(
         join_beyond(rows, at, past + g, hs);
         return past + g;
     }
-    join_upto(rows, at, hf, g, taller(hf, hs));
+    join_upto(rows, at, hf, g, hf.max(hs));
     0
 }

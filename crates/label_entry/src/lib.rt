@@ -2,6 +2,7 @@
 #![tactic(auto)]
 
 ghost use Rattle.std.specs.Prelude.{◌≡◌};
+ghost use Rattle.plan.specs.Questions.{passed};
 ghost use Rattle.planfile_spec.specs.Reading.{label_refusal};
 ghost use Rattle.label_entry.specs.Label.{Labels};
 
@@ -14,9 +15,9 @@ pub fn label(file: &[u8], cell: usize) -> &[u8]
     planfile::label(file, cell)
 }
 
-// Why Label refuses: number and cell, or 0 and 0.
-pub fn label_refusal(file: &[u8], cell: usize) -> Refusal
-    ensures { result ≡ label_refusal file.now cell }
+// Why Label refuses.
+pub fn label_refusal(file: &[u8], cell: usize) -> Result<(), Refusal>
+    ensures { result ≡ passed (label_refusal file.now cell) }
 {
     planfile::label_refusal(file, cell)
 }

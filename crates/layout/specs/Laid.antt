@@ -1,39 +1,37 @@
 -- WHAT LAYOUT ANSWERS, and what it leaves in the buffers lent to it, on every input. Assumes nothing.
-use Rattle.std.specs.Prelude.{◌≡◌, cond, List, ◌++◌, ℕ, ◌*◌, ◌≤◌, length, drop, replicate, eqb, ℤ}
+use Rattle.std.specs.Prelude.{◌≡◌, List, ◌++◌, ℕ, ◌*◌, ◌≤◌, length, drop, replicate, ℤ, Result, Ok, Err}
 use Rattle.whole.specs.Whole.{plus}
 use Rattle.plan.specs.Limits.{scratch_size}
 use Rattle.plan.specs.Plan.{Table, row}
-use Rattle.plan.specs.Questions.{layout, refusal, layout_given}
+use Rattle.plan.specs.Questions.{layout, refusal, layout_given, answered}
 use Rattle.plan.specs.declared.Refusal.{Refusal}
-use Rattle.rules.specs.Placement.{width, rows}
+use Rattle.rules.specs.Placement.{width}
 use Rattle.contours.specs.Sheet.{sheet}
 use Rattle.positions.specs.Written.{written}
-use Rattle.layout.specs.declared.Laid.{Laid}
-use Rattle.layout.specs.declared.Laid.TheVariants.{Sheet, Refused}
 use Rattle.plan.specs.Columns.{table_of}
 use Rattle.plan.specs.declared.Columns.{Columns}
 use Rattle.plan.specs.Trees.{Column}
 use Rattle.plan.specs.Fit.{Fit}
 use Rattle.rules.specs.Placement as placement
-use Rattle.layout.specs.declared.Measures.{Measures}
+use Rattle.plan.specs.declared.Measures.{Measures}
 
 -- document 01's values of the two answers: width and rows of our sheet; number and cell of the refusal.
 -- (Width and rows are whole numbers that are not negative; `plus` is such a number as a natural one.)
-unfoldable pub laid_of : Table → (allowance : ℕ) → Refusal → Laid
-laid_of t al r = cond (eqb r.number 0) (Sheet (plus (width t (sheet t al))) (plus (rows t (sheet t al)))) (Refused r.number r.cell)
+unfoldable pub laid_of : Table → (allowance : ℕ) → Refusal → Result Measures Refusal
+laid_of t al r = answered r (record { width = plus (width t (sheet t al)); rows = plus (placement.rows t (sheet t al)) })
 
 -- the lent positions after it. Of a sheet: x then y of each cell, nothing beyond. Of a refusal: as they were
-unfoldable pub positions_after : Laid → Table → (allowance : ℕ) → List ℤ → List ℤ
-positions_after (Sheet w h) t al ps = written ps (sheet t al) (length t)
-positions_after (Refused k c) t al ps = ps
+unfoldable pub positions_after : Result Measures Refusal → Table → (allowance : ℕ) → List ℤ → List ℤ
+positions_after (Ok m) t al ps = written ps (sheet t al) (length t)
+positions_after (Err r) t al ps = ps
 
 -- the lent scratch after it. Of a sheet: the first 16,384 numbers zero, later ones as they were. Of a refusal: as it was
-unfoldable pub scratch_after : Laid → List ℕ → List ℕ
-scratch_after (Sheet w h) s = replicate scratch_size 0 ++ drop scratch_size s
-scratch_after (Refused k c) s = s
+unfoldable pub scratch_after : Result Measures Refusal → List ℕ → List ℕ
+scratch_after (Ok m) s = replicate scratch_size 0 ++ drop scratch_size s
+scratch_after (Err r) s = s
 
 -- a call of Layout: the answer, and the scratch and the positions before and after it
-pub record Lays (t : Table) (al : ℕ) (s s' : List ℕ) (ps ps' : List ℤ) (r : Laid) : Type 0 where
+pub record Lays (t : Table) (al : ℕ) (s s' : List ℕ) (ps ps' : List ℤ) (r : Result Measures Refusal) : Type 0 where
   pub answers : r ≡ laid_of t al (refusal layout (layout_given t al (length s) (length ps)))
   pub positions : ps' ≡ positions_after r t al ps
   pub scratch : s' ≡ scratch_after r s

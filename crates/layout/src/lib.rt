@@ -4,7 +4,7 @@
 ghost use Rattle.std.specs.Prelude.{◌≡◌, length, replicate};
 ghost use Rattle.plan.specs.Limits.{scratch_size};
 ghost use Rattle.plan.specs.Columns.{table_of};
-ghost use Rattle.plan.specs.Questions.{layout, refusal, layout_given};
+ghost use Rattle.plan.specs.Questions.{layout, refusal, layout_given, «passed»};
 ghost use Rattle.contours.specs.Sheet.{sheet};
 ghost use Rattle.positions.specs.Raised.{Raised};
 ghost use Rattle.layout.specs.Laid.{Lays, Placeable, Drawable, Drawn};
@@ -13,46 +13,20 @@ use asking::tree::survey;
 use asking::{allowance_refusal, asked, lent_refusal};
 use marks::{MARKS, marks_of};
 use plan::limits::{MOST_CELLS, SCRATCH_SIZE};
-use plan::{Columns, Refusal};
+use plan::{Columns, Measures, Refusal};
 use positions::{raised, sheet_rows, sheet_width, write_positions};
 
-// Width and rows of the sheet that is written; or the refusal's number and cell.
-#[derive(Drop)]
-pub enum Laid {
-    Sheet(u32, u32),
-    Refused(u8, u16),
-}
-
-// Width and rows of a sheet.
-#[derive(Drop)]
-pub struct Measures {
-    pub width: u32,
-    pub rows: u32,
-}
-
-// Every number becomes 0.
-pub fn clear(scratch: &mut [u32])
-    ensures { scratch.new ≡ replicate (length scratch.old) 0 }
-{
-    let mut i: usize = 0;
-    while i < scratch.len() {
-        scratch[i] = 0;
-        i += 1;
-    }
-}
-
 // The questions that Layout puts: 1 (scratch), 4, 1 (positions), 6 to 8, 11 to 14.
-pub fn layout_refusal(t: Columns, allowance: u32, scratch: usize, positions: usize) -> Refusal
-    ensures { result ≡ refusal layout (layout_given (table_of t) allowance scratch positions) }
+pub fn layout_refusal(
+    t: &Columns,
+    allowance: u32,
+    scratch: usize,
+    positions: usize,
+) -> Result<(), Refusal>
+    ensures { result ≡ passed (refusal layout (layout_given (table_of t.now) allowance scratch positions)) }
 {
-    let long = asked(1, SCRATCH_SIZE <= scratch, 0);
-    if long.number != 0 {
-        return long;
-    }
-    let lent = lent_refusal(&t.parent, &t.kind, &t.width, &t.depth, t.count, positions);
-    if lent.number != 0 {
-        return lent;
-    }
+    asked(1, SCRATCH_SIZE <= scratch, 0)?;
+    lent_refusal(t, positions)?;
     allowance_refusal(allowance)
 }
 
@@ -82,10 +56,7 @@ pub fn draw_over_zeros(
     ensures { Drawn (table_of t) allowance scratch.new positions.old positions.new result }
 {
     let n = t.count;
-    let mut counts = [0u16; MOST_CELLS];
-    let mut levels = [0u16; MOST_CELLS];
-    let mut tops = [0u16; MOST_CELLS];
-    survey(&t.parent, &t.depth, n, &mut counts, &mut levels, &mut tops);
+    let tops = survey(&t).rows;
     let xs = place(t, &tops, allowance, scratch);
     write_positions(&xs, &tops, n, positions);
     Measures {
@@ -99,18 +70,19 @@ pub fn draw(t: Columns, allowance: u32, scratch: &mut [u32], positions: &mut [i3
     requires { Drawable (table_of t) (length scratch.old) (length positions.old) }
     ensures { Drawn (table_of t) allowance scratch.new positions.old positions.new result }
 {
-    clear(scratch);
+    scratch.fill(0);
     draw_over_zeros(t, allowance, scratch, positions)
 }
 
-// Layout: the questions, then our sheet.
-pub fn layout(t: Columns, allowance: u32, scratch: &mut [u32], positions: &mut [i32]) -> Laid
+// Layout: the questions, then our sheet, with its width and rows.
+pub fn layout(
+    t: Columns,
+    allowance: u32,
+    scratch: &mut [u32],
+    positions: &mut [i32],
+) -> Result<Measures, Refusal>
     ensures { Lays (table_of t) allowance scratch.old scratch.new positions.old positions.new result }
 {
-    let r = layout_refusal(t, allowance, scratch.len(), positions.len());
-    if r.number != 0 {
-        return Laid::Refused(r.number, r.cell);
-    }
-    let drawn = draw(t, allowance, &mut scratch[..SCRATCH_SIZE], positions);
-    Laid::Sheet(drawn.width, drawn.rows)
+    layout_refusal(&t, allowance, scratch.len(), positions.len())?;
+    Ok(draw(t, allowance, &mut scratch[..SCRATCH_SIZE], positions))
 }

@@ -4,28 +4,40 @@
 #![tactic(auto)]
 
 use cases::{after, byte_at, first, latest, print_name, second, table};
-use layout::{Laid, layout};
+use layout::layout;
 use outcomes::{pair, print_placed};
-use plan::Columns;
+use plan::{Columns, Measures, Refusal};
 use std::io;
 
 // Layout on the first s numbers of a scratch and p of positions.
-fn lay(t: Columns, allowance: u32, xs: &mut [u32], s: usize, ps: &mut [i32], p: usize) -> Laid {
+fn lay(
+    t: Columns,
+    allowance: u32,
+    xs: &mut [u32],
+    s: usize,
+    ps: &mut [i32],
+    p: usize,
+) -> Result<Measures, Refusal> {
     if xs.len() < s || ps.len() < p {
-        return Laid::Refused(0, 0);
+        return Err(Refusal { number: 0, cell: 0 });
     }
-    layout(t, allowance, &mut xs[0..s], &mut ps[0..p])
+    layout(t, allowance, &mut xs[..s], &mut ps[..p])
 }
 
 // The answer, and how many cells were placed: all n or none.
-fn print_answer(rt: &impl Print, r: Laid, n: usize) -> io::Result<usize> {
-    match r {
-        Laid::Sheet(w, h) => {
-            pair(rt, b" sheet", w, h)?;
+fn print_answer(rt: &impl Print, answer: Result<Measures, Refusal>, n: usize) -> io::Result<usize> {
+    match answer {
+        Ok(sheet) => {
+            pair(rt, b" sheet", sheet.width, sheet.rows)?;
             Ok(n)
         }
-        Laid::Refused(k, c) => {
-            pair(rt, b" refused", k as u32, c as u32)?;
+        Err(refusal) => {
+            pair(
+                rt,
+                b" refused",
+                u32::from(refusal.number),
+                u32::from(refusal.cell),
+            )?;
             Ok(0)
         }
     }
@@ -36,8 +48,8 @@ fn run(rt: &impl Print, t: Columns, allowance: u32, s: usize, p: usize) -> io::R
     let mut scratch = [7u32; 16384];
     let mut positions = [9i32; 512];
     let n = t.count;
-    let laid = lay(t, allowance, &mut scratch, s, &mut positions, p);
-    let placed = print_answer(rt, laid, n)?;
+    let answer = lay(t, allowance, &mut scratch, s, &mut positions, p);
+    let placed = print_answer(rt, answer, n)?;
     print_placed(rt, placed, &scratch, &positions)
 }
 
@@ -73,7 +85,9 @@ fn run_all(rt: &impl Print, text: &[u8]) -> io::Result<()> {
 fn main(rt: HostRuntime) -> io::Result<()> {
     let mut from = rt.stdin();
     let mut text = [0u8; 32768];
-    let input = input::read_whole(&mut from, &mut text);
-    let n = input.length;
+    let n = match input::read_whole(&mut from, &mut text) {
+        Ok(input) => input.length,
+        Err(cut) => cut.length,
+    };
     run_all(&rt, &text[..n])
 }

@@ -11,7 +11,6 @@ ghost use Rattle.links.specs.Build.{Built, chained, number_one, counted, placed,
 use plan::Columns;
 use plan::kinds::appointed;
 use plan::limits::MOST_CELLS;
-use whole::numbers::{wide16, wide16to32};
 
 // Four links a cell.
 pub const LINKS: usize = 4 * MOST_CELLS;
@@ -21,21 +20,7 @@ pub fn link_of(links: &[u16], c: usize, k: usize) -> usize
     requires { (4 * c + 4 ≤ length links.now) × (k < 4) }
     ensures { result ≡ link links.now c k }
 {
-    wide16(links[4 * c + k])
-}
-
-fn parent(parents: &[u16], c: usize) -> usize
-    requires { c < length parents.now }
-    ensures { result ≡ get_or parents.now c 0 }
-{
-    wide16(parents[c])
-}
-
-fn kind(kinds: &[u8], c: usize) -> u8
-    requires { c < length kinds.now }
-    ensures { result ≡ get_or kinds.now c 0 }
-{
-    kinds[c]
+    usize::from(links[4 * c + k])
 }
 
 // The number of children that stands as link 3 of the cell c.
@@ -43,7 +28,7 @@ fn count_of(links: &[u16], c: usize) -> u32
     requires { 4 * c + 4 ≤ length links.now }
     ensures { result ≡ link links.now c 3 }
 {
-    wide16to32(links[4 * c + 3])
+    u32::from(links[4 * c + 3])
 }
 
 // The cell that a link leads to (0: none).
@@ -51,14 +36,7 @@ fn cell_at(links: &[u16], at: usize) -> usize
     requires { at < length links.now }
     ensures { result ≡ get_or links.now at 0 }
 {
-    wide16(links[at])
-}
-
-fn rank(ranks: &[u8], c: usize) -> u8
-    requires { c < length ranks.now }
-    ensures { result ≡ get_or ranks.now c 0 }
-{
-    ranks[c]
+    usize::from(links[at])
 }
 
 // Whether s is a sibling (0: none) of lower rank than q.
@@ -87,14 +65,13 @@ fn slot(ranks: &[u8], links: &[u16], from: usize, q: u8) -> usize
 }
 
 // First child and next sibling, by rank, then in file order: each cell, from the last on, is linked in before its siblings of the same rank.
-fn chain_siblings<'a>(parents: &'a [u16], ranks: &'a [u8], n: usize, links: &mut [u16])
-    requires { Building parents.now ranks.now n links.old }
-    ensures { links.new ≡ chained parents.now ranks.now links.old (n - 1) 1 }
+fn chain_siblings(t: &Columns, links: &mut [u16])
+    requires { Building t.now.parent t.now.rank t.now.count links.old }
+    ensures { links.new ≡ chained t.now.parent t.now.rank links.old (t.now.count - 1) 1 }
 {
-    let mut c = n;
-    while 1 < c {
-        c -= 1;
-        let at = slot(ranks, links, 4 * parent(parents, c), rank(ranks, c));
+    for c in (1..t.count).rev() {
+        let first = 4 * usize::from(t.parent[c]);
+        let at = slot(&t.rank, links, first, t.rank[c]);
         links[4 * c + 1] = links[at];
         links[at] = c as u16;
     }
@@ -120,34 +97,30 @@ fn number_siblings(n: usize, links: &mut [u16])
     requires { Counting n links.old }
     ensures { links.new ≡ counted links.old n }
 {
-    let mut c: usize = 0;
-    while c < n {
+    for c in 0..n {
         number_children(c, links);
-        c += 1;
     }
 }
 
 // The place of the appointed child stands where the number of children stood.
-fn appoint(kinds: &[u8], n: usize, links: &mut [u16])
-    requires { Appointing kinds.now n links.old }
-    ensures { links.new ≡ placed kinds.now links.old n }
+fn appoint(t: &Columns, links: &mut [u16])
+    requires { Appointing t.now.kind t.now.count links.old }
+    ensures { links.new ≡ placed t.now.kind links.old t.now.count }
 {
-    let mut c: usize = 0;
-    while c < n {
-        let first = appointed(kind(kinds, c), count_of(links, c));
+    for c in 0..t.count {
+        let first = appointed(t.kind[c], count_of(links, c));
         links[4 * c + 3] = (first - 1) as u16;
-        c += 1;
     }
 }
 
-// The links of n cells, from links of zeros.
-fn link_all<'a>(parents: &'a [u16], kinds: &'a [u8], ranks: &'a [u8], n: usize, links: &mut [u16])
-    requires { Linking parents.now kinds.now ranks.now n links.old }
-    ensures { Built parents.now kinds.now ranks.now n links.new }
+// The links of the cells of a table, from links of zeros.
+fn link_all(t: &Columns, links: &mut [u16])
+    requires { Linking t.now.parent t.now.kind t.now.rank t.now.count links.old }
+    ensures { Built t.now.parent t.now.kind t.now.rank t.now.count links.new }
 {
-    chain_siblings(parents, ranks, n, links);
-    number_siblings(n, links);
-    appoint(kinds, n, links);
+    chain_siblings(t, links);
+    number_siblings(t.count, links);
+    appoint(t, links);
 }
 
 // The links of a table: four numbers a cell.
@@ -156,6 +129,6 @@ pub fn links_of(t: Columns) -> [u16; LINKS]
     ensures { Links (table_of t) result }
 {
     let mut links = [0u16; LINKS];
-    link_all(&t.parent, &t.kind, &t.rank, t.count, &mut links);
+    link_all(&t, &mut links);
     links
 }

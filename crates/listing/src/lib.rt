@@ -1,5 +1,7 @@
-// The lines of a listing. The private functions write a text into a buffer at a place, and hand the next place back.
+// The lines of a listing.
 #![tactic(auto)]
+
+pub mod put;
 
 ghost use Rattle.std.specs.Prelude.{◌≡◌, ◌∷◌, [], ◌+◌, ◌≤◌, ◌<◌, length, pos, ◌<ℤ◌};
 ghost use Rattle.whole.specs.Whole.{minus};
@@ -8,6 +10,8 @@ ghost use Rattle.listing.specs.Printed.{space, decimal, signed, sheet_line, cell
 ghost use Rattle.listing.specs.Printed.{bitmap_line};
 ghost use Rattle.listing.specs.Line.{spaced, line_size, «line_of», text, Whole};
 ghost use Rattle.listing.specs.Put.{Put};
+
+use crate::put::{put_byte, put_decimal, put_text};
 
 // Bytes of a line's buffer: no line has more than 98.
 pub const LINE_SIZE: usize = 128;
@@ -25,48 +29,6 @@ pub struct Line {
     pub length: usize,
 }
 
-// One byte.
-fn put(b: u8, out: &mut [u8; LINE_SIZE], at: usize) -> usize
-    requires { at < line_size }
-    ensures { Put out.old at (b ∷ []) out.new result }
-{
-    out[at] = b;
-    at + 1
-}
-
-// A text.
-fn copy(text: &[u8], out: &mut [u8; LINE_SIZE], at: usize) -> usize
-    requires { at + length text.now ≤ line_size }
-    ensures { Put out.old at text.now out.new result }
-{
-    let mut i = 0;
-    while i < text.len() {
-        out[at + i] = text[i];
-        i += 1;
-    }
-    at + i
-}
-
-// A digit from 0 to 9.
-fn digit(d: u32) -> u8
-    requires { d < 10 }
-    ensures { result ≡ 48 + d }
-{
-    (48 + d) as u8
-}
-
-// A number in decimal.
-fn decimal(n: u32, out: &mut [u8; LINE_SIZE], at: usize) -> usize
-    requires { at + 10 ≤ line_size }
-    ensures { Put out.old at (decimal n) out.new result × (result ≤ at + 10) }
-{
-    if n < 10 {
-        return put(digit(n), out, at);
-    }
-    let last = decimal(n / 10, out, at);
-    put(digit(n % 10), out, last)
-}
-
 // How far x lies below 0.
 fn below_zero(x: i32) -> u32
     requires { x <ℤ pos 0 }
@@ -75,63 +37,96 @@ fn below_zero(x: i32) -> u32
     ((0 - (x + 1)) as u32) + 1
 }
 
-// A whole number: a minus sign where it is negative, then decimal.
-fn signed(x: i32, out: &mut [u8; LINE_SIZE], at: usize) -> usize
-    requires { at + 11 ≤ line_size }
-    ensures { Put out.old at (signed x) out.new result × (result ≤ at + 11) }
-{
-    if x < 0 {
-        let digits = put(MINUS_SIGN, out, at);
-        return decimal(below_zero(x), out, digits);
+// The private methods write a field behind what the line has.
+impl Line {
+    fn byte(&mut self, b: u8)
+        requires { self.old.length < line_size }
+        ensures { Put self.old.bytes self.old.length (b ∷ []) self.new.bytes self.new.length }
+    {
+        self.length = put_byte(b, &mut self.bytes, self.length);
     }
-    decimal(x as u32, out, at)
-}
 
-// A field after another: a space, and a number.
-fn field(n: u32, out: &mut [u8; LINE_SIZE], at: usize) -> usize
-    requires { at + 11 ≤ line_size }
-    ensures { Put out.old at (space ∷ decimal n) out.new result × (result ≤ at + 11) }
-{
-    let digits = put(SPACE, out, at);
-    decimal(n, out, digits)
-}
-
-// The same of a whole number.
-fn signed_field(x: i32, out: &mut [u8; LINE_SIZE], at: usize) -> usize
-    requires { at + 12 ≤ line_size }
-    ensures { Put out.old at (space ∷ signed x) out.new result × (result ≤ at + 12) }
-{
-    let digits = put(SPACE, out, at);
-    signed(x, out, digits)
-}
-
-// The same of a label; nothing where it is empty.
-fn label_field(label: &[u8], out: &mut [u8; LINE_SIZE], at: usize) -> usize
-    requires { (length label.now ≤ most_label) × (at + 41 ≤ line_size) }
-    ensures { Put out.old at (spaced label.now) out.new result × (result ≤ at + 41) }
-{
-    if label.len() == 0 {
-        return at;
+    fn word(&mut self, text: &[u8])
+        requires { self.old.length + length text.now ≤ line_size }
+        ensures { Put self.old.bytes self.old.length text.now self.new.bytes self.new.length }
+    {
+        self.length = put_text(text, &mut self.bytes, self.length);
     }
-    let letters = put(SPACE, out, at);
-    copy(label, out, letters)
+
+    // A number in decimal.
+    fn decimal(&mut self, n: u32)
+        requires { self.old.length + 20 ≤ line_size }
+        ensures { Put self.old.bytes self.old.length (decimal n) self.new.bytes self.new.length × (self.new.length ≤ self.old.length + 10) }
+    {
+        self.length = put_decimal(u64::from(n), &mut self.bytes, self.length);
+    }
+
+    // A whole number: a minus sign where it is negative, then decimal.
+    fn signed(&mut self, x: i32)
+        requires { self.old.length + 21 ≤ line_size }
+        ensures { Put self.old.bytes self.old.length (signed x) self.new.bytes self.new.length × (self.new.length ≤ self.old.length + 11) }
+    {
+        if x < 0 {
+            self.byte(MINUS_SIGN);
+            self.decimal(below_zero(x));
+        } else {
+            self.decimal(x as u32);
+        }
+    }
+
+    // A field after another: a space, and a number.
+    fn field(&mut self, n: u32)
+        requires { self.old.length + 21 ≤ line_size }
+        ensures { Put self.old.bytes self.old.length (space ∷ decimal n) self.new.bytes self.new.length × (self.new.length ≤ self.old.length + 11) }
+    {
+        self.byte(SPACE);
+        self.decimal(n);
+    }
+
+    // The same of a whole number.
+    fn signed_field(&mut self, x: i32)
+        requires { self.old.length + 22 ≤ line_size }
+        ensures { Put self.old.bytes self.old.length (space ∷ signed x) self.new.bytes self.new.length × (self.new.length ≤ self.old.length + 12) }
+    {
+        self.byte(SPACE);
+        self.signed(x);
+    }
+
+    // The same of a label; nothing where it is empty.
+    fn label(&mut self, label: &[u8])
+        requires { (length label.now ≤ most_label) × (self.old.length + 41 ≤ line_size) }
+        ensures { Put self.old.bytes self.old.length (spaced label.now) self.new.bytes self.new.length × (self.new.length ≤ self.old.length + 41) }
+    {
+        if label.len() == 0 {
+            return;
+        }
+        self.byte(SPACE);
+        self.word(label);
+    }
+}
+
+// A line with nothing in it.
+fn empty() -> Line
+    ensures { (result ≡ line_of []) × (result.length ≡ 0) }
+{
+    Line {
+        bytes: [0u8; LINE_SIZE],
+        length: 0,
+    }
 }
 
 // The first line: cells, allowance, width and rows.
 pub fn sheet_line(cells: u32, allowance: u32, width: u32, rows: u32) -> Line
     ensures { (result ≡ line_of (sheet_line cells allowance width rows)) × (result.length ≤ line_size) }
 {
-    let mut out = [0u8; LINE_SIZE];
-    let a = copy(b"sheet", &mut out, 0);
-    let b = field(cells, &mut out, a);
-    let c = field(allowance, &mut out, b);
-    let d = field(width, &mut out, c);
-    let e = field(rows, &mut out, d);
-    let end = put(LINE_FEED, &mut out, e);
-    Line {
-        bytes: out,
-        length: end,
-    }
+    let mut line = empty();
+    line.word(b"sheet");
+    line.field(cells);
+    line.field(allowance);
+    line.field(width);
+    line.field(rows);
+    line.byte(LINE_FEED);
+    line
 }
 
 // A cell's line.
@@ -139,80 +134,59 @@ pub fn cell_line(cell: u32, x: i32, y: i32, width: u32, depth: u32, label: &[u8]
     requires { length label.now ≤ most_label }
     ensures { (result ≡ line_of (cell_line cell x y width depth label.now)) × (result.length ≤ line_size) }
 {
-    let mut out = [0u8; LINE_SIZE];
-    let a = decimal(cell, &mut out, 0);
-    let b = signed_field(x, &mut out, a);
-    let c = signed_field(y, &mut out, b);
-    let d = field(width, &mut out, c);
-    let e = field(depth, &mut out, d);
-    let f = label_field(label, &mut out, e);
-    let end = put(LINE_FEED, &mut out, f);
-    Line {
-        bytes: out,
-        length: end,
-    }
+    let mut line = empty();
+    line.decimal(cell);
+    line.signed_field(x);
+    line.signed_field(y);
+    line.field(width);
+    line.field(depth);
+    line.label(label);
+    line.byte(LINE_FEED);
+    line
 }
 
 // The line of a refusal: its number and its cell.
 pub fn refused_line(number: u32, cell: u32) -> Line
     ensures { (result ≡ line_of (refused_line number cell)) × (result.length ≤ line_size) }
 {
-    let mut out = [0u8; LINE_SIZE];
-    let a = copy(b"refused", &mut out, 0);
-    let b = field(number, &mut out, a);
-    let c = field(cell, &mut out, b);
-    let end = put(LINE_FEED, &mut out, c);
-    Line {
-        bytes: out,
-        length: end,
-    }
+    let mut line = empty();
+    line.word(b"refused");
+    line.field(number);
+    line.field(cell);
+    line.byte(LINE_FEED);
+    line
 }
 
 // The line of a mended cell: its number, its width and depth before and after.
-pub fn mended_line(cell: u32, old_width: u32, old_depth: u32, width: u32, depth: u32) -> Line
-    ensures { (result ≡ line_of (mended_line cell old_width old_depth width depth)) × (result.length ≤ line_size) }
+pub fn mended_line(
+    cell: u32,
+    old_width: u32,
+    old_depth: u32,
+    new_width: u32,
+    new_depth: u32,
+) -> Line
+    ensures { (result ≡ line_of (mended_line cell old_width old_depth new_width new_depth)) × (result.length ≤ line_size) }
 {
-    let mut out = [0u8; LINE_SIZE];
-    let a = decimal(cell, &mut out, 0);
-    let b = field(old_width, &mut out, a);
-    let c = field(old_depth, &mut out, b);
-    let wide = field(width, &mut out, c);
-    let deep = field(depth, &mut out, wide);
-    let end = put(LINE_FEED, &mut out, deep);
-    Line {
-        bytes: out,
-        length: end,
-    }
-}
-
-// Writes a line at a place, and hands the next place back.
-pub fn put_line(line: Line, out: &mut [u8], at: usize) -> usize
-    requires { Whole line × (at + line.length ≤ length out.old) }
-    ensures { Put out.old at (text line) out.new result }
-{
-    let bytes = line.bytes;
-    let n = line.length;
-    let mut i: usize = 0;
-    while i < n {
-        out[at + i] = bytes[i];
-        i += 1;
-    }
-    at + i
+    let mut line = empty();
+    line.decimal(cell);
+    line.field(old_width);
+    line.field(old_depth);
+    line.field(new_width);
+    line.field(new_depth);
+    line.byte(LINE_FEED);
+    line
 }
 
 // The first line of a bitmap: its columns and its rows.
 pub fn bitmap_line(columns: u32, rows: u32) -> Line
     ensures { (result ≡ line_of (bitmap_line columns rows)) × (result.length ≤ line_size) }
 {
-    let mut out = [0u8; LINE_SIZE];
-    let a = copy(b"P4", &mut out, 0);
-    let b = field(columns, &mut out, a);
-    let c = field(rows, &mut out, b);
-    let end = put(LINE_FEED, &mut out, c);
-    Line {
-        bytes: out,
-        length: end,
-    }
+    let mut line = empty();
+    line.word(b"P4");
+    line.field(columns);
+    line.field(rows);
+    line.byte(LINE_FEED);
+    line
 }
 
 // A recorded step's line: its cell and its label.
@@ -220,14 +194,11 @@ pub fn step_line(cell: u32, label: &[u8]) -> Line
     requires { length label.now ≤ most_label }
     ensures { (result ≡ line_of (step_line cell label.now)) × (result.length ≤ 52) }
 {
-    let mut out = [0u8; LINE_SIZE];
-    let a = decimal(cell, &mut out, 0);
-    let b = label_field(label, &mut out, a);
-    let end = put(LINE_FEED, &mut out, b);
-    Line {
-        bytes: out,
-        length: end,
-    }
+    let mut line = empty();
+    line.decimal(cell);
+    line.label(label);
+    line.byte(LINE_FEED);
+    line
 }
 
 // The last line of a drill: a word, the bytes used and the number of records.
@@ -235,13 +206,20 @@ pub fn end_line(word: &[u8], used: u32, records: u32) -> Line
     requires { length word.now ≤ most_label }
     ensures { (result ≡ line_of (end_line word.now used records)) × (result.length ≤ line_size) }
 {
-    let mut out = [0u8; LINE_SIZE];
-    let a = copy(word, &mut out, 0);
-    let b = field(used, &mut out, a);
-    let c = field(records, &mut out, b);
-    let end = put(LINE_FEED, &mut out, c);
-    Line {
-        bytes: out,
-        length: end,
-    }
+    let mut line = empty();
+    line.word(word);
+    line.field(used);
+    line.field(records);
+    line.byte(LINE_FEED);
+    line
+}
+
+// Writes a line at a place, and hands the next place back.
+pub fn put_line(line: Line, out: &mut [u8], at: usize) -> usize
+    requires { Whole line × (at + line.length ≤ length out.old) }
+    ensures { Put out.old at (text line) out.new result }
+{
+    let length = line.length;
+    let bytes = line.bytes;
+    put_text(&bytes[..length], out, at)
 }

@@ -1,12 +1,11 @@
 -- The rules as the code tests them, on natural numbers. Assumes nothing.
-use Rattle.std.specs.Prelude.{Bool, true, ◌&&◌, ℕ, zero, suc, ◌+◌, eqb, leb, ltb}
+use Rattle.std.specs.Prelude.{Bool, true, ◌&&◌, ℕ, zero, suc, ◌+◌, eqb, leb, ltb, Result, Ok, Err, ⊤}
 use Rattle.whole.specs.Says.{only}
 use Rattle.plan.specs.Limits.{farthest}
 use Rattle.rules.specs.Search.{Verdict, kept, broken, scan, judge}
 use Rattle.looking_sights.specs.Sights.{Sights}
 use Rattle.looking_sights.specs.declared.View.{View}
-use Rattle.looking.specs.declared.search.Found.{Found}
-use Rattle.looking.specs.declared.search.Found.TheVariants.{Kept, Broken}
+use Rattle.plan.specs.declared.Breach.{Breach}
 
 -- S1, at a cell: it is as far down as is due, and the root in column 0
 unfoldable pub pass1 : ℕ → ℕ → View → Bool
@@ -47,9 +46,9 @@ passes al (suc (suc (suc (suc (suc zero))))) a b v w = pass5 al v w
 passes al (suc (suc (suc (suc (suc (suc r)))))) a b v w = true
 
 -- ---- the search, as `lowest` has it
-unfoldable pub found_of : Verdict → Found
-found_of kept = Kept
-found_of (broken r a b) = Broken r a b
+unfoldable pub found_of : Verdict → Result ⊤ Breach
+found_of kept = Ok tt
+found_of (broken r a b) = Err (record { rule = r; a = a; b = b })
 
 module _ (s : Sights) (al n : ℕ) where
   unfoldable pub pair : ℕ → ℕ → ℕ → Verdict

@@ -6,14 +6,8 @@ ghost use Rattle.looking.specs.Passes.{pass1, pass2, pass3, pass3_ends, pass3_st
 
 use looking_columns::SIGHTS;
 use looking_sights::{View, see};
+use plan::Breach;
 use plan::limits::FARTHEST;
-
-// Nothing broken, or a rule with the lowest a and b at which it is.
-#[derive(Drop)]
-pub enum Found {
-    Kept,
-    Broken(u8, u16, u16),
-}
 
 // S1 at a cell: it is as far down as is due, and the root in column 0.
 pub fn pass1(a: usize, b: usize, v: View) -> bool
@@ -154,62 +148,49 @@ fn passes(rule: u8, a: usize, b: usize, v: View, w: View, allowance: u32) -> boo
 }
 
 // A rule at a and each b in turn.
-fn search_row(sights: &[u32; SIGHTS], n: usize, rule: u8, a: usize, allowance: u32) -> Found
+fn search_row(
+    sights: &[u32; SIGHTS],
+    n: usize,
+    rule: u8,
+    a: usize,
+    allowance: u32,
+) -> Result<(), Breach>
     requires { Sighted (view_in sights.now) n × (a < n) × (allowance < 2 ^ 31) }
     ensures { result ≡ found_of (row_found (view_in sights.now) allowance n rule a) }
 {
     let v = see(sights, a);
-    let mut b: usize = 0;
-    while b < n {
+    for b in 0..n {
         let w = see(sights, b);
         if !passes(rule, a, b, v, w, allowance) {
-            return Found::Broken(rule, a as u16, b as u16);
+            return Err(Breach {
+                rule,
+                a: a as u16,
+                b: b as u16,
+            });
         }
-        b += 1;
     }
-    Found::Kept
+    Ok(())
 }
 
 // A rule at each a in turn.
-fn search_rule(sights: &[u32; SIGHTS], n: usize, rule: u8, allowance: u32) -> Found
+fn search_rule(sights: &[u32; SIGHTS], n: usize, rule: u8, allowance: u32) -> Result<(), Breach>
     requires { Sighted (view_in sights.now) n × (allowance < 2 ^ 31) }
     ensures { result ≡ found_of (rule_found (view_in sights.now) allowance n rule) }
 {
-    let mut a: usize = 0;
-    while a < n {
-        let r = search_row(sights, n, rule, a, allowance);
-        if let Found::Broken(k, i, j) = r {
-            return Found::Broken(k, i, j);
-        }
-        a += 1;
+    for a in 0..n {
+        search_row(sights, n, rule, a, allowance)?;
     }
-    Found::Kept
+    Ok(())
 }
 
-// Each rule in turn: a call for each, so that the compiler makes a loop for each, with no test of the rule at a pair.
-pub fn search(sights: &[u32; SIGHTS], n: usize, allowance: u32) -> Found
+// Each rule in turn, to the lowest rule with the lowest a and b at which it is broken: a call for each, so that the compiler makes a loop for each, with no test of the rule at a pair.
+pub fn search(sights: &[u32; SIGHTS], n: usize, allowance: u32) -> Result<(), Breach>
     requires { Sighted (view_in sights.now) n × (allowance < 2 ^ 31) }
     ensures { result ≡ found_of (all_found (view_in sights.now) allowance n) }
 {
-    let s1 = search_rule(sights, n, 1, allowance);
-    if let Found::Broken(k, i, j) = s1 {
-        return Found::Broken(k, i, j);
-    }
-    let s2 = search_rule(sights, n, 2, allowance);
-    if let Found::Broken(k, i, j) = s2 {
-        return Found::Broken(k, i, j);
-    }
-    let s3 = search_rule(sights, n, 3, allowance);
-    if let Found::Broken(k, i, j) = s3 {
-        return Found::Broken(k, i, j);
-    }
-    let s4 = search_rule(sights, n, 4, allowance);
-    if let Found::Broken(k, i, j) = s4 {
-        return Found::Broken(k, i, j);
-    }
-    let s5 = search_rule(sights, n, 5, allowance);
-    if let Found::Broken(k, i, j) = s5 {
-        return Found::Broken(k, i, j);
-    }
-    Found::Kept
+    search_rule(sights, n, 1, allowance)?;
+    search_rule(sights, n, 2, allowance)?;
+    search_rule(sights, n, 3, allowance)?;
+    search_rule(sights, n, 4, allowance)?;
+    search_rule(sights, n, 5, allowance)
 }

@@ -16,7 +16,6 @@ use plan::Columns;
 use plan::kinds::appointed;
 use plan::limits::{FARTHEST, MOST_CELLS};
 use spans::parent_of;
-use whole::numbers::{wide8to32, wide16to32};
 use whole::raise_at;
 
 // How many numbers the rules read of a cell. Those of all cells lie in one array, cell after cell: a `View` for each.
@@ -44,10 +43,8 @@ pub fn raised(positions: &[i32], n: usize, offset: usize) -> [u32; MOST_CELLS]
     ensures { Column result n (λ c. bias farthest (get_or positions.now (2 * c + offset) (pos 0))) }
 {
     let mut out = [0u32; MOST_CELLS];
-    let mut c: usize = 0;
-    while c < n {
+    for c in 0..n {
         out[c] = raise_at(positions, 2 * c + offset, FARTHEST);
-        c += 1;
     }
     out
 }
@@ -58,11 +55,9 @@ pub fn edges_of(t: Columns, x: [u32; MOST_CELLS], y: [u32; MOST_CELLS]) -> Edges
 {
     let mut right = [0u32; MOST_CELLS];
     let mut base = [0u32; MOST_CELLS];
-    let mut c: usize = 0;
-    while c < t.count {
-        right[c] = x[c] + wide16to32(t.width[c]);
-        base[c] = y[c] + wide8to32(t.depth[c]);
-        c += 1;
+    for c in 0..t.count {
+        right[c] = x[c] + u32::from(t.width[c]);
+        base[c] = y[c] + u32::from(t.depth[c]);
     }
     Edges { right, base }
 }
@@ -74,11 +69,9 @@ pub fn dues(t: Columns, base: [u32; MOST_CELLS]) -> [u32; MOST_CELLS]
 {
     let mut due = [0u32; MOST_CELLS];
     due[0] = FARTHEST;
-    let mut c: usize = 1;
-    while c < t.count {
+    for c in 1..t.count {
         let f = parent_of(&t.parent, c);
         due[c] = base[f] + 1;
-        c += 1;
     }
     due
 }
@@ -89,11 +82,9 @@ pub fn heads_of(t: Columns, many: [u32; MOST_CELLS]) -> Heads
 {
     let mut parent = [0u32; MOST_CELLS];
     let mut middle = [0u32; MOST_CELLS];
-    let mut c: usize = 0;
-    while c < t.count {
-        parent[c] = wide16to32(t.parent[c]);
+    for c in 0..t.count {
+        parent[c] = u32::from(t.parent[c]);
         middle[c] = appointed(t.kind[c], many[c]);
-        c += 1;
     }
     Heads { parent, middle }
 }
@@ -103,9 +94,7 @@ pub fn scatter(column: &[u32; MOST_CELLS], n: usize, k: usize, out: &mut [u32; S
     requires { (n ≤ most_cells) × (k < sight) × (length out.old ≡ most_cells * sight) }
     ensures { Scattered (column.now ∷ []) n k out.old out.new }
 {
-    let mut c: usize = 0;
-    while c < n {
+    for c in 0..n {
         out[SIGHT * c + k] = column[c];
-        c += 1;
     }
 }

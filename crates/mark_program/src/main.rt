@@ -2,16 +2,13 @@
 // A plan that is refused: its name and the refusal, and no more. A file that cannot be read is told on standard error; then there are no counts, since they would not be those of the sitting.
 #![tactic(auto)]
 
-ghost use Rattle.std.specs.Prelude.{◌≡◌, ◌≤◌, length, IfOk};
+ghost use Rattle.std.specs.Prelude.{◌≤◌, length, IfOk};
 
-use drawing_spec::Fault;
-use input::End;
 use mark_drawing::mark_drawing;
-use mark_spec::Marked;
-use mark_text::{Counts, Outcome, counted, write_counts, write_outcome};
-use plan::Columns;
+use mark_text::{Counts, counted, write_counts, write_outcome};
+use plan::Refusal;
 use plan::limits::{MOST_CELLS, MOST_FILE};
-use planfile_spec::Reading;
+use planfile_spec::PlanFile;
 use progress::tell_progress;
 use std::io;
 use std::io::{IsTerminal, Read};
@@ -45,78 +42,29 @@ fn get_from<F: Read + Drop>(opened: F, buffer: &mut [u8]) -> io::Result<usize>
     ensures { IfOk result (λ n. n ≤ length buffer.old) }
 {
     let mut from = opened;
-    let input = input::read_whole(&mut from, buffer);
-    match input.end {
-        End::Failed(e) => Err(e),
-        End::Whole => Ok(input.length),
-        End::Longer => Ok(input.length),
-    }
+    let input = input::read_whole(&mut from, buffer).map_err(|cut| cut.error)?;
+    Ok(input.length)
 }
 
 // The line of a refused plan.
-fn tell_refused(out: &impl Print, path: &[u8], number: u8, cell: u16) -> bool
+fn tell_refused(out: &impl Print, path: &[u8], refusal: Refusal) -> bool
     requires { length path.now ≤ 4096 }
 {
     let mut text = [0u8; TEXT_SIZE];
-    let n = write_named(path, number as u64, cell as u64, &mut text);
+    let n = write_named(path, refusal.number as u64, refusal.cell as u64, &mut text);
     out.write_all(&text[..n]).is_ok()
 }
 
-// A mark once more, a fault and an outcome: their types are not copied.
-fn mark_again(mark: &Marked) -> Marked
-    ensures { result ≡ mark.now }
-{
-    match mark {
-        Marked::Full(w, h) => Marked::Full(*w, *h),
-        Marked::Wide(w, h, enough) => Marked::Wide(*w, *h, *enough),
-        Marked::Broken(rule, a, b) => Marked::Broken(*rule, *a, *b),
-        Marked::Refused(number, cell) => Marked::Refused(*number, *cell),
-    }
-}
-
-fn fault_again(fault: &Fault) -> Fault
-    ensures { result ≡ fault.now }
-{
-    match fault {
-        Fault::NoNumber(line) => Fault::NoNumber(*line),
-        Fault::NoCell(line) => Fault::NoCell(*line),
-        Fault::Twice(line, cell) => Fault::Twice(*line, *cell),
-        Fault::Far(line) => Fault::Far(*line),
-        Fault::Missing(cell) => Fault::Missing(*cell),
-        Fault::Long => Fault::Long,
-    }
-}
-
-fn again(outcome: &Outcome) -> Outcome
-    ensures { result ≡ outcome.now }
-{
-    match outcome {
-        Outcome::Mark(mark) => Outcome::Mark(mark_again(mark)),
-        Outcome::Unread(fault) => Outcome::Unread(fault_again(fault)),
-    }
-}
-
 // The line of a drawing, and the counts with it.
-fn tell(
-    out: &impl Print,
-    path: &[u8],
-    columns: Columns,
-    allowance: u32,
-    drawing: &[u8],
-    sum: Sitting,
-) -> Sitting
+fn tell(out: &impl Print, path: &[u8], plan: &PlanFile, drawing: &[u8], sum: &mut Sitting)
     requires { length path.now ≤ 4096 }
 {
-    let outcome = mark_drawing(columns, allowance, drawing);
+    let outcome = mark_drawing(plan.cells.columns, u32::from(plan.allowance), drawing);
     let mut text = [0u8; TEXT_SIZE];
-    let n = write_outcome(path, again(&outcome), &mut text);
+    let n = write_outcome(path, outcome, &mut text);
     let written = out.write_all(&text[..n]).is_ok();
-    let counts = counted(sum.counts, outcome);
-    Sitting {
-        read: sum.read,
-        written: sum.written & written,
-        counts,
-    }
+    sum.written = sum.written & written;
+    sum.counts = counted(sum.counts, outcome);
 }
 
 // Argument number i is marked.
@@ -124,23 +72,18 @@ fn marked<R: Env + Files>(
     rt: &R,
     out: &impl Print,
     err: &impl Print,
-    columns: Columns,
-    allowance: u32,
+    plan: &PlanFile,
     i: usize,
-    sum: Sitting,
-) -> Sitting {
+    sum: &mut Sitting,
+) {
     let mut path = [0u8; 4096];
     let n = input::argument(rt, i, &mut path);
     let mut drawing = [0u8; DRAWING_SIZE];
     match get(rt, &path[..n], &mut drawing) {
-        Ok(size) => tell(out, &path[..n], columns, allowance, &drawing[..size], sum),
+        Ok(size) => tell(out, &path[..n], plan, &drawing[..size], sum),
         Err(e) => {
             input::tell_unread(err, &path[..n], e).is_ok();
-            Sitting {
-                read: false,
-                written: sum.written,
-                counts: sum.counts,
-            }
+            sum.read = false;
         }
     }
 }
@@ -168,8 +111,7 @@ fn sit<R: Env + Files>(
     rt: &R,
     out: &impl Print,
     err: &(impl Print + IsTerminal),
-    columns: Columns,
-    allowance: u32,
+    plan: &PlanFile,
     count: usize,
 ) -> bool {
     let mut sum = Sitting {
@@ -178,17 +120,13 @@ fn sit<R: Env + Files>(
         counts: nobody(),
     };
     for i in 2..count {
-        sum = marked(rt, out, err, columns, allowance, i, sum);
+        marked(rt, out, err, plan, i, &mut sum);
         tell_progress(err, b"mark", i - 1, count - 2);
     }
-    if !sum.read {
+    if !sum.read || count < 4 {
         return sum.written;
     }
-    if count < 4 {
-        return sum.written;
-    }
-    let counts = sum.counts;
-    let written = tell_counts(out, counts);
+    let written = tell_counts(out, sum.counts);
     sum.written & written
 }
 
@@ -203,12 +141,10 @@ fn mark_all<R: Env + Files>(
 ) -> bool
     requires { length path.now ≤ 4096 }
 {
-    let plan: Reading = planfile::read(file, MOST_CELLS);
-    let refusal = plan.refusal;
-    if refusal.number != 0 {
-        return tell_refused(out, path, refusal.number, refusal.cell);
+    match planfile::read(file, MOST_CELLS) {
+        Ok(plan) => sit(rt, out, err, &plan, count),
+        Err(refusal) => tell_refused(out, path, refusal),
     }
-    sit(rt, out, err, plan.columns, plan.allowance as u32, count)
 }
 
 fn main(rt: HostRuntime) {

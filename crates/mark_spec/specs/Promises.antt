@@ -1,10 +1,11 @@
 -- WHAT THE MARKS MEAN, of any placement of a table, whole numbers of any size. Assumes nothing.
-use Rattle.std.specs.Prelude.{◌≡◌, ℕ, ◌<◌, pos, ◌≤ℤ◌}
+use Rattle.std.specs.Prelude.{◌≡◌, ℕ, ◌<◌, pos, ◌≤ℤ◌, Result, Ok, Err}
 use Rattle.plan.specs.Plan.{Table}
+use Rattle.plan.specs.declared.Refusal.{Refusal}
 use Rattle.rules.specs.Placement.{Placement, width, rows}
 use Rattle.rules.specs.Rules.{Keeps}
 use Rattle.mark_spec.specs.declared.Marked.{Marked}
-use Rattle.mark_spec.specs.declared.Marked.TheVariants.{Full, Wide, Broken, Refused}
+use Rattle.mark_spec.specs.Marked.{full_of, wide_of, broken_of, refused_of}
 
 -- it keeps the rules and is as narrow as they permit: no placement that keeps them is narrower
 pub record Narrowest (t : Table) (p : Placement) (al : ℕ) : Type 0 where
@@ -33,17 +34,17 @@ pub record WideBy (t : Table) (p : Placement) (al w l h : ℕ) : Type 0 where
   pub wider : l < w
 
 -- which of the four answers it is
-abbrev pub IsFull : Marked → Type 0
-IsFull r = (w : ℕ) × (h : ℕ) × (r ≡ Full w h)
+abbrev pub IsFull : Result Marked Refusal → Type 0
+IsFull r = (w : ℕ) × (h : ℕ) × (r ≡ Ok (full_of w h))
 
-abbrev pub IsWide : Marked → Type 0
-IsWide r = (w : ℕ) × (l : ℕ) × (h : ℕ) × (r ≡ Wide w l h)
+abbrev pub IsWide : Result Marked Refusal → Type 0
+IsWide r = (w : ℕ) × (l : ℕ) × (h : ℕ) × (r ≡ Ok (wide_of w l h))
 
-abbrev pub IsBroken : Marked → Type 0
-IsBroken r = (k : ℕ) × (a : ℕ) × (b : ℕ) × (r ≡ Broken k a b)
+abbrev pub IsBroken : Result Marked Refusal → Type 0
+IsBroken r = (k : ℕ) × (a : ℕ) × (b : ℕ) × (r ≡ Ok (broken_of k a b))
 
-abbrev pub IsRefused : Marked → Type 0
-IsRefused r = (k : ℕ) × (c : ℕ) × (r ≡ Refused k c)
+abbrev pub IsRefused : Result Marked Refusal → Type 0
+IsRefused r = (k : ℕ) × (c : ℕ) × (r ≡ Err (refused_of k c))
 
 -- exactly one of four
 pub data OneOf (A B C D : Type 0) : Type 0 where

@@ -1,10 +1,12 @@
-// What Mark answers of a drawing. Full: width and rows. Wide: width, the least width there is, rows. Broken: rule, a and b. Refused: number and cell.
+// What Mark answers of a drawing.
 #![tactic(auto)]
 
-#[derive(Drop)]
+use plan::{Breach, Measures};
+
+// Full marks; or wide, with the least width that there is; or broken.
+#[derive(Clone, Copy, Drop)]
 pub enum Marked {
-    Full(u32, u32),
-    Wide(u32, u32, u32),
-    Broken(u8, u16, u16),
-    Refused(u8, u16),
+    Full(Measures),
+    Wide(Measures, u32),
+    Broken(Breach),
 }

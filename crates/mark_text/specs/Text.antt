@@ -1,14 +1,14 @@
 -- THE PRINTED MARKS, byte for byte: a line for each drawing, its name and its mark, or what is wrong with its text; after several the counts. Every definition computes. Assumes nothing.
-use Rattle.std.specs.Prelude.{[], ◌∷◌, ◌++◌, cond, ℕ, ◌+◌, eqb, ltb}
+use Rattle.std.specs.Prelude.{[], ◌∷◌, ◌++◌, cond, ℕ, ◌+◌, eqb, ltb, Result, Ok, Err}
 use Rattle.listing.specs.Printed.{Bytes, space, line_feed, decimal}
 use Rattle.summary.specs.Summary.{named_line}
 use Rattle.drawing_spec.specs.declared.Fault.{Fault}
 use Rattle.drawing_spec.specs.declared.Fault.TheVariants.{NoNumber, NoCell, Twice, Far, Missing, Long}
+use Rattle.drawing_spec.specs.declared.DrawError.{DrawError}
+use Rattle.drawing_spec.specs.declared.DrawError.TheVariants.{Wrong, Refused}
 use Rattle.mark_spec.specs.declared.Marked.{Marked}
-use Rattle.mark_spec.specs.declared.Marked.TheVariants.{Full, Wide, Broken, Refused}
+use Rattle.mark_spec.specs.declared.Marked.TheVariants.{Full, Wide, Broken}
 use Rattle.mark_text.specs.declared.Counts.{Counts}
-use Rattle.mark_text.specs.declared.Outcome.{Outcome}
-use Rattle.mark_text.specs.declared.Outcome.TheVariants.{Mark, Unread}
 
 -- ---- the words; specs/Words.antt has them as text
 abbrev pub full_part : Bytes
@@ -68,10 +68,9 @@ triple a b c = (pair a b ++ (space ∷ [])) ++ decimal c
 
 -- ---- the line of a mark
 unfoldable pub marked_line : (name : Bytes) → Marked → Bytes
-marked_line name (Full w h) = ((name ++ full_part) ++ pair w h) ++ (line_feed ∷ [])
-marked_line name (Wide w l h) = ((name ++ wide_part) ++ triple w l h) ++ (line_feed ∷ [])
-marked_line name (Broken r a b) = ((name ++ broken_part) ++ triple r a b) ++ (line_feed ∷ [])
-marked_line name (Refused k c) = named_line name k c
+marked_line name (Full m) = ((name ++ full_part) ++ pair m.width m.rows) ++ (line_feed ∷ [])
+marked_line name (Wide m l) = ((name ++ wide_part) ++ triple m.width l m.rows) ++ (line_feed ∷ [])
+marked_line name (Broken b) = ((name ++ broken_part) ++ triple b.rule b.a b.b) ++ (line_feed ∷ [])
 
 -- ---- the line of a text that is no drawing of the plan
 -- a line of it, and what is wrong there
@@ -86,9 +85,10 @@ unread_line name (Far k) = fault_line name k far_part
 unread_line name (Missing c) = ((name ++ missing_cell_part) ++ decimal c) ++ missing_part
 unread_line name Long = name ++ long_part
 
-unfoldable pub outcome_line : (name : Bytes) → Outcome → Bytes
-outcome_line name (Mark m) = marked_line name m
-outcome_line name (Unread f) = unread_line name f
+unfoldable pub outcome_line : (name : Bytes) → Result Marked DrawError → Bytes
+outcome_line name (Ok m) = marked_line name m
+outcome_line name (Err (Refused r)) = named_line name r.number r.cell
+outcome_line name (Err (Wrong f)) = unread_line name f
 
 -- ---- the counts of a sitting
 -- one more, as long as there are fewer than 4,294,967,295
@@ -97,20 +97,20 @@ more n = cond (ltb n 4294967295) (n + 1) n
 
 -- which count it is: full, wide, broken, refused, unread
 unfoldable pub mark_kind : Marked → ℕ
-mark_kind (Full w h) = 1
-mark_kind (Wide w l h) = 2
-mark_kind (Broken r a b) = 3
-mark_kind (Refused k c) = 4
+mark_kind (Full m) = 1
+mark_kind (Wide m l) = 2
+mark_kind (Broken b) = 3
 
-unfoldable pub outcome_kind : Outcome → ℕ
-outcome_kind (Mark m) = mark_kind m
-outcome_kind (Unread f) = 5
+unfoldable pub outcome_kind : Result Marked DrawError → ℕ
+outcome_kind (Ok m) = mark_kind m
+outcome_kind (Err (Refused r)) = 4
+outcome_kind (Err (Wrong f)) = 5
 
 unfoldable pub more_if : (n kind this : ℕ) → ℕ
 more_if n k i = cond (eqb k i) (more n) n
 
 -- one drawing more
-unfoldable pub counted : Counts → Outcome → Counts
+unfoldable pub counted : Counts → Result Marked DrawError → Counts
 counted c o =
     record {
       drawings = more c.drawings;

@@ -1,12 +1,12 @@
 -- THE WORDS as text, and lines that compute. Assumes nothing.
-use Rattle.std.specs.Prelude.{◌≡◌, refl}
+use Rattle.std.specs.Prelude.{◌≡◌, refl, Ok, Err}
 use Rattle.listing.specs.Printed.{digits, decimal, line, refused_line}
 use Rattle.summary.specs.Summary.{named_line}
 use Rattle.drawing_spec.specs.Quoted.{text}
 use Rattle.drawing_spec.specs.declared.Fault.TheVariants.{NoNumber, NoCell, Twice, Far, Missing, Long}
-use Rattle.mark_spec.specs.declared.Marked.TheVariants.{Full, Wide, Broken, Refused}
-use Rattle.mark_text.specs.Text.{full_part, wide_part, broken_part, line_part, numbers_part, no_cell_part, cell_part, twice_part, far_part, missing_cell_part, missing_part, long_part, drawings_part, broken_count_part, refused_part, unread_part, pair, triple, marked_line, fault_line, unread_line, more, mark_kind, outcome_kind, more_if, counted, first_counts, last_counts, counts_line}
-use Rattle.mark_text.specs.declared.Outcome.TheVariants.{Mark}
+use Rattle.drawing_spec.specs.declared.DrawError.TheVariants.{Refused}
+use Rattle.mark_spec.specs.Marked.{full_of, wide_of, broken_of, refused_of}
+use Rattle.mark_text.specs.Text.{full_part, wide_part, broken_part, line_part, numbers_part, no_cell_part, cell_part, twice_part, far_part, missing_cell_part, missing_part, long_part, drawings_part, broken_count_part, refused_part, unread_part, pair, triple, marked_line, fault_line, unread_line, outcome_line, more, mark_kind, outcome_kind, more_if, counted, first_counts, last_counts, counts_line}
 
 pub words :
     (full_part ≡ text " full ")
@@ -29,11 +29,11 @@ unfolding text
 words = (refl, refl, refl, refl, refl, refl, refl, refl, refl, refl, refl, refl, refl, refl, refl, refl)
 
 pub marks :
-    (marked_line (text "a") (Full 25 10) ≡ text "a full 25 10\n")
-    × (marked_line (text "a") (Wide 26 25 10) ≡ text "a wide 26 25 10\n")
-    × (marked_line (text "a") (Broken 4 4 11) ≡ text "a broken S4 4 11\n")
-    × (marked_line (text "a") (Refused 15 3) ≡ text "a refused 15 3\n")
-unfolding text digits decimal line refused_line named_line pair triple marked_line
+    (marked_line (text "a") (full_of 25 10) ≡ text "a full 25 10\n")
+    × (marked_line (text "a") (wide_of 26 25 10) ≡ text "a wide 26 25 10\n")
+    × (marked_line (text "a") (broken_of 4 4 11) ≡ text "a broken S4 4 11\n")
+    × (outcome_line (text "a") (Err (Refused (refused_of 15 3))) ≡ text "a refused 15 3\n")
+unfolding text digits decimal line refused_line named_line pair triple marked_line outcome_line
 marks = (refl, refl, refl, refl)
 
 pub faults :
@@ -51,6 +51,6 @@ unfolding text digits decimal first_counts last_counts counts_line
 sitting = refl
 
 -- a wide one is counted
-pub counting : counted (record { drawings = 7; full = 1; wide = 2; broken = 3; refused = 0; unread = 1 }) (Mark (Wide 26 25 10)) ≡ record { drawings = 8; full = 1; wide = 3; broken = 3; refused = 0; unread = 1 }
+pub counting : counted (record { drawings = 7; full = 1; wide = 2; broken = 3; refused = 0; unread = 1 }) (Ok (wide_of 26 25 10)) ≡ record { drawings = 8; full = 1; wide = 3; broken = 3; refused = 0; unread = 1 }
 unfolding more mark_kind outcome_kind more_if counted
 counting = refl

@@ -4,25 +4,19 @@
 ghost use Rattle.std.specs.Prelude.{◌+◌, ◌≤◌, ◌++◌, length, ◌≡◌};
 ghost use Rattle.listing.specs.Printed.{decimal};
 ghost use Rattle.listing.specs.Put.{Put};
-ghost use Rattle.mark_text.specs.Text.{long_part, mark_size, counts_size, pair, triple, marked_line, fault_line, unread_line, outcome_line, more, mark_kind, outcome_kind, more_if, counted, first_counts, last_counts, counts_line};
+ghost use Rattle.mark_text.specs.Text.{long_part, mark_size, counts_size, pair, triple, marked_line, fault_line, unread_line, outcome_line, more, counted, first_counts, last_counts, counts_line};
 ghost use Rattle.mark_spec.specs.declared.Marked.TheVariants.{Full, Wide, Broken};
 ghost use Rattle.drawing_spec.specs.declared.Fault.TheVariants.{Twice, Missing};
 
 use decimals::{put_byte, put_decimal, put_text};
-use drawing_spec::Fault;
+use drawing_spec::{DrawError, Fault};
 use mark_spec::Marked;
+use plan::{Breach, Measures};
 use summary::write_named;
 
 const SPACE: u8 = 32;
 
 const LINE_FEED: u8 = 10;
-
-// What comes of a drawing: its mark; or what is wrong with its text.
-#[derive(Drop)]
-pub enum Outcome {
-    Mark(Marked),
-    Unread(Fault),
-}
 
 // How many drawings there are, and of each kind.
 #[derive(Clone, Copy, Drop)]
@@ -55,33 +49,33 @@ fn put_triple(a: u64, b: u64, c: u64, out: &mut [u8], at: usize) -> usize
     put_decimal(c, out, j)
 }
 
-fn write_full(name: &[u8], width: u32, rows: u32, out: &mut [u8]) -> usize
+fn write_full(name: &[u8], sheet: Measures, out: &mut [u8]) -> usize
     requires { length name.now + mark_size ≤ length out.old }
-    ensures { Put out.old 0 (marked_line name.now (Full width rows)) out.new result × (result ≤ length name.now + mark_size) }
+    ensures { Put out.old 0 (marked_line name.now (Full sheet)) out.new result × (result ≤ length name.now + mark_size) }
 {
     let a = put_text(name, out, 0);
     let b = put_text(b" full ", out, a);
-    let c = put_pair(width as u64, rows as u64, out, b);
+    let c = put_pair(sheet.width as u64, sheet.rows as u64, out, b);
     put_byte(LINE_FEED, out, c)
 }
 
-fn write_wide(name: &[u8], width: u32, least: u32, rows: u32, out: &mut [u8]) -> usize
+fn write_wide(name: &[u8], sheet: Measures, least: u32, out: &mut [u8]) -> usize
     requires { length name.now + mark_size ≤ length out.old }
-    ensures { Put out.old 0 (marked_line name.now (Wide width least rows)) out.new result × (result ≤ length name.now + mark_size) }
+    ensures { Put out.old 0 (marked_line name.now (Wide sheet least)) out.new result × (result ≤ length name.now + mark_size) }
 {
     let a = put_text(name, out, 0);
     let b = put_text(b" wide ", out, a);
-    let c = put_triple(width as u64, least as u64, rows as u64, out, b);
+    let c = put_triple(sheet.width as u64, least as u64, sheet.rows as u64, out, b);
     put_byte(LINE_FEED, out, c)
 }
 
-fn write_broken(name: &[u8], rule: u8, a: u16, b: u16, out: &mut [u8]) -> usize
+fn write_broken(name: &[u8], breach: Breach, out: &mut [u8]) -> usize
     requires { length name.now + mark_size ≤ length out.old }
-    ensures { Put out.old 0 (marked_line name.now (Broken rule a b)) out.new result × (result ≤ length name.now + mark_size) }
+    ensures { Put out.old 0 (marked_line name.now (Broken breach)) out.new result × (result ≤ length name.now + mark_size) }
 {
     let i = put_text(name, out, 0);
     let j = put_text(b" broken S", out, i);
-    let k = put_triple(rule as u64, a as u64, b as u64, out, j);
+    let k = put_triple(breach.rule as u64, breach.a as u64, breach.b as u64, out, j);
     put_byte(LINE_FEED, out, k)
 }
 
@@ -91,10 +85,9 @@ pub fn write_marked(name: &[u8], mark: Marked, out: &mut [u8]) -> usize
     ensures { Put out.old 0 (marked_line name.now mark) out.new result × (result ≤ length name.now + mark_size) }
 {
     match mark {
-        Marked::Full(width, rows) => write_full(name, width, rows, out),
-        Marked::Wide(width, least, rows) => write_wide(name, width, least, rows, out),
-        Marked::Broken(rule, a, b) => write_broken(name, rule, a, b, out),
-        Marked::Refused(number, cell) => write_named(name, number as u64, cell as u64, out),
+        Marked::Full(sheet) => write_full(name, sheet, out),
+        Marked::Wide(sheet, least) => write_wide(name, sheet, least, out),
+        Marked::Broken(breach) => write_broken(name, breach, out),
     }
 }
 
@@ -151,14 +144,17 @@ pub fn write_unread(name: &[u8], fault: Fault, out: &mut [u8]) -> usize
     }
 }
 
-// The line of a drawing.
-pub fn write_outcome(name: &[u8], outcome: Outcome, out: &mut [u8]) -> usize
+// The line of a drawing: its mark, or why there is none.
+pub fn write_outcome(name: &[u8], outcome: Result<Marked, DrawError>, out: &mut [u8]) -> usize
     requires { length name.now + mark_size ≤ length out.old }
     ensures { Put out.old 0 (outcome_line name.now outcome) out.new result × (result ≤ length name.now + mark_size) }
 {
     match outcome {
-        Outcome::Mark(mark) => write_marked(name, mark, out),
-        Outcome::Unread(fault) => write_unread(name, fault, out),
+        Ok(mark) => write_marked(name, mark, out),
+        Err(error) => match error {
+            DrawError::Wrong(fault) => write_unread(name, fault, out),
+            DrawError::Refused(r) => write_named(name, r.number as u64, r.cell as u64, out),
+        },
     }
 }
 
@@ -172,50 +168,24 @@ fn more(n: u64) -> u64
     n
 }
 
-// Which of the counts is that of a mark.
-fn mark_kind(mark: Marked) -> u8
-    ensures { result ≡ mark_kind mark }
-{
-    match mark {
-        Marked::Full(_, _) => 1,
-        Marked::Wide(_, _, _) => 2,
-        Marked::Broken(_, _, _) => 3,
-        Marked::Refused(_, _) => 4,
-    }
-}
-
-fn outcome_kind(outcome: Outcome) -> u8
-    ensures { result ≡ outcome_kind outcome }
-{
-    match outcome {
-        Outcome::Mark(mark) => mark_kind(mark),
-        Outcome::Unread(_) => 5,
-    }
-}
-
-// One more of a kind.
-fn more_if(n: u64, kind: u8, this: u8) -> u64
-    ensures { result ≡ more_if n kind this }
-{
-    if kind == this {
-        return more(n);
-    }
-    n
-}
-
 // One drawing more.
-pub fn counted(counts: Counts, outcome: Outcome) -> Counts
+pub fn counted(counts: Counts, outcome: Result<Marked, DrawError>) -> Counts
     ensures { result ≡ counted counts outcome }
 {
-    let kind = outcome_kind(outcome);
-    Counts {
-        drawings: more(counts.drawings),
-        full: more_if(counts.full, kind, 1),
-        wide: more_if(counts.wide, kind, 2),
-        broken: more_if(counts.broken, kind, 3),
-        refused: more_if(counts.refused, kind, 4),
-        unread: more_if(counts.unread, kind, 5),
+    let mut next = counts;
+    next.drawings = more(counts.drawings);
+    match outcome {
+        Ok(mark) => match mark {
+            Marked::Full(_) => next.full = more(counts.full),
+            Marked::Wide(_, _) => next.wide = more(counts.wide),
+            Marked::Broken(_) => next.broken = more(counts.broken),
+        },
+        Err(error) => match error {
+            DrawError::Refused(_) => next.refused = more(counts.refused),
+            DrawError::Wrong(_) => next.unread = more(counts.unread),
+        },
     }
+    next
 }
 
 // A word and a count.

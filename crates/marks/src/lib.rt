@@ -9,7 +9,7 @@ ghost use Rattle.marks.specs.Marks.{Markable, Marked, Toured};
 use links::links_of;
 use plan::Columns;
 use plan::limits::MOST_CELLS;
-use walk::walk;
+use walk::{Board, walk};
 
 // Four marks a cell.
 pub const MARKS: usize = 4 * MOST_CELLS;
@@ -28,5 +28,12 @@ pub fn marks_of(
     ensures toured { Toured (table_of t) (memory_of rows.old marks.old) (memory_of rows.new marks.new) }
 {
     let links = links_of(t);
-    walk(&links, &t.width, &t.depth, tops, allowance, rows, marks);
+    let board = Board {
+        links: &links,
+        widths: &t.width,
+        depths: &t.depth,
+        tops,
+        allowance,
+    };
+    walk(&board, rows, marks);
 }

@@ -3,23 +3,15 @@
 #![tactic(auto)]
 
 use listing::refused_line;
-use mending::Mended;
+use plan::Refusal;
 use plan::limits::{LINES_SIZE, MOST_FILE};
-use saving::Saved;
+use saving::SaveError;
 use std::io::Read;
 use std::process::Process;
 use std::rt::Files;
 
 fn trouble(err: &impl Print, text: &[u8]) {
     err.write_all(text).is_ok();
-}
-
-// The first bytes of a buffer; all of them where it is shorter.
-fn first(buffer: &[u8], n: usize) -> &[u8] {
-    if n > buffer.len() {
-        return buffer;
-    }
-    &buffer[..n]
 }
 
 fn print(out: &impl Print, err: &impl Print, text: &[u8]) {
@@ -29,11 +21,9 @@ fn print(out: &impl Print, err: &impl Print, text: &[u8]) {
 }
 
 // The line of a refusal.
-fn refuse(out: &impl Print, err: &impl Print, number: u8, cell: u16) {
-    let line = refused_line(number as u32, cell as u32);
-    let bytes = line.bytes;
-    let k = line.length;
-    print(out, err, first(&bytes, k));
+fn refuse(out: &impl Print, err: &impl Print, refusal: Refusal) {
+    let line = refused_line(u32::from(refusal.number), u32::from(refusal.cell));
+    print(out, err, &line.bytes[..line.length]);
 }
 
 // The file, and then the lines.
@@ -44,17 +34,15 @@ fn hand_over<R: Files>(
     err: &impl Print,
     name: &[u8],
     file: &[u8],
-    length: usize,
     lines: &[u8],
-    told: usize,
 ) {
-    match saving::save(rt, process, name, first(file, length)) {
-        Saved::Done => print(out, err, first(lines, told)),
-        Saved::NotRegular => trouble(
+    match saving::save(rt, process, name, file) {
+        Ok(()) => print(out, err, lines),
+        Err(SaveError::NotRegular) => trouble(
             err,
             b"mend: the second file is no regular file, and is not replaced\n",
         ),
-        Saved::Failed => trouble(err, b"mend: the file could not be written\n"),
+        Err(SaveError::Failed) => trouble(err, b"mend: the file could not be written\n"),
     }
 }
 
@@ -69,10 +57,11 @@ fn mend_file<R: Files>(
     let mut mended = [0u8; MOST_FILE];
     let mut lines = [0u8; LINES_SIZE];
     match mending::mend(file, &mut mended, &mut lines) {
-        Mended::Refused(number, cell) => refuse(out, err, number, cell),
-        Mended::Written(length, told) => hand_over(
-            rt, process, out, err, name, &mended, length, &lines, told,
-        ),
+        Err(refusal) => refuse(out, err, refusal),
+        Ok(sizes) => {
+            let file = &mended[..sizes.file];
+            hand_over(rt, process, out, err, name, file, &lines[..sizes.lines]);
+        }
     }
 }
 
@@ -85,13 +74,11 @@ fn mend_into<R: Files, F: Read>(
     name: &[u8],
 ) {
     let mut file = [0u8; MOST_FILE + 1];
-    let input = input::read_whole(from, &mut file);
-    if input::failed(input) {
+    let Ok(input) = input::read_whole(from, &mut file) else {
         trouble(err, b"mend: the plan cannot be read\n");
         return;
-    }
-    let n = input.length;
-    mend_file(rt, process, out, err, name, &file[..n]);
+    };
+    mend_file(rt, process, out, err, name, &file[..input.length]);
 }
 
 fn main(rt: HostRuntime) {

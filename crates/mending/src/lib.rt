@@ -1,22 +1,25 @@
 // MENDING (document 02, E11): boxes too narrow for their labels are widened, boxes of depth 0 get depth 1, and a line tells of each cell altered.
 #![tactic(auto)]
 
-ghost use Rattle.std.specs.Prelude.{◌≡◌, false, ◌++◌, ◌-◌, ◌≤◌, ◌<◌, length, drop, replicate};
+ghost use Rattle.std.specs.Prelude.{◌≡◌, false, ◌++◌, ◌-◌, ◌≤◌, length, drop, replicate};
 ghost use Rattle.plan.specs.Limits.{between, most_file, lines_size};
 ghost use Rattle.mending.specs.Mended.{would_get, mended};
 ghost use Rattle.mending.specs.Mending.{Mends};
 
+use asking::asked;
 use mending_boxes::mend_records;
 use mending_lines::put_lines;
+use plan::Refusal;
 use plan::forms::form_of;
-use plan::limits::{LINES_SIZE, MOST_CELLS, MOST_FILE, between};
+use plan::limits::{LINES_SIZE, MOST_CELLS, MOST_FILE};
 use planfile_cursor::trailer;
+use planfile_header::formed_refusal;
 
-// The lengths of the mended file and of its lines; or the refusal's number and cell.
+// The lengths of the mended file and of its lines.
 #[derive(Drop)]
-pub enum Mended {
-    Written(usize, usize),
-    Refused(u8, u16),
+pub struct Mended {
+    pub file: usize,
+    pub lines: usize,
 }
 
 // The bytes of a file at the beginning of an output.
@@ -24,11 +27,7 @@ fn copy(file: &[u8], out: &mut [u8])
     requires { length file.now ≤ length out.old }
     ensures { out.new ≡ file.now ++ drop (length file.now) out.old }
 {
-    let mut i: usize = 0;
-    while i < file.len() {
-        out[i] = file[i];
-        i += 1;
-    }
+    out[..file.len()].copy_from_slice(file);
 }
 
 // The mended file, and zeros after it.
@@ -52,38 +51,29 @@ fn mended_copy(file: &[u8]) -> [u8; MOST_FILE]
 }
 
 // The mended file and its lines, where Read accepts it; else the refusal that it gets.
-fn mend_file(file: &[u8], out: &mut [u8], lines: &mut [u8]) -> Mended
+fn mend_file(file: &[u8], out: &mut [u8], lines: &mut [u8]) -> Result<Mended, Refusal>
     requires { (between 2 4 (would_get file.now).number ≡ false) × (most_file ≤ length out.old) × (lines_size ≤ length lines.old) }
     ensures { Mends file.now out.old out.new lines.old lines.new result }
 {
     let size = file.len();
     let bytes = mended_copy(file);
-    let after = planfile::read(&bytes[..size], MOST_CELLS);
-    let refusal = after.refusal;
-    if refusal.number != 0 {
-        return Mended::Refused(refusal.number, refusal.cell);
-    }
+    planfile::read(&bytes[..size], MOST_CELLS)?;
     copy(&bytes[..size], out);
     let t = trailer(file);
     let form = form_of(t.mark);
     let length = put_lines(form, file, t.begin as usize, t.count as usize, lines);
-    Mended::Written(size, length)
+    Ok(Mended {
+        file: size,
+        lines: length,
+    })
 }
 
 // Mend: the mended file and its lines into two outputs, and their lengths; or the refusal. A file that 2 to 4 refuse is not altered.
-pub fn mend(file: &[u8], out: &mut [u8], lines: &mut [u8]) -> Mended
+pub fn mend(file: &[u8], out: &mut [u8], lines: &mut [u8]) -> Result<Mended, Refusal>
     ensures { Mends file.now out.old out.new lines.old lines.new result }
 {
-    if out.len() < MOST_FILE {
-        return Mended::Refused(1, 0);
-    }
-    if lines.len() < LINES_SIZE {
-        return Mended::Refused(1, 0);
-    }
-    let before = planfile::read(file, MOST_CELLS);
-    let refusal = before.refusal;
-    if between(2, 4, refusal.number as u16) {
-        return Mended::Refused(refusal.number, refusal.cell);
-    }
+    let long = (MOST_FILE <= out.len()) & (LINES_SIZE <= lines.len());
+    asked(1, long, 0)?;
+    formed_refusal(file)?;
     mend_file(file, out, lines)
 }

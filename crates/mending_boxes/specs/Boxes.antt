@@ -3,11 +3,11 @@ use Rattle.std.specs.Prelude.{Bool, ◌&&◌, ◌||◌, cond, ℕ, ◌+◌, eqb,
 use Rattle.plan.specs.Limits.{most_label}
 use Rattle.plan.specs.Kinds.{about, known}
 use Rattle.plan.specs.declared.Record.{Record}
-use Rattle.plan.specs.declared.kinds.Lookup.TheVariants.{Known, Unknown}
+use Rattle.std.specs.Prelude.{Some, None}
 
 -- "label length plus border"; an unknown kind has none
 unfoldable pub least_width : (kind n : ℕ) → ℕ
-least_width k n = elim (about k) [ Known r ↦ n + r.border | Unknown ↦ 0 ]
+least_width k n = elim (about k) [ Some r ↦ n + r.border | None ↦ 0 ]
 
 -- not altered: "a cell whose kind is unknown or whose label is over 40 bytes"
 unfoldable pub mendable : (kind n : ℕ) → Bool

@@ -1,7 +1,7 @@
 // One record's box: whether it is mended, and to what; the bytes of its width and depth; and those of all records.
 #![tactic(auto)]
 
-ghost use Rattle.std.specs.Prelude.{◌≡◌, ◌+◌, ◌*◌, ◌≤◌, ◌<◌, length, set};
+ghost use Rattle.std.specs.Prelude.{◌≡◌, ◌+◌, ◌*◌, ◌≤◌, ◌<◌, length};
 ghost use Rattle.plan.specs.Limits.{most_cells};
 ghost use Rattle.plan.specs.Forms.{record_size};
 ghost use Rattle.planfile_spec.specs.Fields.{«set_pair», set_number, width_place, depth_place};
@@ -11,7 +11,7 @@ ghost use Rattle.mending_boxes.specs.Raised.{raise_width, raise_depth, mend_reco
 
 use plan::Record;
 use plan::forms::Form;
-use plan::kinds::{Lookup, about, known};
+use plan::kinds::{about, known};
 use plan::limits::MOST_LABEL;
 use planfile_cursor::{Cursor, place};
 
@@ -27,8 +27,8 @@ fn least_width(kind: u8, size: u8) -> u16
     ensures { result ≡ least_width kind size }
 {
     match about(kind) {
-        Lookup::Known(k) => (size as u16) + (k.border as u16),
-        Lookup::Unknown => 0,
+        Some(k) => u16::from(size) + u16::from(k.border),
+        None => 0,
     }
 }
 
@@ -73,20 +73,13 @@ pub fn new_depth(r: Record) -> u8
     r.depth
 }
 
-fn put(out: &mut [u8], at: usize, value: u8)
-    requires { at < length out.old }
-    ensures { out.new ≡ set out.old at value }
-{
-    out[at] = value;
-}
-
 // A number of two bytes, the low one first.
 fn put_pair(out: &mut [u8], at: usize, value: u16)
     requires { at + 2 ≤ length out.old }
     ensures { out.new ≡ set_pair out.old at value }
 {
-    put(out, at, (value % 256) as u8);
-    put(out, at + 1, (value / 256) as u8);
+    out[at] = (value % 256) as u8;
+    out[at + 1] = (value / 256) as u8;
 }
 
 // The width of the record at a place.
@@ -95,7 +88,7 @@ fn put_width(form: Form, out: &mut [u8], at: usize, width: u16)
     ensures { out.new ≡ set_number (width_place form) out.old at width }
 {
     match form {
-        Form::Old => put(out, at + 3, width as u8),
+        Form::Old => out[at + 3] = width as u8,
         Form::Wide => put_pair(out, at + 4, width),
     }
 }
@@ -106,8 +99,8 @@ fn put_depth(form: Form, out: &mut [u8], at: usize, depth: u8)
     ensures { out.new ≡ set_number (depth_place form) out.old at depth }
 {
     match form {
-        Form::Old => put(out, at + 4, depth),
-        Form::Wide => put(out, at + 3, depth),
+        Form::Old => out[at + 4] = depth,
+        Form::Wide => out[at + 3] = depth,
     }
 }
 
@@ -118,7 +111,6 @@ pub fn raise_width(form: Form, r: Record, out: &mut [u8], at: usize)
 {
     if cramped(r.kind, r.label_length, r.width) {
         put_width(form, out, at, least_width(r.kind, r.label_length));
-        return;
     }
 }
 
@@ -129,7 +121,6 @@ pub fn raise_depth(form: Form, r: Record, out: &mut [u8], at: usize)
 {
     if shallow(r.kind, r.label_length, r.depth) {
         put_depth(form, out, at, 1);
-        return;
     }
 }
 
@@ -150,9 +141,7 @@ pub fn mend_records(form: Form, file: &[u8], begin: usize, n: usize, out: &mut [
     requires { (n ≤ most_cells) × (begin + record_size form * n ≤ length file.now) × (length out.old ≡ length file.now) }
     ensures { out.new ≡ mend_records form begin (λ c. record_at form file.now (begin + record_size form * c)) out.old n }
 {
-    let mut c: usize = 0;
-    while c < n {
+    for c in 0..n {
         mend_record(form, file, out, place(form, begin, c));
-        c += 1;
     }
 }

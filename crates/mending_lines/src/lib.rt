@@ -14,19 +14,6 @@ use plan::Record;
 use plan::forms::Form;
 use planfile_cursor::{Cursor, place};
 
-// A number of two bytes, and one of one byte, for a line.
-fn of_two(x: u16) -> u32
-    ensures { (result ≡ x) × (result < 65536) }
-{
-    x as u32
-}
-
-fn of_one(x: u8) -> u32
-    ensures { (result ≡ x) × (result < 256) }
-{
-    x as u32
-}
-
 // The line of a cell that is altered, at a place of the output; of another cell nothing.
 fn put_alteration(cell: usize, r: Record, out: &mut [u8], at: usize) -> usize
     requires { (cell < most_cells) × (at + line_room ≤ length out.old) }
@@ -35,10 +22,10 @@ fn put_alteration(cell: usize, r: Record, out: &mut [u8], at: usize) -> usize
     if changed(r) {
         let line = mended_line(
             cell as u32,
-            of_two(r.width),
-            of_one(r.depth),
-            of_two(new_width(r)),
-            of_one(new_depth(r)),
+            u32::from(r.width),
+            u32::from(r.depth),
+            u32::from(new_width(r)),
+            u32::from(new_depth(r)),
         );
         return put_line(line, out, at);
     }
@@ -62,11 +49,9 @@ pub fn put_lines(form: Form, file: &[u8], begin: usize, n: usize, out: &mut [u8]
     requires { (n ≤ most_cells) × (begin + record_size form * n ≤ length file.now) × (lines_size ≤ length out.old) }
     ensures { Put out.old 0 (alterations_text (λ c. record_at form file.now (begin + record_size form * c)) n) out.new result × (result ≤ line_room * n) }
 {
-    let mut next: usize = 0;
-    let mut c: usize = 0;
-    while c < n {
+    let mut next = 0;
+    for c in 0..n {
         next = put_alteration(c, record_of(form, file, begin, c), out, next);
-        c += 1;
     }
     next
 }

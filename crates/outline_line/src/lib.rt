@@ -1,7 +1,8 @@
 // The line of a cell in an outline, written into a buffer. The functions write a part at a place, and hand the next place back.
 #![tactic(auto)]
 
-ghost use Rattle.std.specs.Prelude.{◌≡◌, ◌++◌, ◌∷◌, [], cond, ◌+◌, ◌≤◌, ◌<◌, ltb, length, take, drop};
+ghost use Rattle.std.specs.Prelude.{◌≡◌, ◌++◌, ◌∷◌, [], ◌+◌, ◌≤◌, length};
+ghost use Rattle.content.specs.Content.{«item_of»};
 ghost use Rattle.plan.specs.Limits.{most_label};
 ghost use Rattle.listing.specs.Put.{Put};
 ghost use Rattle.listing.specs.Printed.{line_feed};
@@ -9,7 +10,8 @@ ghost use Rattle.outline_spec.specs.Outline.{nearest, level_under, border, unles
 ghost use Rattle.outline_line.specs.Steps.{Room};
 
 use decimals::{put_byte, put_decimal, put_text};
-use plan::kinds::{Lookup, about};
+use plan::Record;
+use plan::kinds::about;
 
 const SPACE: u8 = 32;
 
@@ -25,11 +27,8 @@ fn put_indent(level: usize, out: &mut [u8], at: usize) -> usize
     ensures { Put out.old at (indent level) out.new result × (result ≤ at + 254) }
 {
     let mut next = at;
-    let mut i = 0;
-    while i < level {
-        let half = put_byte(SPACE, out, next);
-        next = put_byte(SPACE, out, half);
-        i += 1;
+    for _ in 0..level {
+        next = put_text(b"  ", out, next);
     }
     next
 }
@@ -62,57 +61,37 @@ fn put_field(name: &[u8], usual: u64, value: u64, out: &mut [u8], at: usize) -> 
 }
 
 // A label in quotes; none if it is empty.
-fn put_label(letters: &[u8], start: usize, size: usize, out: &mut [u8], at: usize) -> usize
-    requires { (size ≤ most_label) × (start + size ≤ length letters.now) × (at + 43 ≤ length out.old) }
-    ensures { Put out.old at (label (take size (drop start letters.now))) out.new result × (result ≤ at + 43) }
+fn put_label(text: &[u8], out: &mut [u8], at: usize) -> usize
+    requires { (length text.now ≤ most_label) × (at + 43 ≤ length out.old) }
+    ensures { Put out.old at (label text.now) out.new result × (result ≤ at + 43) }
 {
-    if size == 0 {
+    if text.len() == 0 {
         return at;
     }
     let open = put_text(b" \"", out, at);
-    let end = start + size;
-    let close = put_text(&letters[start..end], out, open);
+    let close = put_text(text, out, open);
     put_byte(QUOTE, out, close)
 }
 
-// A byte as a number of the machine.
-pub fn wide(x: u8) -> usize
-    ensures { (result ≡ x) × (result < 256) }
+// The level under a parent, of the cells whose levels were seen.
+pub fn level_under(seen: &[u8], parent: usize) -> usize
+    ensures { result ≡ level_under seen.now parent }
 {
-    x as usize
-}
-
-// The level under a parent, of c cells before.
-pub fn level_under(levels: &[u8], c: usize, parent: usize) -> usize
-    requires { c ≤ length levels.now }
-    ensures { result ≡ level_under (take c levels.now) parent }
-{
-    if parent < c {
-        return wide(levels[parent]) + 1;
+    if parent < seen.len() {
+        return usize::from(seen[parent]) + 1;
     }
     0
 }
 
-// The later of two cells, if its level m is less than l.
-fn later(m: usize, l: usize, c: usize, best: usize) -> usize
-    ensures { result ≡ cond (ltb m l) c best }
-{
-    if m < l {
-        return c;
-    }
-    best
-}
-
-// The nearest line above with less indentation, of c cells before.
-pub fn nearest(levels: &[u8], c: usize, level: usize) -> usize
-    requires { c ≤ length levels.now }
-    ensures { result ≡ nearest level (take c levels.now) }
+// The nearest line above with less indentation.
+pub fn nearest(seen: &[u8], level: usize) -> usize
+    ensures { result ≡ nearest level seen.now }
 {
     let mut best = NO_PARENT;
-    let mut i = 0;
-    while i < c {
-        best = later(wide(levels[i]), level, i, best);
-        i += 1;
+    for (i, above) in seen.iter().enumerate() {
+        if usize::from(*above) < level {
+            best = i;
+        }
     }
     best
 }
@@ -123,38 +102,33 @@ pub fn natural(kind: u8, size: usize) -> usize
     ensures { result ≡ size + border kind }
 {
     match about(kind) {
-        Lookup::Known(k) => size + (k.border as usize),
-        Lookup::Unknown => size,
+        Some(k) => size + usize::from(k.border),
+        None => size,
     }
 }
 
-// The line of a cell whose level this is, after c cells.
+// The line of a cell whose level this is, after the cells whose levels were seen.
 pub fn put_cell(
-    levels: &[u8],
-    c: usize,
+    seen: &[u8],
     level: usize,
-    parent: u16,
-    kind: u8,
-    width: u16,
-    depth: u8,
-    rank: u8,
+    cell: Record,
     letters: &[u8],
-    start: usize,
-    size: usize,
     out: &mut [u8],
     at: usize,
 ) -> usize
-    requires { Room levels.now c level parent (length letters.now) start size (length out.old) at }
-    ensures { Put out.old at (cell_line (take c levels.now) (record { cell = record { parent = parent; kind = kind; width = width; depth = depth; rank = rank }; text = take size (drop start letters.now) }) ++ (line_feed ∷ [])) out.new result }
+    requires { Room seen.now level cell (length letters.now) (length out.old) at }
+    ensures { Put out.old at (cell_line seen.now (item_of letters.now cell) ++ (line_feed ∷ [])) out.new result }
 {
     let blank = put_indent(level, out, at);
-    let named = put_word(kind, out, blank);
-    let usual = natural(kind, size) as u64;
-    let a = put_field(b" width ", usual, width as u64, out, named);
-    let b = put_field(b" depth ", 1, depth as u64, out, a);
-    let d = put_field(b" rank ", 0, rank as u64, out, b);
-    let above = nearest(levels, c, level) as u64;
-    let e = put_field(b" under ", above, parent as u64, out, d);
-    let f = put_label(letters, start, size, out, e);
+    let named = put_word(cell.kind, out, blank);
+    let start = usize::from(cell.label_start);
+    let text = &letters[start..start + usize::from(cell.label_length)];
+    let usual = natural(cell.kind, text.len()) as u64;
+    let a = put_field(b" width ", usual, u64::from(cell.width), out, named);
+    let b = put_field(b" depth ", 1, u64::from(cell.depth), out, a);
+    let d = put_field(b" rank ", 0, u64::from(cell.rank), out, b);
+    let above = nearest(seen, level) as u64;
+    let e = put_field(b" under ", above, u64::from(cell.parent), out, d);
+    let f = put_label(text, out, e);
     put_byte(LINE_FEED, out, f)
 }

@@ -1,24 +1,20 @@
 // Writes the outline of the plan file on standard input to standard output, with one write; a refusal to standard error. One byte more than a plan file may have is read, so that a longer one is refused.
 #![tactic(auto)]
 
-use outline::Outlined;
 use plan::limits::MOST_FILE;
 
 fn write_outline(out: &impl Print, err: &impl Print, file: &[u8]) {
     let mut text = [0u8; 66560];
-    let answer = outline::outline(file, &mut text);
-    match answer {
-        Outlined::Written(length) => {
+    match outline::outline(file, &mut text) {
+        Ok(length) => {
             if out.write_all(&text[..length]).is_err() {
                 err.write_all(b"outline: the outline could not be written whole\n")
                     .is_ok();
             }
         }
-        Outlined::Refused(number, cell) => {
-            let line = listing::refused_line(number as u32, cell as u32);
-            let length = line.length;
-            let bytes = line.bytes;
-            err.write_all(&bytes[..length]).is_ok();
+        Err(refusal) => {
+            let line = listing::refused_line(u32::from(refusal.number), u32::from(refusal.cell));
+            err.write_all(&line.bytes[..line.length]).is_ok();
         }
     }
 }
@@ -26,13 +22,12 @@ fn write_outline(out: &impl Print, err: &impl Print, file: &[u8]) {
 fn main(rt: HostRuntime) {
     let mut from = rt.stdin();
     let mut file = [0u8; MOST_FILE + 1];
-    let input = input::read_whole(&mut from, &mut file);
-    if input::failed(input) {
+    let Ok(input) = input::read_whole(&mut from, &mut file) else {
         rt.stderr()
             .write_all(b"outline: the plan cannot be read\n")
             .is_ok();
         return;
-    }
+    };
     let n = input.length;
     write_outline(&rt.stdout(), &rt.stderr(), &file[..n]);
 }

@@ -12,7 +12,8 @@ use Rattle.content.specs.Content.{Content, content, file_content}
 use Rattle.content.specs.Clean.{clean, copy_refusal}
 use Rattle.content.proofs.Laws.Promised.{copy_passed}
 use Rattle.outline_spec.specs.Outline.{outline}
-use Rattle.outline_spec.specs.Understood.{Fault, most_byte, plan, understood}
+use Rattle.outline_spec.specs.Understood.{most_byte, plan, understood}
+use Rattle.outline_spec.specs.declared.Fault.{Fault}
 use Rattle.outline_spec.specs.Faults.{fault_number, fault_of}
 use Rattle.outline_spec.specs.Refused.{content_refusal}
 use Rattle.outline_spec.proofs.Laws.Accepted.{file-back, table-back}

@@ -4,7 +4,7 @@ use Rattle.std.specs.Prelude.{List, [], ◌∷◌, ◌++◌, cond, ℕ, zero, su
 use Rattle.std.proofs.Math.Option.{Option, none, some}
 use Rattle.plan.specs.Limits.{no_parent}
 use Rattle.plan.specs.Kinds.{about}
-use Rattle.plan.specs.declared.kinds.Lookup.TheVariants.{Known, Unknown}
+use Rattle.std.specs.Prelude.{Some, None}
 use Rattle.listing.specs.Printed.{Bytes, space, line_feed, decimal}
 use Rattle.content.specs.Content.{Item, Content}
 
@@ -59,7 +59,7 @@ level_under seen p = cond (ltb p (length seen)) (suc (get_or seen p 0)) 0
 
 -- ---- what is left out
 unfoldable pub border : (kind : ℕ) → ℕ
-border k = elim (about k) [ Known r ↦ r.border | Unknown ↦ 0 ]
+border k = elim (about k) [ Some r ↦ r.border | None ↦ 0 ]
 
 -- the width of a box that fits its label: what question 10 asks for, and no more
 unfoldable pub natural : (kind : ℕ) → (text : Bytes) → ℕ

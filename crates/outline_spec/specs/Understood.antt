@@ -5,32 +5,9 @@ use Rattle.plan.specs.Limits.{between, most_cells, most_allowance, first_letter,
 use Rattle.plan.specs.Questions.{every, lower}
 use Rattle.listing.specs.Printed.{Bytes, space, line_feed, digit}
 use Rattle.content.specs.Content.{Item, Content}
+use Rattle.outline_spec.specs.declared.Fault.{Fault}
+use Rattle.outline_spec.specs.declared.Fault.TheVariants.{StrangeByte, LongLine, ManyCells, NoAllowance, OddBlanks, UnknownWord, UnknownField, LargeNumber, OpenLabel, Misplaced, EmptyText}
 use Rattle.outline_spec.specs.Outline.{allowance_word, width_word, depth_word, rank_word, under_word, quote, label_word, word, nearest, level_under, natural}
-
--- ---- what is wrong with a line
-pub data Fault : Type 0 where
-  -- the text is empty
-  empty_text : Fault
-  -- a tab or another byte that is not printable
-  strange_byte : Fault
-  -- a line of more than 255 bytes
-  long_line : Fault
-  -- more than 256 cells
-  many_cells : Fault
-  -- the first line is not `allowance` and a number
-  no_allowance : Fault
-  -- an odd number of blanks before the word
-  odd_blanks : Fault
-  -- the word is none of the five
-  unknown_word : Fault
-  -- what follows is none of width, depth, rank, under, a number each and in this order, and a label
-  unknown_field : Fault
-  -- a number too large
-  large_number : Fault
-  -- no quote at the end of the line
-  open_label : Fault
-  -- the line does not stand one level right of the one it is under, or only the first cell may stand where it does
-  misplaced : Fault
 
 -- ---- limits: of a line, and of the numbers, those that a record holds
 abbrev pub most_line : ℕ
@@ -113,8 +90,8 @@ or_usual u (some v) = v
 
 -- a word and its number, which may be left out; then the rest of the line
 unfoldable pub numbered : Number → (Option ℕ → Bytes → Line) → Line
-numbered absent rest = wrong unknown_field
-numbered large rest = wrong large_number
+numbered absent rest = wrong UnknownField
+numbered large rest = wrong LargeNumber
 numbered (read n t) rest = rest (some n) t
 
 unfoldable pub optional : (word : Bytes) (most : ℕ) → (Option ℕ → Bytes → Line) → Bytes → Line
@@ -124,14 +101,14 @@ optional w m rest t = elim (after w t) [ none ↦ rest none t | some s ↦ numbe
 unfoldable pub labelled : (Bytes → Line) → Bytes → Line
 labelled rest [] = rest []
 labelled rest (b ∷ bs) = elim (after label_word (b ∷ bs)) [
-  | none ↦ wrong unknown_field
-  | some s ↦ elim (closed s) [ none ↦ wrong open_label | some t ↦ rest t ]
+  | none ↦ wrong UnknownField
+  | some s ↦ elim (closed s) [ none ↦ wrong OpenLabel | some t ↦ rest t ]
 ]
 
 -- cell c at a level, under those whose levels were seen: its parent is a lower cell, or none if it is the first (question 6), and one level up
 unfoldable pub placed : (c : ℕ) (seen : List ℕ) (level : ℕ) → Item → Line
 placed c seen l i =
-    cond (lower c i.cell.parent && eqb l (level_under seen i.cell.parent)) (cell l i) (wrong misplaced)
+    cond (lower c i.cell.parent && eqb l (level_under seen i.cell.parent)) (cell l i) (wrong Misplaced)
 
 module _ (c : ℕ) (seen : List ℕ) (l : ℕ) where
   unfoldable pub told : (kind : ℕ) (width depth rank under : Option ℕ) (text : Bytes) → Line
@@ -150,7 +127,7 @@ module _ (c : ℕ) (seen : List ℕ) (l : ℕ) where
 
   -- the first of these kinds whose word the text begins with
   unfoldable pub named : (kinds : List ℕ) → Bytes → Line
-  named [] t = wrong unknown_word
+  named [] t = wrong UnknownWord
   named (k ∷ ks) t = elim (after (word k) t) [
     | none ↦ named ks t
     | some s ↦ elim (parted s) [ true ↦ fields_read k s | false ↦ named ks t ]
@@ -162,14 +139,14 @@ kinds = 1 ∷ 2 ∷ 3 ∷ 4 ∷ 5 ∷ []
 -- a line that can be read at all
 unfoldable pub clear : Bytes → Option Fault
 clear b = elim (every (between first_letter last_letter) b) [
-  | false ↦ some strange_byte
-  | true ↦ elim (leb (length b) most_line) [ true ↦ none | false ↦ some long_line ]
+  | false ↦ some StrangeByte
+  | true ↦ elim (leb (length b) most_line) [ true ↦ none | false ↦ some LongLine ]
 ]
 
 unfoldable pub line : (c : ℕ) (seen : List ℕ) → Bytes → Line
 line c seen b = elim (clear b) [
   | some f ↦ wrong f
-  | none ↦ elim (indented 0 b) [ odd ↦ wrong odd_blanks | level l t ↦ named c seen l kinds t ]
+  | none ↦ elim (indented 0 b) [ odd ↦ wrong OddBlanks | level l t ↦ named c seen l kinds t ]
 ]
 
 -- ---- the cells, from cell c on
@@ -184,7 +161,7 @@ with_cell i (items is) = items (i ∷ is)
 unfoldable pub cells : (c : ℕ) (seen : List ℕ) → List Bytes → Cells
 cells c seen [] = items []
 cells c seen (b ∷ bs) = elim (ltb c most_cells) [
-  | false ↦ faulty (c + 2) many_cells
+  | false ↦ faulty (c + 2) ManyCells
   | true ↦ elim (line c seen b) [ wrong f ↦ faulty (c + 2) f | cell l i ↦ with_cell i (cells (suc c) (seen ++ (l ∷ [])) bs) ]
 ]
 
@@ -194,15 +171,15 @@ pub data First : Type 0 where
   allowed : ℕ → First
 
 unfoldable pub all_read : Number → First
-all_read absent = no_first no_allowance
-all_read large = no_first large_number
+all_read absent = no_first NoAllowance
+all_read large = no_first LargeNumber
 all_read (read n []) = allowed n
-all_read (read n (b ∷ bs)) = no_first no_allowance
+all_read (read n (b ∷ bs)) = no_first NoAllowance
 
 unfoldable pub first : Bytes → First
 first b = elim (clear b) [
   | some f ↦ no_first f
-  | none ↦ elim (after allowance_word b) [ none ↦ no_first no_allowance | some s ↦ all_read (number most_allowance s) ]
+  | none ↦ elim (after allowance_word b) [ none ↦ no_first NoAllowance | some s ↦ all_read (number most_allowance s) ]
 ]
 
 -- ---- THE meaning of a text
@@ -215,7 +192,7 @@ with_allowance al (faulty n f) = fault n f
 with_allowance al (items is) = plan (record { items = is; allowance = al })
 
 unfoldable pub by_lines : List Bytes → Understood
-by_lines [] = fault 1 empty_text
+by_lines [] = fault 1 EmptyText
 by_lines (b ∷ bs) = elim (first b) [ no_first f ↦ fault 1 f | allowed al ↦ with_allowance al (cells 0 [] bs) ]
 
 unfoldable pub understood : Bytes → Understood

@@ -6,7 +6,9 @@ use Rattle.plan.specs.Questions as asked
 use Rattle.listing.specs.Printed.{digits, decimal}
 use Rattle.content.specs.Content.{Item, Content}
 use Rattle.outline_spec.specs.Outline.{allowance_word, word, width_word, depth_word, rank_word, under_word, label_word, last_less, nearest, level_under, border, natural, unless, indent, field, label, fields, cell_line, cell_lines, first_line, ended, outline_lines, outline}
-use Rattle.outline_spec.specs.Understood.{Fault, Understood, fault, plan, empty_text, strange_byte, long_line, many_cells, no_allowance, odd_blanks, unknown_word, unknown_field, large_number, open_label, misplaced, begun, lines, after, is_digit, number_from, number, indented, closed, parted, or_usual, numbered, optional, labelled, placed, told, fields_read, named, clear, line, with_cell, cells, all_read, first, with_allowance, by_lines, understood}
+use Rattle.outline_spec.specs.Understood.{Understood, fault, plan, begun, lines, after, is_digit, number_from, number, indented, closed, parted, or_usual, numbered, optional, labelled, placed, told, fields_read, named, clear, line, with_cell, cells, all_read, first, with_allowance, by_lines, understood}
+use Rattle.outline_spec.specs.declared.Fault.{Fault}
+use Rattle.outline_spec.specs.declared.Fault.TheVariants.{EmptyText, StrangeByte, LongLine, ManyCells, NoAllowance, OddBlanks, UnknownWord, UnknownField, LargeNumber, OpenLabel, Misplaced}
 use Rattle.outline_spec.specs.Faults.{advice, fault_line}
 use Rattle.outline_spec.specs.Text.{text}
 
@@ -87,25 +89,25 @@ readings = (refl, refl, refl, refl, refl, refl)
 
 -- what a person gets wrong, and the line
 pub faults :
-    (understood [] ≡ fault 1 empty_text)
-    × (understood (text "run\n") ≡ fault 1 no_allowance)
-    × (understood (text "allowance 3 4\n") ≡ fault 1 no_allowance)
-    × (understood (text "allowance 65536\n") ≡ fault 1 large_number)
-    × (understood (text "allowance 0\nrun\n\tstep\n") ≡ fault 3 strange_byte)
-    × (understood (text "allowance 0\nrun\n step\n") ≡ fault 3 odd_blanks)
-    × (understood (text "allowance 0\nrun\n  stop\n") ≡ fault 3 unknown_word)
-    × (understood (text "allowance 0\nrun\n\n  step\n") ≡ fault 3 unknown_word)
-    × (understood (text "allowance 0\nstepper\n") ≡ fault 2 unknown_word)
-    × (understood (text "allowance 0\nstep Fill\n") ≡ fault 2 unknown_field)
-    × (understood (text "allowance 0\nstep depth 2 width 9\n") ≡ fault 2 unknown_field)
-    × (understood (text "allowance 0\nstep width\n") ≡ fault 2 unknown_field)
-    × (understood (text "allowance 0\nstep rank 256\n") ≡ fault 2 large_number)
-    × (understood (text "allowance 0\nstep \"Fill\n") ≡ fault 2 open_label)
-    × (understood (text "allowance 0\nstep \"\n") ≡ fault 2 open_label)
-    × (understood (text "allowance 0\n  step\n") ≡ fault 2 misplaced)
-    × (understood (text "allowance 0\nrun\nstep\n") ≡ fault 3 misplaced)
-    × (understood (text "allowance 0\nrun\n    step\n") ≡ fault 3 misplaced)
-    × (understood (text "allowance 0\nrun\n  step under 1\n") ≡ fault 3 misplaced)
+    (understood [] ≡ fault 1 EmptyText)
+    × (understood (text "run\n") ≡ fault 1 NoAllowance)
+    × (understood (text "allowance 3 4\n") ≡ fault 1 NoAllowance)
+    × (understood (text "allowance 65536\n") ≡ fault 1 LargeNumber)
+    × (understood (text "allowance 0\nrun\n\tstep\n") ≡ fault 3 StrangeByte)
+    × (understood (text "allowance 0\nrun\n step\n") ≡ fault 3 OddBlanks)
+    × (understood (text "allowance 0\nrun\n  stop\n") ≡ fault 3 UnknownWord)
+    × (understood (text "allowance 0\nrun\n\n  step\n") ≡ fault 3 UnknownWord)
+    × (understood (text "allowance 0\nstepper\n") ≡ fault 2 UnknownWord)
+    × (understood (text "allowance 0\nstep Fill\n") ≡ fault 2 UnknownField)
+    × (understood (text "allowance 0\nstep depth 2 width 9\n") ≡ fault 2 UnknownField)
+    × (understood (text "allowance 0\nstep width\n") ≡ fault 2 UnknownField)
+    × (understood (text "allowance 0\nstep rank 256\n") ≡ fault 2 LargeNumber)
+    × (understood (text "allowance 0\nstep \"Fill\n") ≡ fault 2 OpenLabel)
+    × (understood (text "allowance 0\nstep \"\n") ≡ fault 2 OpenLabel)
+    × (understood (text "allowance 0\n  step\n") ≡ fault 2 Misplaced)
+    × (understood (text "allowance 0\nrun\nstep\n") ≡ fault 3 Misplaced)
+    × (understood (text "allowance 0\nrun\n    step\n") ≡ fault 3 Misplaced)
+    × (understood (text "allowance 0\nrun\n  step under 1\n") ≡ fault 3 Misplaced)
 unfolding text cell about word last_less nearest level_under border natural begun lines after is_digit number_from number indented closed parted or_usual numbered optional labelled placed told fields_read named clear line with_cell cells all_read first with_allowance by_lines understood asked.lower asked.every
 faults = (refl, refl, refl, refl, refl, refl, refl, refl, refl, refl, refl, refl, refl, refl, refl, refl, refl, refl, refl)
 
@@ -124,15 +126,15 @@ reason (plan c) = none
 
 pub edges :
     (understood (text "allowance 0\nstep \"" ++ (blanks 248 ++ text "\"\n")) ≡ plan (record { allowance = 0; items = cell 65535 1 250 1 0 (blanks 248) ∷ [] }))
-    × (understood (text "allowance 0\nstep \"" ++ (blanks 249 ++ text "\"\n")) ≡ fault 2 long_line)
+    × (understood (text "allowance 0\nstep \"" ++ (blanks 249 ++ text "\"\n")) ≡ fault 2 LongLine)
     × (reason (understood (text "allowance 0\nrun\n" ++ steps 255)) ≡ none)
-    × (reason (understood (text "allowance 0\nrun\n" ++ steps 256)) ≡ some (258, many_cells))
+    × (reason (understood (text "allowance 0\nrun\n" ++ steps 256)) ≡ some (258, ManyCells))
 unfolding reason blanks steps text cell about word last_less nearest level_under border natural begun lines after is_digit number_from number indented closed parted or_usual numbered optional labelled placed told fields_read named clear line with_cell cells all_read first with_allowance by_lines understood asked.lower asked.every
 edges = (refl, refl, refl, refl)
 
 -- what is printed of a fault
 pub fault-lines :
-    (fault_line 3 odd_blanks ≡ text "line 3: an odd number of blanks before the word: use two for each level\n")
-    × (fault_line 258 many_cells ≡ text "line 258: more than 256 cells: leave out this line and those below it\n")
+    (fault_line 3 OddBlanks ≡ text "line 3: an odd number of blanks before the word: use two for each level\n")
+    × (fault_line 258 ManyCells ≡ text "line 258: more than 256 cells: leave out this line and those below it\n")
 unfolding text decimal digits advice fault_line
 fault-lines = (refl, refl)

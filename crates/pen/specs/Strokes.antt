@@ -6,7 +6,6 @@ use Rattle.plan.specs.declared.Page.{Page}
 use Rattle.rules.specs.Placement.{Placement, right, base}
 use Rattle.ends.specs.Ended.{joined}
 use Rattle.ends.specs.declared.Ended.{Ended}
-use Rattle.ends.specs.declared.Ended.TheVariants.{Joined, Refused}
 use Rattle.pen.specs.declared.Stroke.{Stroke}
 use Rattle.pen.specs.declared.Stroke.TheVariants.{Move, Line, Lift}
 use Rattle.pen.specs.Paper.{across, down}
@@ -37,8 +36,7 @@ module _ (t : Table) (p : Placement) (g : Page) where
 
   -- "a move to the father's end, a line and a lift": the two ends are those that Ends answers
   unfoldable pub from_end_to_end : Ended → List Stroke
-  from_end_to_end (Joined x y u v) = move x y ∷ line u v ∷ Lift ∷ []
-  from_end_to_end (Refused k c) = []
+  from_end_to_end e = move e.from_x e.from_y ∷ line e.to_x e.to_y ∷ Lift ∷ []
 
   unfoldable pub connector_strokes : ℕ → List Stroke
   connector_strokes c = from_end_to_end (joined t p c)

@@ -80,14 +80,7 @@ fn is_name(name: &[u8]) -> bool
     if name.len() >= PATH_MAX {
         return false;
     }
-    let mut i = 0;
-    while i < name.len() {
-        if name[i] == 0 {
-            return false;
-        }
-        i += 1;
-    }
-    true
+    !name.contains(&0)
 }
 
 // The name as C reads it, up to a 0.

@@ -1,6 +1,6 @@
 -- Document 01, "Calls and their questions", with document 02's questions: THE sequence, what each asks, and which of them each call puts.
 -- A call's refusal is the first "no". Every definition computes. Assumes nothing.
-use Rattle.std.specs.Prelude.{List, [], ◌∷◌, ◌++◌, Bool, true, false, ◌&&◌, cond, ℕ, zero, suc, ◌+◌, ◌*◌, ◌-◌, length, get_or, eqb, leb, ltb, ℤ, pos}
+use Rattle.std.specs.Prelude.{List, [], ◌∷◌, ◌++◌, Bool, true, false, ◌&&◌, cond, ℕ, zero, suc, ◌+◌, ◌*◌, ◌-◌, length, get_or, eqb, leb, ltb, ℤ, pos, Result, Ok, Err, ⊤}
 use Rattle.whole.specs.Range.{in_range}
 use Rattle.plan.specs.Limits.{between, most_cells, most_width, most_depth, most_level, last_row, most_allowance, farthest, scratch_size, second_size, listing_size, lines_size, least_file, most_file, trailer_size, first_letter, last_letter, most_label, no_parent, most_steps, most_answers}
 use Rattle.plan.specs.Forms.{marked, form_of, record_size, widest}
@@ -372,6 +372,18 @@ module _ (g : Given) where
 -- THE refusal of a call: the first "no" of the questions that it puts, in the sequence's order
 unfoldable pub refusal : Call → Given → Refusal
 refusal call g = take_steps g (kept call sequence)
+
+-- what a call answers whose refusal is r: v where nothing is refused, else the refusal
+unfoldable pub answered : {A : Type 0} → Refusal → A → Result A Refusal
+answered r v = cond (eqb r.number 0) (Ok v) (Err r)
+
+-- the same of a question, or of several, with nothing to answer
+abbrev pub passed : Refusal → Result ⊤ Refusal
+passed r = answered r tt
+
+-- question n at cell c, whose answer is b, as code puts it
+unfoldable pub put_at : ℕ → Bool → ℕ → Result ⊤ Refusal
+put_at n b c = cond b (Ok tt) (Err (record { number = n; cell = c }))
 
 -- ---- what the calls on a lent table are given
 unfoldable pub layout_given : Table → (allowance scratch positions : ℕ) → Given

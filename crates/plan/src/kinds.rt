@@ -1,5 +1,5 @@
 // The kinds: 1 step, 2 run, 3 repeat, 4 choice, 5 wait.
-ghost use Rattle.std.specs.Prelude.{◌≡◌, ◌^◌, ◌<◌};
+ghost use Rattle.std.specs.Prelude.{◌≡◌, ◌^◌, ◌<◌, Some};
 ghost use Rattle.plan.specs.Plan.{appointed};
 ghost use Rattle.plan.specs.Kinds.{about, known, allows, bordered};
 
@@ -13,23 +13,17 @@ pub struct Kind {
     pub border: u8,
 }
 
-#[derive(Clone, Copy, Drop)]
-pub enum Lookup {
-    Known(Kind),
-    Unknown,
-}
-
-fn entry(fewest: u8, most: u8, border: u8) -> Lookup
-    ensures { result ≡ Lookup.Known (record { fewest = fewest; most = most; border = border }) }
+fn entry(fewest: u8, most: u8, border: u8) -> Option<Kind>
+    ensures { result ≡ Some (record { fewest = fewest; most = most; border = border }) }
 {
-    Lookup::Known(Kind {
+    Some(Kind {
         fewest,
         most,
         border,
     })
 }
 
-pub fn about(kind: u8) -> Lookup
+pub fn about(kind: u8) -> Option<Kind>
     ensures { result ≡ about kind }
 {
     match kind {
@@ -38,7 +32,7 @@ pub fn about(kind: u8) -> Lookup
         3 => entry(1, 1, 4),
         4 => entry(2, MOST_CHILDREN, 4),
         5 => entry(0, 1, 2),
-        _ => Lookup::Unknown,
+        _ => None,
     }
 }
 
@@ -46,10 +40,7 @@ pub fn about(kind: u8) -> Lookup
 pub fn known(kind: u8) -> bool
     ensures { result ≡ known kind }
 {
-    match about(kind) {
-        Lookup::Known(_) => true,
-        Lookup::Unknown => false,
-    }
+    about(kind).is_some()
 }
 
 // Question 11: whether the kind allows so many children.
@@ -57,8 +48,8 @@ pub fn allows(kind: u8, children: u16) -> bool
     ensures { result ≡ allows kind children }
 {
     match about(kind) {
-        Lookup::Known(k) => between(k.fewest as u16, k.most as u16, children),
-        Lookup::Unknown => false,
+        Some(k) => between(k.fewest as u16, k.most as u16, children),
+        None => false,
     }
 }
 
@@ -67,8 +58,8 @@ pub fn bordered(kind: u8, size: u8, width: u16) -> bool
     ensures { result ≡ bordered kind size width }
 {
     match about(kind) {
-        Lookup::Known(k) => (size as u16) + (k.border as u16) <= width,
-        Lookup::Unknown => false,
+        Some(k) => (size as u16) + (k.border as u16) <= width,
+        None => false,
     }
 }
 

@@ -40,11 +40,26 @@ pub struct Lettered {
     pub label_start: [u16; MOST_CELLS],
 }
 
-// A question's number and the lowest cell at fault; 0 and 0 where nothing is refused.
+// A question's number and the lowest cell at fault. (In the definitions, number 0 says that nothing is refused.)
 #[derive(Clone, Copy, Drop)]
 pub struct Refusal {
     pub number: u8,
     pub cell: u16,
+}
+
+// Width and rows of a sheet.
+#[derive(Clone, Copy, Drop)]
+pub struct Measures {
+    pub width: u32,
+    pub rows: u32,
+}
+
+// The lowest rule that a placement breaks, and the lowest two boxes at which it does.
+#[derive(Clone, Copy, Drop)]
+pub struct Breach {
+    pub rule: u8,
+    pub a: u16,
+    pub b: u16,
 }
 
 // The page of a plotter, in millimetres: the pitch of the lattice, and both margins.

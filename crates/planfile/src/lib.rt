@@ -4,50 +4,40 @@
 pub mod questions;
 
 ghost use Rattle.std.specs.Prelude.{◌≡◌};
+ghost use Rattle.plan.specs.Questions.{answered, passed};
+ghost use Rattle.planfile_spec.specs.Read.{answer_of};
 ghost use Rattle.planfile_spec.specs.Reading.{reading_of, label_refusal, label_part};
 ghost use Rattle.planfile.specs.Subslice.{Subslice};
 
 use crate::questions::examined;
-pub use crate::questions::refused;
 use asking::asked;
 use plan::Refusal;
 use plan::forms::form_of;
 use plan::limits::MOST_CELLS;
 use planfile_cursor::{Cursor, place, trailer};
-use planfile_spec::{Part, Reading};
+use planfile_spec::{Part, PlanFile};
 
 // Reads a plan file for a table of so many records.
-pub fn read(file: &[u8], room: usize) -> Reading
-    ensures { result ≡ reading_of file.now room }
+pub fn read(file: &[u8], room: usize) -> Result<PlanFile, Refusal>
+    ensures { result ≡ answer_of (reading_of file.now room) }
 {
-    let long = asked(1, MOST_CELLS <= room, 0);
-    if long.number != 0 {
-        return refused(long);
-    }
+    asked(1, MOST_CELLS <= room, 0)?;
     examined(file)
 }
 
-// Why Label refuses: number and cell, or 0 and 0.
-pub fn label_refusal(file: &[u8], cell: usize) -> Refusal
-    ensures { result ≡ label_refusal file.now cell }
+// Why Label refuses.
+pub fn label_refusal(file: &[u8], cell: usize) -> Result<(), Refusal>
+    ensures { result ≡ passed (label_refusal file.now cell) }
 {
-    let plan = examined(file);
-    let refusal = plan.refusal;
-    if refusal.number != 0 {
-        return refusal;
-    }
-    let columns = plan.columns;
-    asked(16, cell < columns.count, 0)
+    let plan = examined(file)?;
+    asked(16, cell < plan.cells.columns.count, 0)
 }
 
-// Where a cell's label stands in the file; refused, the empty part at byte 0.
-pub fn label_part(file: &[u8], cell: usize) -> Part
-    ensures { result ≡ label_part file.now cell }
+// Where a cell's label stands in the file.
+fn placed(file: &[u8], cell: usize) -> Result<Part, Refusal>
+    ensures { result ≡ answered (label_refusal file.now cell) (label_part file.now cell) }
 {
-    let refusal = label_refusal(file, cell);
-    if refusal.number != 0 {
-        return Part { start: 0, end: 0 };
-    }
+    label_refusal(file, cell)?;
     let t = trailer(file);
     let form = form_of(t.mark);
     let cursor = Cursor {
@@ -55,10 +45,18 @@ pub fn label_part(file: &[u8], cell: usize) -> Part
     };
     let entry = cursor.entry(file, form);
     let fields = entry.fields;
-    let start = fields.label_start as usize;
-    let size = fields.label_length as usize;
-    let end = start + size;
-    Part { start, end }
+    let start = usize::from(fields.label_start);
+    Ok(Part {
+        start,
+        end: start + usize::from(fields.label_length),
+    })
+}
+
+// The same; refused, the empty part at byte 0.
+pub fn label_part(file: &[u8], cell: usize) -> Part
+    ensures { result ≡ label_part file.now cell }
+{
+    placed(file, cell).unwrap_or(Part { start: 0, end: 0 })
 }
 
 // A cell's label, as that part of the file's own bytes; refused, the empty part at byte 0.

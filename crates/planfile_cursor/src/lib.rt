@@ -11,7 +11,6 @@ use plan::Record;
 use plan::forms::{Form, record_size};
 use plan::limits::TRAILER_SIZE;
 use planfile_spec::Trailer;
-use whole::numbers::wide8to16;
 
 #[derive(Drop)]
 pub struct Cursor {
@@ -91,7 +90,7 @@ impl Cursor {
         let fields = Record {
             parent: parent.value,
             kind: kind.value,
-            width: wide8to16(width.value),
+            width: u16::from(width.value),
             depth: depth.value,
             rank: 0,
             label_length: label_length.value,

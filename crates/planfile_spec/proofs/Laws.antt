@@ -1,3 +1,4 @@
+pub mod Answer
 pub mod Every
 pub mod Examined
 pub mod File

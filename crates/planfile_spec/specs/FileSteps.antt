@@ -11,7 +11,7 @@ use Rattle.plan.specs.Steps.{cell_refusal, tree_refusal}
 use Rattle.plan.specs.declared.Refusal.{Refusal}
 use Rattle.plan.specs.declared.forms.Form.{Form}
 use Rattle.plan.specs.declared.forms.Form.TheVariants.{Old}
-use Rattle.planfile_spec.specs.declared.Reading.{Reading}
+use Rattle.planfile_spec.specs.Read.{Reading}
 use Rattle.planfile_spec.specs.Format.{trailer_of, form, record_at, entry, records_of}
 use Rattle.planfile_spec.specs.Reading.{columns_of}
 

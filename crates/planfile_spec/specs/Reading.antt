@@ -4,7 +4,7 @@ use Rattle.plan.specs.Limits.{most_cells}
 use Rattle.plan.specs.Questions.{to_fill, nothing, named, none, read, label, refusal}
 use Rattle.plan.specs.declared.Record.{Record}
 use Rattle.plan.specs.declared.Refusal.{Refusal}
-use Rattle.planfile_spec.specs.declared.Reading.{Reading}
+use Rattle.planfile_spec.specs.Read.{Reading}
 use Rattle.planfile_spec.specs.declared.Part.{Part}
 use Rattle.planfile_spec.specs.Format.{trailer_of, entry, file_given}
 

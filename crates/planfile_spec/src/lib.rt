@@ -1,8 +1,7 @@
 // The structs of which the definitions of a plan file speak.
 #![tactic(auto)]
 
-use plan::limits::MOST_CELLS;
-use plan::{Columns, Refusal};
+use plan::Lettered;
 
 // What the last 8 bytes of a file say.
 #[derive(Clone, Copy, Drop)]
@@ -13,14 +12,11 @@ pub struct Trailer {
     pub mark: u16,
 }
 
-// Read's answer: a refusal and no cell; or a refusal of 0 and 0, the allowance and the records in columns, zeros after them.
+// A plan that was read: the allowance, and the records in columns, zeros after them.
 #[derive(Clone, Copy, Drop)]
-pub struct Reading {
-    pub refusal: Refusal,
+pub struct PlanFile {
     pub allowance: u16,
-    pub columns: Columns,
-    pub label_length: [u8; MOST_CELLS],
-    pub label_start: [u16; MOST_CELLS],
+    pub cells: Lettered,
 }
 
 // The bytes of a file from start to end.

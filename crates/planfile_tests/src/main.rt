@@ -4,13 +4,12 @@
 
 ghost use Rattle.std.specs.Prelude.{◌<◌};
 
-use plan::{Columns, Refusal};
-use planfile_spec::Reading;
+use planfile_spec::PlanFile;
 use std::io;
 use std::io::Read;
 
 fn number(low: u8, high: u8) -> usize {
-    (low as usize) + 256 * (high as usize)
+    usize::from(low) + 256 * usize::from(high)
 }
 
 // The number of two bytes of a case's head.
@@ -20,50 +19,27 @@ fn field(head: &[u8; 6], i: usize) -> usize
     number(head[i], head[i + 1])
 }
 
-fn print(rt: &impl Print, n: u64, after: u8) -> io::Result<()> {
-    rt.print(n)?;
-    rt.write_all(&[after])
-}
-
-fn print16(rt: &impl Print, n: u16, after: u8) -> io::Result<()> {
-    print(rt, n as u64, after)
-}
-
-fn print8(rt: &impl Print, n: u8, after: u8) -> io::Result<()> {
-    print(rt, n as u64, after)
-}
-
-// A word, the number and the cell of a refusal.
-fn print_refusal(rt: &impl Print, word: &[u8], refusal: Refusal, after: u8) -> io::Result<()> {
-    rt.write_all(word)?;
-    print8(rt, refusal.number, b' ')?;
-    print16(rt, refusal.cell, after)
-}
-
-// The numbers of a cell: parent, kind, rank, W, D.
-fn print_cell(rt: &impl Print, t: Columns, c: usize) -> io::Result<()>
+// The numbers of a cell, parent, kind, rank, W, D, its label's length and start, and the label itself.
+fn print_record(rt: &impl Print, plan: &PlanFile, file: &[u8], c: usize) -> io::Result<()>
     requires { c < 256 }
 {
-    print16(rt, t.parent[c], b' ')?;
-    print8(rt, t.kind[c], b' ')?;
-    print8(rt, t.rank[c], b' ')?;
-    print16(rt, t.width[c], b' ')?;
-    print8(rt, t.depth[c], b' ')
-}
-
-// The same, its label's length and start, and the label itself.
-fn print_record(rt: &impl Print, plan: Reading, file: &[u8], c: usize) -> io::Result<()>
-    requires { c < 256 }
-{
-    print_cell(rt, plan.columns, c)?;
-    print8(rt, plan.label_length[c], b' ')?;
-    print16(rt, plan.label_start[c], b' ')?;
+    let t = &plan.cells.columns;
+    print!(rt;
+        "{} {} {} {} {} ",
+        t.parent[c], t.kind[c], t.rank[c], t.width[c], t.depth[c]
+    )?;
+    print!(rt;
+        "{} {} ",
+        plan.cells.label_length[c], plan.cells.label_start[c]
+    )?;
     rt.write_all(planfile::label(file, c))?;
     rt.write_all(b"\n")
 }
 
 // The first four records and the one after the last, which is blank.
-fn print_records(rt: &impl Print, plan: Reading, file: &[u8], n: usize) -> io::Result<()> {
+fn print_plan(rt: &impl Print, plan: &PlanFile, file: &[u8]) -> io::Result<()> {
+    let n = plan.cells.columns.count;
+    println!(rt; "plan {} {}", n, plan.allowance)?;
     for c in 0..4 {
         if c <= n {
             print_record(rt, plan, file, c)?;
@@ -73,21 +49,18 @@ fn print_records(rt: &impl Print, plan: Reading, file: &[u8], n: usize) -> io::R
 }
 
 fn print_reading(rt: &impl Print, file: &[u8], room: usize) -> io::Result<()> {
-    let plan = planfile::read(file, room);
-    let refusal = plan.refusal;
-    if refusal.number != 0 {
-        return print_refusal(rt, b"refused ", refusal, b'\n');
+    match planfile::read(file, room) {
+        Ok(plan) => print_plan(rt, &plan, file),
+        Err(refusal) => println!(rt; "refused {} {}", refusal.number, refusal.cell),
     }
-    let columns = plan.columns;
-    let n = columns.count;
-    rt.write_all(b"plan ")?;
-    print(rt, n as u64, b' ')?;
-    print(rt, plan.allowance as u64, b'\n')?;
-    print_records(rt, plan, file, n)
 }
 
+// The refusal's number and cell, 0 and 0 where there is none, and the label.
 fn print_label(rt: &impl Print, file: &[u8], cell: usize) -> io::Result<()> {
-    print_refusal(rt, b"label ", planfile::label_refusal(file, cell), b' ')?;
+    match planfile::label_refusal(file, cell) {
+        Ok(()) => print!(rt; "label 0 0 ")?,
+        Err(refusal) => print!(rt; "label {} {} ", refusal.number, refusal.cell)?,
+    }
     rt.write_all(planfile::label(file, cell))?;
     rt.write_all(b"\n")
 }

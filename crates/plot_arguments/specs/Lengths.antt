@@ -1,9 +1,7 @@
 -- WHAT AN ARGUMENT OF `plot` SAYS: a length in thousandths of a millimetre, read byte by byte, or that it is no number (docs/DECISIONS.md). A number has digits and at most one
 -- point before, among or behind them, one digit at least, and three behind the point at most. Question 17 judges every number; what is none is trouble. Assumes nothing.
-use Rattle.std.specs.Prelude.{true, false, ◌&&◌, cond, List, [], ◌∷◌, ℕ, ◌+◌, ◌*◌, ◌-◌, min, eqb, leb, ltb}
+use Rattle.std.specs.Prelude.{true, false, ◌&&◌, cond, List, [], ◌∷◌, ℕ, ◌+◌, ◌*◌, ◌-◌, min, eqb, leb, ltb, Option, Some, None}
 use Rattle.plot_arguments.specs.declared.Digits.{Digits}
-use Rattle.plot_arguments.specs.declared.Length.{Length}
-use Rattle.plot_arguments.specs.declared.Length.TheVariants.{Thousandths, NoNumber}
 
 abbrev pub point : ℕ
 point = 46
@@ -40,9 +38,9 @@ run d (b ∷ bs) = run (step d b) bs
 unfoldable pub thousandths : (value place : ℕ) → ℕ
 thousandths v p = cond (leb p 1) (v * 1000) (cond (eqb p 2) (v * 100) (cond (eqb p 3) (v * 10) v))
 
-unfoldable pub finish : Digits → Length
-finish d = cond d.fault NoNumber (cond d.seen (Thousandths (thousandths d.value d.place)) NoNumber)
+unfoldable pub finish : Digits → Option ℕ
+finish d = cond d.fault None (cond d.seen (Some (thousandths d.value d.place)) None)
 
 -- THE LENGTH
-unfoldable pub length_of : List ℕ → Length
+unfoldable pub length_of : List ℕ → Option ℕ
 length_of text = finish (run start text)

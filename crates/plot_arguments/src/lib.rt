@@ -1,7 +1,7 @@
 // A length that an argument of `plot` says, in thousandths of a millimetre: digits with at most one point, one digit at least, three behind the point at most.
 #![tactic(auto)]
 
-ghost use Rattle.std.specs.Prelude.{◌≡◌, ◌+◌, ◌*◌, ◌-◌, ◌≤◌, min};
+ghost use Rattle.std.specs.Prelude.{◌≡◌, ◌+◌, ◌*◌, ◌-◌, ◌≤◌};
 ghost use Rattle.plot_arguments.specs.Lengths.{most, «next_place», with_point, with_digit, broken, step, thousandths, finish, length_of};
 
 const POINT: u8 = 46;
@@ -12,13 +12,6 @@ const NINE: u8 = 57;
 
 // A number of so many units of its last digit or more counts as so many, which question 17 refuses in any unit.
 const MOST: u32 = 1000000;
-
-// What an argument says.
-#[derive(Drop)]
-pub enum Length {
-    Thousandths(u32),
-    NoNumber,
-}
 
 // What is read so far: the digits as one number; where the last of them stands, 0 before the point, else one more than the digits behind it;
 // whether there was a digit; whether it is no number.
@@ -39,12 +32,6 @@ fn broken() -> Digits
         seen: false,
         fault: true,
     }
-}
-
-fn capped(n: u32) -> u32
-    ensures { result ≡ min n most }
-{
-    if n < MOST { n } else { MOST }
 }
 
 fn next_place(place: u8) -> u8
@@ -78,7 +65,7 @@ fn with_digit(d: Digits, b: u8) -> Digits
     if 3 < d.place {
         return broken();
     }
-    let value = capped(10 * d.value + ((b - ZERO) as u32));
+    let value = (10 * d.value + u32::from(b - ZERO)).min(MOST);
     let place = next_place(d.place);
     Digits {
         value,
@@ -123,20 +110,21 @@ fn thousandths(value: u32, place: u8) -> u32
     value
 }
 
-fn finish(d: Digits) -> Length
+// The length, if there is a number.
+fn finish(d: Digits) -> Option<u32>
     requires { d.value ≤ most }
     ensures { result ≡ finish d }
 {
     if d.fault {
-        return Length::NoNumber;
+        return None;
     }
     if d.seen {
-        return Length::Thousandths(thousandths(d.value, d.place));
+        return Some(thousandths(d.value, d.place));
     }
-    Length::NoNumber
+    None
 }
 
-pub fn read_length(text: &[u8]) -> Length
+pub fn read_length(text: &[u8]) -> Option<u32>
     ensures { result ≡ length_of text.now }
 {
     let mut d = Digits {
@@ -145,10 +133,8 @@ pub fn read_length(text: &[u8]) -> Length
         seen: false,
         fault: false,
     };
-    let mut i: usize = 0;
-    while i < text.len() {
-        d = read_byte(d, text[i]);
-        i += 1;
+    for b in text {
+        d = read_byte(d, *b);
     }
     finish(d)
 }

@@ -2,7 +2,7 @@
 // An x lies from −262,143 to 262,143, and is held here moved up by 262,143.
 #![tactic(auto)]
 
-ghost use Rattle.std.specs.Prelude.{◌≡◌, List, ℕ, ◌+◌, ◌-◌, ◌*◌, ◌^◌, ◌≤◌, ◌<◌, length, get_or, set, pos, ◌-ℤ◌};
+ghost use Rattle.std.specs.Prelude.{◌≡◌, List, ℕ, ◌+◌, ◌-◌, ◌*◌, ◌≤◌, ◌<◌, length, get_or, set, pos, ◌-ℤ◌};
 ghost use Rattle.plan.specs.Limits.{farthest, most_cells};
 ghost use Rattle.plan.specs.Plan.{Sound, row, dictated_bottom};
 ghost use Rattle.plan.specs.Columns.{table, «table_of»};
@@ -18,27 +18,6 @@ use marks::MARKS;
 use plan::Columns;
 use plan::limits::{FARTHEST, MOST_CELLS};
 use whole::difference;
-use whole::numbers::{greater, lesser, wide16};
-
-fn wide32(x: u16) -> u32
-    ensures { (result ≡ x) × (result < 2 ^ 16) }
-{
-    x as u32
-}
-
-fn wide8(x: u8) -> u32
-    ensures { (result ≡ x) × (result < most_cells) }
-{
-    x as u32
-}
-
-// The parent of a cell.
-fn parent_of(parents: &[u16; MOST_CELLS], c: usize) -> usize
-    requires { c < most_cells }
-    ensures { result ≡ get_or parents.now c 0 }
-{
-    wide16(parents[c])
-}
 
 // The x of each cell: its parent's, and its distance from its first sibling less that of the appointed one.
 pub fn raised(t: Columns, marks: &[u32; MARKS]) -> [u32; MOST_CELLS]
@@ -46,12 +25,10 @@ pub fn raised(t: Columns, marks: &[u32; MARKS]) -> [u32; MOST_CELLS]
     ensures { (al : ℕ) → Marked (table_of t) al marks.now → Raised result t.count (sheet (table_of t) al).x }
 {
     let mut xs = [FARTHEST; MOST_CELLS];
-    let mut c: usize = 1;
-    while c < t.count {
-        let f = parent_of(&t.parent, c);
+    for c in 1..t.count {
+        let f = usize::from(t.parent[c]);
         let right = xs[f] + mark_of(marks, c, 3);
         xs[c] = right - mark_of(marks, f, 0);
-        c += 1;
     }
     xs
 }
@@ -69,7 +46,7 @@ fn y_of(tops: &[u16; MOST_CELLS], c: usize) -> i32
     requires { c < most_cells }
     ensures { result ≡ pos (get_or tops.now c 0) }
 {
-    difference(wide32(tops[c]), 0)
+    i32::from(tops[c])
 }
 
 // Both are written.
@@ -91,10 +68,8 @@ pub fn write_positions(
     requires { High xs.now n × (2 * n ≤ length positions.old) }
     ensures { (p : Placement) → Raised xs.now n p.x → Topped tops.now n p.y → positions.new ≡ written positions.old p n }
 {
-    let mut c: usize = 0;
-    while c < n {
+    for c in 0..n {
         put_corner(positions, c, x_of(xs, c), y_of(tops, c));
-        c += 1;
     }
 }
 
@@ -103,7 +78,7 @@ fn right_edge(xs: &[u32; MOST_CELLS], widths: &[u16; MOST_CELLS], c: usize) -> u
     requires { (c < most_cells) × (get_or xs.now c 0 ≤ 2 * farthest) }
     ensures { result ≡ get_or xs.now c 0 + get_or widths.now c 0 }
 {
-    xs[c] + wide32(widths[c])
+    xs[c] + u32::from(widths[c])
 }
 
 // The greatest right edge less the least x.
@@ -113,11 +88,9 @@ pub fn sheet_width(xs: &[u32; MOST_CELLS], widths: &[u16; MOST_CELLS], n: usize)
 {
     let mut least = xs[0];
     let mut most = right_edge(xs, widths, 0);
-    let mut c: usize = 1;
-    while c < n {
-        least = lesser(least, xs[c]);
-        most = greater(most, right_edge(xs, widths, c));
-        c += 1;
+    for c in 1..n {
+        least = least.min(xs[c]);
+        most = most.max(right_edge(xs, widths, c));
     }
     most - least
 }
@@ -127,7 +100,7 @@ fn last_row(tops: &[u16; MOST_CELLS], depths: &[u8; MOST_CELLS], c: usize) -> u3
     requires { c < most_cells }
     ensures { (result ≡ get_or tops.now c 0 + get_or depths.now c 0) × (result ≤ 65790) }
 {
-    wide32(tops[c]) + wide8(depths[c])
+    u32::from(tops[c]) + u32::from(depths[c])
 }
 
 // The last row of all, and one.
@@ -136,10 +109,8 @@ pub fn sheet_rows(tops: &[u16; MOST_CELLS], depths: &[u8; MOST_CELLS], n: usize)
     ensures { (ps ks ws qs : List ℕ) → Sound (table ps ks ws depths.now qs n) → Column tops.now n (row (table ps ks ws depths.now qs n)) → result ≡ dictated_bottom (table ps ks ws depths.now qs n) 0 + 1 }
 {
     let mut last = last_row(tops, depths, 0);
-    let mut c: usize = 1;
-    while c < n {
-        last = greater(last, last_row(tops, depths, c));
-        c += 1;
+    for c in 1..n {
+        last = last.max(last_row(tops, depths, c));
     }
     last + 1
 }

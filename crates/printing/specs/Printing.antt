@@ -1,20 +1,18 @@
 -- THE LISTING OF A PLAN FILE (document 01, "Printed"). Assumes nothing.
-use Rattle.std.specs.Prelude.{◌≡◌, cond, List, [], ◌∷◌, ◌++◌, map, ℕ, ◌*◌, ◌≤◌, eqb, ℤ, length, drop}
+use Rattle.std.specs.Prelude.{◌≡◌, cond, List, [], ◌∷◌, ◌++◌, map, ℕ, ◌*◌, ◌≤◌, eqb, ℤ, length, drop, Result, Ok, Err}
 use Rattle.whole.specs.Whole.{plus}
 use Rattle.plan.specs.Limits.{most_cells, listing_size}
 use Rattle.plan.specs.Lists.{from}
 use Rattle.plan.specs.Plan.{Table, box_width, box_depth}
 use Rattle.plan.specs.Columns.{table_of}
-use Rattle.plan.specs.Questions.{list, list_given, refusal}
+use Rattle.plan.specs.Questions.{list, list_given, refusal, answered}
 use Rattle.plan.specs.declared.Refusal.{Refusal}
 use Rattle.rules.specs.Placement.{Placement, placed, Agree, width, rows}
 use Rattle.contours.specs.Sheet.{sheet}
-use Rattle.planfile_spec.specs.declared.Reading.{Reading}
+use Rattle.planfile_spec.specs.Read.{Reading}
 use Rattle.planfile_spec.specs.Reading.{reading_of, label_part}
 use Rattle.planfile.specs.Subslice.{bytes_in}
 use Rattle.listing.specs.Printed.{Bytes, sheet_line, cell_line, refused_line, lines_joined}
-use Rattle.printing.specs.declared.Listed.{Listed}
-use Rattle.printing.specs.declared.Listed.TheVariants.{Text, Refused}
 
 -- the bytes of a cell's label
 abbrev pub label_bytes : Bytes → (cell : ℕ) → Bytes
@@ -49,21 +47,21 @@ text_of f = lines_joined (listing_of f)
 
 -- ---- WHAT THE CALL ANSWERS, and what it leaves in the output lent to it, on every input
 -- document 01's values of the two answers: the length of the listing; number and cell of the refusal, of an output that is too short
-unfoldable pub listed_of : (file : Bytes) → Refusal → Listed
-listed_of f r = cond (eqb r.number 0) (Text (length (text_of f))) (Refused r.number r.cell)
+unfoldable pub listed_of : (file : Bytes) → Refusal → Result ℕ Refusal
+listed_of f r = answered r (length (text_of f))
 
 -- the lent output after it. Of a listing: the listing, the rest as it was. Of a refusal: as it was
-unfoldable pub out_after : Listed → (file out : Bytes) → Bytes
-out_after (Text n) f out = text_of f ++ drop n out
-out_after (Refused k c) f out = out
+unfoldable pub out_after : Result ℕ Refusal → (file out : Bytes) → Bytes
+out_after (Ok n) f out = text_of f ++ drop n out
+out_after (Err r) f out = out
 
 -- bytes of the listing that a call gives
-unfoldable pub size : Listed → ℕ
-size (Text n) = n
-size (Refused k c) = 0
+unfoldable pub size : Result ℕ Refusal → ℕ
+size (Ok n) = n
+size (Err r) = 0
 
 -- a call: the answer, and the output before and after it. The length that question 1 asks for suffices
-pub record Lists (f out out' : Bytes) (r : Listed) : Type 0 where
+pub record Lists (f out out' : Bytes) (r : Result ℕ Refusal) : Type 0 where
   pub answers : r ≡ listed_of f (refusal list (list_given (length out)))
   pub bytes : out' ≡ out_after r f out
   pub suffices : size r ≤ listing_size

@@ -1,14 +1,13 @@
-// A lent run of records, taken apart into columns of numbers and filled from a reading.
+// A lent run of records, taken apart into columns of numbers and filled from columns.
 #![tactic(auto)]
 
 ghost use Rattle.std.specs.Prelude.{◌≡◌, ◌<◌, ◌≤◌, length};
 ghost use Rattle.plan.specs.Limits.{most_cells};
 ghost use Rattle.records.specs.Apart.{«lent_at», blank, clipped, lent_columns, lent_lettered};
-ghost use Rattle.records.specs.Together.{filled};
+ghost use Rattle.records.specs.Together.{as_reading, filled};
 
 use plan::limits::MOST_CELLS;
 use plan::{Columns, Lettered, Record};
-use planfile_spec::Reading;
 
 // One record of a lent table.
 fn record_at(table: &[Record], c: usize) -> Record
@@ -54,8 +53,7 @@ pub fn lettered_of(table: &[Record]) -> Lettered
     let count = table.len();
     let n = clip(count);
     let mut t = empty(count);
-    let mut c = 0;
-    while c < n {
+    for c in 0..n {
         let r = record_at(table, c);
         t.columns.parent[c] = r.parent;
         t.columns.kind[c] = r.kind;
@@ -64,7 +62,6 @@ pub fn lettered_of(table: &[Record]) -> Lettered
         t.columns.rank[c] = r.rank;
         t.label_length[c] = r.label_length;
         t.label_start[c] = r.label_start;
-        c += 1;
     }
     t
 }
@@ -77,22 +74,20 @@ pub fn columns_of(table: &[Record]) -> Columns
     t.columns
 }
 
-// Writes the records of cells 0 to n - 1, and leaves the rest.
-pub fn fill(reading: Reading, n: usize, table: &mut [Record])
-    requires { (n ≤ length table.old) × (n ≤ most_cells) }
-    ensures { table.new ≡ filled reading n table.old }
+// Writes the records of the cells, and leaves the rest.
+pub fn fill(t: &Lettered, table: &mut [Record])
+    requires { (t.now.columns.count ≤ length table.old) × (t.now.columns.count ≤ most_cells) }
+    ensures { table.new ≡ filled (as_reading t.now) t.now.columns.count table.old }
 {
-    let mut c = 0;
-    while c < n {
+    for c in 0..t.columns.count {
         table[c] = Record {
-            parent: reading.columns.parent[c],
-            kind: reading.columns.kind[c],
-            rank: reading.columns.rank[c],
-            width: reading.columns.width[c],
-            depth: reading.columns.depth[c],
-            label_length: reading.label_length[c],
-            label_start: reading.label_start[c],
+            parent: t.columns.parent[c],
+            kind: t.columns.kind[c],
+            rank: t.columns.rank[c],
+            width: t.columns.width[c],
+            depth: t.columns.depth[c],
+            label_length: t.label_length[c],
+            label_start: t.label_start[c],
         };
-        c += 1;
     }
 }

@@ -5,17 +5,8 @@ ghost use Rattle.std.specs.Prelude.{◌≡◌, ◌+◌, ◌-◌, ◌*◌, ◌≤
 ghost use Rattle.plan.specs.Limits.{farthest};
 ghost use Rattle.rows.specs.Rows.{row_size, Low, box_to, max_to, clash_to, shifted_of, put_one, upto_rows, beyond_rows};
 
-use whole::numbers::greater;
-
 // Numbers in a row of the scratch: a left and a right extent for each of 32 levels.
 pub const ROW: usize = 64;
-
-// The difference, 0 where it would be negative.
-pub fn less(a: u32, b: u32) -> u32
-    ensures { result ≡ a - b }
-{
-    if b <= a { a - b } else { 0 }
-}
 
 // A number of the scratch.
 pub fn extent_at(rows: &[u32], row: usize, column: usize) -> u32
@@ -30,12 +21,10 @@ pub fn box_rows(rows: &mut [u32], k: usize, n: usize, w: u32)
     requires { (k ≤ 62) × (row_size * n ≤ length rows.old) }
     ensures { rows.new ≡ box_to rows.old k w n }
 {
-    let mut j: usize = 0;
-    while j < n {
+    for j in 0..n {
         let b = ROW * j + k;
         rows[b] = 0;
         rows[b + 1] = w;
-        j += 1;
     }
 }
 
@@ -45,10 +34,8 @@ pub fn column_max(rows: &[u32], k: usize, n: usize) -> u32
     ensures { result ≡ max_to rows.now k n }
 {
     let mut g: u32 = 0;
-    let mut j: usize = 0;
-    while j < n {
-        g = greater(g, extent_at(rows, j, k));
-        j += 1;
+    for j in 0..n {
+        g = g.max(extent_at(rows, j, k));
     }
     g
 }
@@ -58,7 +45,7 @@ fn needed(r: u32, x: u32, l: u32) -> u32
     requires { (r ≤ farthest) × (l ≤ farthest) }
     ensures { result ≡ (r - x) + l + 1 }
 {
-    less(r, x) + l + 1
+    r.saturating_sub(x) + l + 1
 }
 
 // The least distance at which the first n rows of the column k + 2 clear those of the column k, seen from x.
@@ -67,13 +54,8 @@ pub fn clash(rows: &[u32], k: usize, x: u32, n: usize) -> u32
     ensures { result ≡ clash_to rows.now k x n }
 {
     let mut g: u32 = 0;
-    let mut j: usize = 0;
-    while j < n {
-        g = greater(
-            g,
-            needed(extent_at(rows, j, k + 1), x, extent_at(rows, j, k + 2)),
-        );
-        j += 1;
+    for j in 0..n {
+        g = g.max(needed(extent_at(rows, j, k + 1), x, extent_at(rows, j, k + 2)));
     }
     g
 }
@@ -96,7 +78,7 @@ fn shifted(there: bool, old: u32, g: u32, new: u32) -> u32
     ensures { result ≡ shifted_of there old g new }
 {
     if there {
-        return greater(old + g, new);
+        return (old + g).max(new);
     }
     new
 }
@@ -106,13 +88,11 @@ pub fn join_upto(rows: &mut [u32], at: usize, h: usize, g: u32, n: usize)
     requires { (at ≤ 60) × (row_size * n ≤ length rows.old) × Low rows.old × (g ≤ 4 * farthest) }
     ensures { rows.new ≡ upto_rows rows.old at h g n }
 {
-    let mut j: usize = 0;
-    while j < n {
+    for j in 0..n {
         let old = extent_at(rows, j, at);
         let l = shifted(j < h, old, g, extent_at(rows, j, at + 2));
         let r = extent_at(rows, j, at + 3);
         put_row(rows, at, j, l, r);
-        j += 1;
     }
 }
 
@@ -121,11 +101,9 @@ pub fn join_beyond(rows: &mut [u32], at: usize, x: u32, n: usize)
     requires { (at ≤ 60) × (row_size * n ≤ length rows.old) × Low rows.old × (x ≤ 4 * farthest) }
     ensures { rows.new ≡ beyond_rows rows.old at x n }
 {
-    let mut j: usize = 0;
-    while j < n {
+    for j in 0..n {
         let l = extent_at(rows, j, at);
         let r = x + extent_at(rows, j, at + 3);
         put_row(rows, at, j, l, r);
-        j += 1;
     }
 }

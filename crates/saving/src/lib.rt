@@ -15,20 +15,29 @@ use std::io::{ErrorKind, Write};
 use std::os::unix::fs::PermissionsExt;
 use std::process::Process;
 use std::rt::Files;
+use std::str::Utf8Error;
 use std::{fs, io, process};
 
 // The longest name that leaves room for `.unfinished-`, the 20 digits of a number and a 0.
 const NAME_SIZE: usize = PATH_MAX - 33;
 
-// More than any permissions: those that the umask leaves.
-const NEW: u32 = 0o10000;
-
-// How a saving ended.
+// Why a saving failed: what has the name is no regular file; or the system refused.
 #[derive(Drop)]
-pub enum Saved {
-    Done,
+pub enum SaveError {
     NotRegular,
     Failed,
+}
+
+impl From<io::Error> for SaveError {
+    fn from(_e: io::Error) -> SaveError {
+        SaveError::Failed
+    }
+}
+
+impl From<Utf8Error> for SaveError {
+    fn from(_e: Utf8Error) -> SaveError {
+        SaveError::Failed
+    }
 }
 
 // The number of this process.
@@ -57,74 +66,89 @@ fn fresh<R: Files>(rt: &R, path: &str) -> io::Result<R::File> {
 // The same. What a dead process of the same number left under that name is removed.
 fn created<R: Files>(rt: &R, path: &str) -> io::Result<R::File> {
     match fresh(rt, path) {
-        Ok(file) => Ok(file),
-        Err(e) => {
-            if e.kind() != ErrorKind::AlreadyExists {
-                return Err(e);
-            }
+        Err(e) if e.kind() == ErrorKind::AlreadyExists => {
             fs::remove_file(rt, path).is_ok();
             fresh(rt, path)
         }
+        opened => opened,
     }
 }
 
-fn permitted<F: OpenFile>(file: &F, mode: u32) -> bool {
-    if mode == NEW {
-        return true;
+// The permissions that are kept, if any are; without, the umask's stay.
+fn permit<F: OpenFile>(file: &F, mode: Option<u32>) -> io::Result<()> {
+    match mode {
+        Some(mode) => file.set_permissions(Permissions::from_mode(mode)),
+        None => Ok(()),
     }
-    file.set_permissions(Permissions::from_mode(mode)).is_ok()
 }
 
 // The bytes into an open file, which is closed. It has its permissions before the bytes, so that nobody reads them who may not, and again after them, since writing may take some away.
-fn filled<F: Write + OpenFile + Drop>(file: F, mode: u32, bytes: &[u8]) -> bool {
+fn fill<F: Write + OpenFile + Drop>(file: F, mode: Option<u32>, bytes: &[u8]) -> io::Result<()> {
     let mut file = file;
-    let shut = permitted(&file, mode);
-    let whole = file.write_all(bytes).is_ok();
-    let open = permitted(&file, mode);
-    let kept = file.sync_all().is_ok();
-    shut & whole & open & kept
+    permit(&file, mode)?;
+    file.write_all(bytes)?;
+    permit(&file, mode)?;
+    file.sync_all()
 }
 
-// The bytes into the new file, which then takes the name; where anything fails it is removed.
-fn moved<R: Files>(rt: &R, new: &str, name: &str, bytes: &[u8], mode: u32) -> Saved {
-    let Ok(file) = created(rt, new) else {
-        return Saved::Failed;
-    };
-    if filled(file, mode, bytes) {
-        if fs::rename(rt, new, name).is_ok() {
-            return Saved::Done;
-        }
+// The bytes into the new file, which then takes the name.
+fn put<R: Files>(
+    rt: &R,
+    file: R::File,
+    new: &str,
+    name: &str,
+    bytes: &[u8],
+    mode: Option<u32>,
+) -> io::Result<()> {
+    fill(file, mode, bytes)?;
+    fs::rename(rt, new, name)
+}
+
+// The same; where anything fails the new file is removed.
+fn moved<R: Files>(
+    rt: &R,
+    new: &str,
+    name: &str,
+    bytes: &[u8],
+    mode: Option<u32>,
+) -> io::Result<()> {
+    let file = created(rt, new)?;
+    let answer = put(rt, file, new, name, bytes, mode);
+    if answer.is_err() {
+        fs::remove_file(rt, new).is_ok();
     }
-    fs::remove_file(rt, new).is_ok();
-    Saved::Failed
+    answer
 }
 
-// The same of names as bytes: one that is no text in UTF-8 can be given to no file.
-fn moved_by_bytes<R: Files>(rt: &R, new: &[u8], name: &[u8], bytes: &[u8], mode: u32) -> Saved {
-    let Ok(new) = str::from_utf8(new) else {
-        return Saved::Failed;
-    };
-    let Ok(name) = str::from_utf8(name) else {
-        return Saved::Failed;
-    };
-    moved(rt, new, name, bytes, mode)
-}
-
-fn replaced<R: Files>(rt: &R, process: Process, name: &[u8], bytes: &[u8], mode: u32) -> Saved {
+// Names are text in UTF-8: others can be given to no file.
+fn replaced<R: Files>(
+    rt: &R,
+    process: Process,
+    name: &[u8],
+    bytes: &[u8],
+    mode: Option<u32>,
+) -> Result<(), SaveError> {
     if name.len() > NAME_SIZE {
-        return Saved::Failed;
+        return Err(SaveError::Failed);
     }
     let mut space = [0u8; PATH_MAX];
     let n = put_unfinished(name, own_number(process), &mut space);
-    moved_by_bytes(rt, &space[..n], name, bytes, mode)
+    let new = str::from_utf8(&space[..n])?;
+    moved(rt, new, str::from_utf8(name)?, bytes, mode)?;
+    Ok(())
 }
 
 // The bytes under a name that nothing has, or in place of the regular file that has it. Anything else of that name is left alone.
-pub fn save<R: Files>(rt: &R, process: Process, name: &[u8], bytes: &[u8]) -> Saved {
+pub fn save<R: Files>(
+    rt: &R,
+    process: Process,
+    name: &[u8],
+    bytes: &[u8],
+) -> Result<(), SaveError> {
     match places::at(rt, name) {
-        Place::Free => replaced(rt, process, name, bytes, NEW),
-        Place::Regular(mode) => replaced(rt, process, name, bytes, mode),
-        Place::Other => Saved::NotRegular,
-        Place::Unknown => Saved::Failed,
+        Place::Free => replaced(rt, process, name, bytes, None),
+        Place::Regular(mode) => replaced(rt, process, name, bytes, Some(mode)),
+        Place::Other => Err(SaveError::NotRegular),
+        Place::Unknown => Err(SaveError::Failed),
     }
 }

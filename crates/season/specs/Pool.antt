@@ -1,10 +1,8 @@
 -- THE POOL OF TWO REPORTS (document 02, E14): its questions, its answer; and a folder's report, file by file. Every definition computes. Assumes nothing.
-use Rattle.std.specs.Prelude.{List, [], ◌∷◌, Bool, true, ◌&&◌, cond, ℕ, ◌+◌, ◌*◌, ◌≤◌, min, max, eqb, leb}
-use Rattle.plan.specs.Questions.{none, asked, or_else}
+use Rattle.std.specs.Prelude.{List, [], ◌∷◌, Bool, true, ◌&&◌, cond, ℕ, ◌+◌, ◌*◌, ◌≤◌, min, max, eqb, leb, Result, Ok, Err}
+use Rattle.plan.specs.Questions.{none, asked, or_else, answered}
 use Rattle.plan.specs.declared.Refusal.{Refusal}
 use Rattle.season.specs.declared.Report.{Report}
-use Rattle.season.specs.declared.Reported.{Reported}
-use Rattle.season.specs.declared.Reported.TheVariants.{Figures, Refused}
 use Rattle.season.specs.Report.{most_plans, cells_each, width_each, area_each, Figure, quotient, remainder, report, nothing}
 
 -- ---- the figures of both
@@ -67,28 +65,32 @@ module _ (a b : Report) where
   pool_refusal = first_no sequence
 
   -- THE ANSWER
-  unfoldable pub pool : Reported
-  pool = let r = pool_refusal in cond (eqb r.number 0) (Figures (pooled a b)) (Refused r.number r.cell)
+  unfoldable pub pool : Result Report Refusal
+  pool = answered pool_refusal (pooled a b)
+
+-- an answer that refuses; no cell is concerned
+abbrev pub refuses : (number : ℕ) → Result Report Refusal
+refuses k = Err (record { number = k; cell = 0 })
 
 -- ---- a folder, file by file: "A file that Read refuses gets that refusal and adds nothing"
-unfoldable pub adds : Reported → Reported → Reported
-adds (Figures a) (Figures b) = pool a b
-adds (Figures a) (Refused k c) = Figures a
-adds (Refused k c) r = Refused k c
+unfoldable pub adds : Result Report Refusal → Result Report Refusal → Result Report Refusal
+adds (Ok a) (Ok b) = pool a b
+adds (Ok a) (Err r) = Ok a
+adds (Err r) answer = Err r
 
 -- of the answers for the files, one after another
-unfoldable pub gathered : Reported → List Reported → Reported
+unfoldable pub gathered : Result Report Refusal → List (Result Report Refusal) → Result Report Refusal
 gathered total [] = total
 gathered total (r ∷ rs) = gathered (adds total r) rs
 
-abbrev pub folder : List Reported → Reported
-folder = gathered (Figures nothing)
+abbrev pub folder : List (Result Report Refusal) → Result Report Refusal
+folder = gathered (Ok nothing)
 
 -- what is answered for some files, and the plans among them
-pub data Files : List Reported → List Figure → Type 0 where
+pub data Files : List (Result Report Refusal) → List Figure → Type 0 where
   no_file : Files [] []
-  plan : {x : Figure} {rs : List Reported} {xs : List Figure} → Files rs xs → Files (Figures (report (x ∷ [])) ∷ rs) (x ∷ xs)
-  refused : {k c : ℕ} {rs : List Reported} {xs : List Figure} → Files rs xs → Files (Refused k c ∷ rs) xs
+  plan : {x : Figure} {rs : List (Result Report Refusal)} {xs : List Figure} → Files rs xs → Files (Ok (report (x ∷ [])) ∷ rs) (x ∷ xs)
+  refused : {r : Refusal} {rs : List (Result Report Refusal)} {xs : List Figure} → Files rs xs → Files (Err r ∷ rs) xs
 
 -- figures of at most 1,024 plans
 pub record Small (r : Report) : Type 0 where

@@ -1,9 +1,8 @@
 -- Reports and pools by hand: the sheets ◆A, ◆B and ◆C of document 01, and every question at its limit and one past it. Assumes nothing.
-use Rattle.std.specs.Prelude.{◌≡◌, [], ◌∷◌, ℕ}
+use Rattle.std.specs.Prelude.{◌≡◌, [], ◌∷◌, ℕ, Ok}
 use Rattle.season.specs.declared.Report.{Report}
-use Rattle.season.specs.declared.Reported.TheVariants.{Figures, Refused}
 use Rattle.season.specs.Report.{Figure, report, nothing}
-use Rattle.season.specs.Pool.{pool, folder, Files}
+use Rattle.season.specs.Pool.{pool, refuses, folder, Files}
 
 abbrev pub A : Figure
 A = record { cells = 1; width = 5; rows = 2 }
@@ -24,24 +23,24 @@ no_plan c w a l g m r = record { plans = 0; cells = c; widths = w; areas = a; le
 
 pub record Rows : Type 0 where
   pub three : report (A ∷ B ∷ C ∷ []) ≡ record { plans = 3; cells = 8; widths = 25; areas = 90; least = 5; greatest = 11; mean = 8; rest = 1 }
-  pub two_and_one : pool (report (B ∷ C ∷ [])) (report (A ∷ [])) ≡ Figures (report (A ∷ B ∷ C ∷ []))
-  pub most : pool (made_up 1024 262144 268434432 68719214592 9) nothing ≡ Figures (record { plans = 1024; cells = 262144; widths = 268434432; areas = 68719214592; least = 9; greatest = 9; mean = 262143; rest = 0 })
-  pub cells_past : pool (made_up 1024 262145 268434432 68719214592 9) nothing ≡ Refused 22 0
-  pub widths_past : pool (made_up 1024 262144 268434433 68719214592 9) nothing ≡ Refused 22 0
-  pub areas_past : pool (made_up 1024 262144 268434432 68719214593 9) nothing ≡ Refused 22 0
-  pub plans_past : pool (made_up 1025 0 0 0 0) nothing ≡ Refused 22 0
+  pub two_and_one : pool (report (B ∷ C ∷ [])) (report (A ∷ [])) ≡ Ok (report (A ∷ B ∷ C ∷ []))
+  pub most : pool (made_up 1024 262144 268434432 68719214592 9) nothing ≡ Ok (record { plans = 1024; cells = 262144; widths = 268434432; areas = 68719214592; least = 9; greatest = 9; mean = 262143; rest = 0 })
+  pub cells_past : pool (made_up 1024 262145 268434432 68719214592 9) nothing ≡ refuses 22
+  pub widths_past : pool (made_up 1024 262144 268434433 68719214592 9) nothing ≡ refuses 22
+  pub areas_past : pool (made_up 1024 262144 268434432 68719214593 9) nothing ≡ refuses 22
+  pub plans_past : pool (made_up 1025 0 0 0 0) nothing ≡ refuses 22
   -- no plan, and one figure that is not 0: each of the seven
-  pub no_cells : pool (made_up 1 0 0 0 0) (no_plan 1 0 0 0 0 0 0) ≡ Refused 22 0
-  pub no_widths : pool (made_up 1 0 0 0 0) (no_plan 0 1 0 0 0 0 0) ≡ Refused 22 0
-  pub no_areas : pool (made_up 1 0 0 0 0) (no_plan 0 0 1 0 0 0 0) ≡ Refused 22 0
-  pub no_least : pool (made_up 1 0 0 0 0) (no_plan 0 0 0 1 0 0 0) ≡ Refused 22 0
-  pub no_greatest : pool (made_up 1 0 0 0 0) (no_plan 0 0 0 0 1 0 0) ≡ Refused 22 0
-  pub no_mean : pool (made_up 1 0 0 0 0) (no_plan 0 0 0 0 0 1 0) ≡ Refused 22 0
-  pub no_rest : pool (made_up 1 0 0 0 0) (no_plan 0 0 0 0 0 0 1) ≡ Refused 22 0
-  pub no_figure : pool (made_up 1 0 0 0 0) (no_plan 0 0 0 0 0 0 0) ≡ Figures (made_up 1 0 0 0 0)
-  pub halves : pool (made_up 512 0 0 0 0) (made_up 512 0 0 0 0) ≡ Figures (made_up 1024 0 0 0 0)
-  pub one_more : pool (made_up 512 0 0 0 0) (made_up 513 0 0 0 0) ≡ Refused 4 0
-  pub both : pool (made_up 1024 0 0 0 0) (made_up 1025 0 0 0 0) ≡ Refused 22 0
+  pub no_cells : pool (made_up 1 0 0 0 0) (no_plan 1 0 0 0 0 0 0) ≡ refuses 22
+  pub no_widths : pool (made_up 1 0 0 0 0) (no_plan 0 1 0 0 0 0 0) ≡ refuses 22
+  pub no_areas : pool (made_up 1 0 0 0 0) (no_plan 0 0 1 0 0 0 0) ≡ refuses 22
+  pub no_least : pool (made_up 1 0 0 0 0) (no_plan 0 0 0 1 0 0 0) ≡ refuses 22
+  pub no_greatest : pool (made_up 1 0 0 0 0) (no_plan 0 0 0 0 1 0 0) ≡ refuses 22
+  pub no_mean : pool (made_up 1 0 0 0 0) (no_plan 0 0 0 0 0 1 0) ≡ refuses 22
+  pub no_rest : pool (made_up 1 0 0 0 0) (no_plan 0 0 0 0 0 0 1) ≡ refuses 22
+  pub no_figure : pool (made_up 1 0 0 0 0) (no_plan 0 0 0 0 0 0 0) ≡ Ok (made_up 1 0 0 0 0)
+  pub halves : pool (made_up 512 0 0 0 0) (made_up 512 0 0 0 0) ≡ Ok (made_up 1024 0 0 0 0)
+  pub one_more : pool (made_up 512 0 0 0 0) (made_up 513 0 0 0 0) ≡ refuses 4
+  pub both : pool (made_up 1024 0 0 0 0) (made_up 1025 0 0 0 0) ≡ refuses 22
   -- a folder of three files, of which the second is refused
-  pub in_turn : folder (Figures (report (A ∷ [])) ∷ Refused 4 0 ∷ Figures (report (B ∷ [])) ∷ []) ≡ Figures (report (A ∷ B ∷ []))
-  pub files : Files (Figures (report (A ∷ [])) ∷ Refused 4 0 ∷ Figures (report (B ∷ [])) ∷ []) (A ∷ B ∷ [])
+  pub in_turn : folder (Ok (report (A ∷ [])) ∷ refuses 4 ∷ Ok (report (B ∷ [])) ∷ []) ≡ Ok (report (A ∷ B ∷ []))
+  pub files : Files (Ok (report (A ∷ [])) ∷ refuses 4 ∷ Ok (report (B ∷ [])) ∷ []) (A ∷ B ∷ [])

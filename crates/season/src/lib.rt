@@ -2,13 +2,13 @@
 #![tactic(auto)]
 
 ghost use Rattle.std.specs.Prelude.{◌≡◌, [], ◌∷◌, ◌≤◌};
+ghost use Rattle.plan.specs.Questions.{passed};
 ghost use Rattle.season.specs.Report.{width_each, rows_each, quotient, remainder, report, nothing};
 ghost use Rattle.season.specs.Pool.{narrower, pooled, empty, sound, pool_refusal, pool, adds, Small};
 
 use asking::asked;
 use plan::Refusal;
 use plan::limits::FARTHEST;
-use whole::numbers::{greater, lesser};
 
 pub const MOST_PLANS: u32 = 1024;
 
@@ -39,30 +39,17 @@ pub struct Report {
     pub rest: u32,
 }
 
-// The figures; or the refusal's number and cell.
-#[derive(Clone, Copy, Drop)]
-pub enum Reported {
-    Figures(Report),
-    Refused(u8, u16),
-}
-
 // The mean of no plan is 0, and nothing is left over.
 fn quotient(sum: u32, n: u32) -> u32
     ensures { result ≡ quotient sum n }
 {
-    if n == 0 {
-        return 0;
-    }
-    sum / n
+    sum.checked_div(n).unwrap_or(0)
 }
 
 fn remainder(sum: u32, n: u32) -> u32
     ensures { result ≡ remainder sum n }
 {
-    if n == 0 {
-        return 0;
-    }
-    sum % n
+    sum.checked_rem(n).unwrap_or(0)
 }
 
 // The report of one plan, of so many cells, whose sheet has this width and so many rows.
@@ -74,7 +61,7 @@ pub fn single(cells: u32, width: u32, rows: u32) -> Report
         plans: 1,
         cells,
         widths: width,
-        areas: (width as u64) * (rows as u64),
+        areas: u64::from(width) * u64::from(rows),
         least: width,
         greatest: width,
         mean: width,
@@ -99,16 +86,16 @@ pub fn nothing() -> Report
 }
 
 // The lesser of two least widths, of which that of no plan does not count.
-fn narrower(p: u32, l: u32, q: u32, m: u32) -> u32
-    ensures { result ≡ narrower p l q m }
+fn narrower(a: Report, b: Report) -> u32
+    ensures { result ≡ narrower a.plans a.least b.plans b.least }
 {
-    if p == 0 {
-        return m;
+    if a.plans == 0 {
+        return b.least;
     }
-    if q == 0 {
-        return l;
+    if b.plans == 0 {
+        return a.least;
     }
-    lesser(l, m)
+    a.least.min(b.least)
 }
 
 // The figures of both, where no sum passes its type. The mean is worked out afresh.
@@ -117,22 +104,16 @@ fn pooled(a: Report, b: Report) -> Report
     ensures { result ≡ pooled a b }
 {
     let plans = a.plans + b.plans;
-    let cells = a.cells + b.cells;
     let widths = a.widths + b.widths;
-    let areas = a.areas + b.areas;
-    let least = narrower(a.plans, a.least, b.plans, b.least);
-    let greatest = greater(a.greatest, b.greatest);
-    let mean = quotient(widths, plans);
-    let rest = remainder(widths, plans);
     Report {
         plans,
-        cells,
+        cells: a.cells + b.cells,
         widths,
-        areas,
-        least,
-        greatest,
-        mean,
-        rest,
+        areas: a.areas + b.areas,
+        least: narrower(a, b),
+        greatest: a.greatest.max(b.greatest),
+        mean: quotient(widths, plans),
+        rest: remainder(widths, plans),
     }
 }
 
@@ -175,40 +156,32 @@ fn sound(r: Report) -> bool
 }
 
 // The questions of a pool: 22 of the first, 22 of the second, 4 of both together.
-fn pool_refusal(a: Report, b: Report) -> Refusal
-    ensures { result ≡ pool_refusal a b }
+fn pool_refusal(a: Report, b: Report) -> Result<(), Refusal>
+    ensures { result ≡ passed (pool_refusal a b) }
 {
-    let at_first = asked(22, sound(a), 0);
-    if at_first.number != 0 {
-        return at_first;
-    }
-    let at_second = asked(22, sound(b), 0);
-    if at_second.number != 0 {
-        return at_second;
-    }
+    asked(22, sound(a), 0)?;
+    asked(22, sound(b), 0)?;
     asked(4, a.plans + b.plans <= MOST_PLANS, 0)
 }
 
 // Pool: the report of two folders together.
-pub fn pool(a: Report, b: Report) -> Reported
+pub fn pool(a: Report, b: Report) -> Result<Report, Refusal>
     ensures { result ≡ pool a b }
 {
-    let refusal = pool_refusal(a, b);
-    if refusal.number != 0 {
-        return Reported::Refused(refusal.number, refusal.cell);
-    }
-    Reported::Figures(pooled(a, b))
+    pool_refusal(a, b)?;
+    Ok(pooled(a, b))
 }
 
 // A folder's report so far, and what was answered for the next file: a refused file adds nothing; once there are too many plans, that is the answer.
-pub fn add(total: Reported, answer: Reported) -> Reported
+pub fn add(
+    total: Result<Report, Refusal>,
+    answer: Result<Report, Refusal>,
+) -> Result<Report, Refusal>
     ensures { result ≡ adds total answer }
 {
-    let Reported::Figures(a) = total else {
-        return total;
-    };
-    let Reported::Figures(b) = answer else {
-        return total;
-    };
-    pool(a, b)
+    let so_far = total?;
+    match answer {
+        Ok(more) => pool(so_far, more),
+        Err(_) => total,
+    }
 }

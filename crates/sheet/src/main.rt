@@ -15,13 +15,11 @@ fn print_sheet(out: &impl Print, err: &impl Print, file: &[u8]) {
 fn main(rt: HostRuntime) {
     let mut from = rt.stdin();
     let mut file = [0u8; MOST_FILE + 1];
-    let input = input::read_whole(&mut from, &mut file);
-    if input::failed(input) {
+    let Ok(input) = input::read_whole(&mut from, &mut file) else {
         rt.stderr()
             .write_all(b"sheet: the plan cannot be read\n")
             .is_ok();
         return;
-    }
-    let n = input.length;
-    print_sheet(&rt.stdout(), &rt.stderr(), &file[..n]);
+    };
+    print_sheet(&rt.stdout(), &rt.stderr(), &file[..input.length]);
 }

@@ -5,24 +5,9 @@ use plan::limits::LISTING_SIZE;
 use std::io;
 use std::io::Read;
 
-fn number(low: u8, high: u8) -> usize {
-    (low as usize) + 256 * (high as usize)
-}
-
-// Reads so many bytes; false where the input ends before.
-fn filled<F: Read>(from: &mut F, space: &mut [u8], size: usize) -> bool {
-    if space.len() < size {
-        return false;
-    }
-    from.read_exact(&mut space[..size]).is_ok()
-}
-
-fn print_file(rt: &impl Print, space: &[u8], size: usize) -> io::Result<()> {
-    if space.len() < size {
-        return Ok(());
-    }
+fn print_file(rt: &impl Print, file: &[u8]) -> io::Result<()> {
     let mut out = [0u8; LISTING_SIZE];
-    let length = printing::write_listing(&space[..size], &mut out);
+    let length = printing::write_listing(file, &mut out);
     rt.write_all(&out[..length])
 }
 
@@ -32,11 +17,14 @@ fn print_next<F: Read>(rt: &impl Print, from: &mut F, space: &mut [u8]) -> io::R
     if from.read_exact(&mut length).is_err() {
         return Ok(false);
     }
-    let size = number(length[0], length[1]);
-    if !filled(from, space, size) {
+    let size = usize::from(u16::from_le_bytes(length));
+    if space.len() < size {
         return Ok(false);
     }
-    print_file(rt, space, size)?;
+    if from.read_exact(&mut space[..size]).is_err() {
+        return Ok(false);
+    }
+    print_file(rt, &space[..size])?;
     Ok(true)
 }
 

@@ -12,7 +12,6 @@ ghost use Rattle.spans.specs.Shared.{cols, kids, or_none, «spread_at», Sharing
 use links::link_of;
 use plan::Columns;
 use plan::limits::MOST_CELLS;
-use whole::numbers::{greater, wide16, wide16to32};
 
 // The span of each cell, from first to before end; where the span of the sibling right before begins, and where that of the one right after ends.
 #[derive(Drop)]
@@ -35,7 +34,7 @@ pub fn parent_of(parents: &[u16; MOST_CELLS], c: usize) -> usize
     requires { (c < most_cells) × (get_or parents.now c 0 < c) }
     ensures { (result ≡ get_or parents.now c 0) × (result < c) }
 {
-    wide16(parents[c])
+    usize::from(parents[c])
 }
 
 // How many cells are at or below each cell. From the last cell to the first: each is taken in by its parent.
@@ -44,9 +43,7 @@ pub fn measure(t: Columns) -> [u32; MOST_CELLS]
     ensures { Sized (table_of t) (at result) }
 {
     let mut size = [1u32; MOST_CELLS];
-    let mut c = t.count;
-    while 1 < c {
-        c -= 1;
+    for c in (1..t.count).rev() {
         let f = parent_of(&t.parent, c);
         size[f] = size[f] + size[c];
     }
@@ -108,10 +105,8 @@ pub fn lay(t: Columns, links: &[u16], size: [u32; MOST_CELLS]) -> Standing
     let whole = size[0];
     end[0] = whole;
     to[0] = whole;
-    let mut c: usize = 0;
-    while c < t.count {
+    for c in 0..t.count {
         lay_children(links, &size, c, &mut first, &mut end, &mut from, &mut to);
-        c += 1;
     }
     Standing {
         first,
@@ -127,11 +122,9 @@ pub fn sink(t: Columns, bases: [u32; MOST_CELLS]) -> [u32; MOST_CELLS]
     ensures { Deepest (table_of t) (at bases) (at result) }
 {
     let mut bottoms = bases;
-    let mut c = t.count;
-    while 1 < c {
-        c -= 1;
+    for c in (1..t.count).rev() {
         let f = parent_of(&t.parent, c);
-        bottoms[f] = greater(bottoms[f], bottoms[c]);
+        bottoms[f] = bottoms[f].max(bottoms[c]);
     }
     bottoms
 }
@@ -141,7 +134,7 @@ fn place_of(links: &[u16], c: usize) -> u32
     requires { 4 * c + 4 ≤ length links.now }
     ensures { result ≡ link links.now c 2 }
 {
-    wide16to32(links[4 * c + 2])
+    u32::from(links[4 * c + 2])
 }
 
 // The siblings numbered and the children counted.
@@ -152,12 +145,10 @@ pub fn number(t: Columns, links: &[u16]) -> Numbers
 {
     let mut nth = [0u32; MOST_CELLS];
     let mut many = [0u32; MOST_CELLS];
-    let mut c: usize = 1;
-    while c < t.count {
+    for c in 1..t.count {
         let f = parent_of(&t.parent, c);
         nth[c] = place_of(links, c) + 1;
         many[f] = many[f] + 1;
-        c += 1;
     }
     Numbers { nth, many }
 }

@@ -2,79 +2,82 @@
 // Of a plan that is refused, the line of the refusal. One byte more than a plan file may have is read, so that a longer one is refused.
 #![tactic(auto)]
 
-ghost use Rattle.std.specs.Prelude.{◌≡◌, ◌≤◌, length};
+ghost use Rattle.std.specs.Prelude.{◌≡◌, ◌≤◌, length, IfOk};
 ghost use Rattle.listing.specs.Line.{line_size};
 ghost use Rattle.strip.specs.Sizes.{most_wide};
 
-use layout::Laid;
 use listing::{Line, bitmap_line, refused_line};
-use plan::Columns;
 use plan::limits::{MOST_CELLS, MOST_FILE, SCRATCH_SIZE};
-use planfile_spec::Reading;
+use plan::{Columns, Measures, Refusal};
+use std::io;
 
-// Writes a line; whether all of it was written.
-fn print_line(out: &impl Print, line: Line) -> bool
+// A sheet: its table, and its width and rows.
+#[derive(Clone, Copy, Drop)]
+struct Sheet {
+    table: Columns,
+    measures: Measures,
+}
+
+fn print_line(out: &impl Print, line: Line) -> io::Result<()>
     requires { (length line.bytes ≡ line_size) × (line.length ≤ line_size) }
 {
     let bytes = line.bytes;
-    let n = line.length;
-    out.write_all(&bytes[..n]).is_ok()
+    out.write_all(&bytes[..line.length])
 }
 
-// Writes a row, which is as long as the strip; whether all of it was written.
-fn print_row(out: &impl Print, t: Columns, positions: &[i32], row: u32, strip: &mut [u8]) -> bool {
-    strips::strip(t, positions, row, 0, strip);
-    out.write_all(strip).is_ok()
+// A row, which is as long as the strip.
+fn print_row(
+    out: &impl Print,
+    t: &Columns,
+    positions: &[i32],
+    row: u32,
+    strip: &mut [u8],
+) -> io::Result<()> {
+    strips::strip(t, positions, row, 0, strip).is_ok();
+    out.write_all(strip)
 }
 
-// Writes the rows; whether all of them were written.
 fn print_rows(
     out: &impl Print,
-    t: Columns,
+    sheet: &Sheet,
     positions: &[i32],
-    rows: u32,
     strip: &mut [u8],
-) -> bool {
-    for row in 0..rows {
-        if !print_row(out, t, positions, row, strip) {
-            return false;
-        }
+) -> io::Result<()> {
+    for row in 0..sheet.measures.rows {
+        print_row(out, &sheet.table, positions, row, strip)?;
     }
-    true
+    Ok(())
 }
 
-// Writes the bitmap of a sheet of this width and these rows; whether all of it was written.
-fn print_sheet(out: &impl Print, t: Columns, positions: &[i32], width: u32, rows: u32) -> bool
-    requires { width ≤ most_wide }
+// The bitmap of a sheet.
+fn print_sheet(out: &impl Print, sheet: &Sheet, positions: &[i32]) -> io::Result<()>
+    requires { sheet.now.measures.width ≤ most_wide }
 {
-    if !print_line(out, bitmap_line(width + 1, rows)) {
-        return false;
-    }
+    let width = sheet.measures.width;
+    print_line(out, bitmap_line(width + 1, sheet.measures.rows))?;
     let size = (width as usize) / 8 + 1;
     let mut buffer = [0u8; 65536];
-    print_rows(out, t, positions, rows, &mut buffer[..size])
+    print_rows(out, sheet, positions, &mut buffer[..size])
 }
 
-// Writes the bitmap of a plan file, or the line of its refusal; whether all of it was written.
-fn print_plan(out: &impl Print, file: &[u8]) -> bool {
-    let plan: Reading = planfile::read(file, MOST_CELLS);
-    let refusal = plan.refusal;
-    if refusal.number != 0 {
-        return print_line(
-            out,
-            refused_line(refusal.number as u32, refusal.cell as u32),
-        );
-    }
+// The sheet of a plan file, with its positions.
+fn draw(file: &[u8], positions: &mut [i32]) -> Result<Sheet, Refusal>
+    ensures { IfOk result (λ s. s.measures.width ≤ most_wide) }
+{
+    let plan = planfile::read(file, MOST_CELLS)?;
     let mut scratch = [0u32; SCRATCH_SIZE];
+    let table = plan.cells.columns;
+    let allowance = u32::from(plan.allowance);
+    let measures = layout::layout(table, allowance, &mut scratch, positions)?;
+    Ok(Sheet { table, measures })
+}
+
+// The bitmap of a plan file, or the line of its refusal.
+fn print_plan(out: &impl Print, file: &[u8]) -> io::Result<()> {
     let mut positions = [0i32; 2 * MOST_CELLS];
-    match layout::layout(
-        plan.columns,
-        plan.allowance as u32,
-        &mut scratch,
-        &mut positions,
-    ) {
-        Laid::Sheet(width, rows) => print_sheet(out, plan.columns, &positions, width, rows),
-        Laid::Refused(number, cell) => print_line(out, refused_line(number as u32, cell as u32)),
+    match draw(file, &mut positions) {
+        Ok(sheet) => print_sheet(out, &sheet, &positions),
+        Err(no) => print_line(out, refused_line(u32::from(no.number), u32::from(no.cell))),
     }
 }
 
@@ -82,13 +85,11 @@ fn main(rt: HostRuntime) {
     let err = rt.stderr();
     let mut from = rt.stdin();
     let mut file = [0u8; MOST_FILE + 1];
-    let input = input::read_whole(&mut from, &mut file);
-    if input::failed(input) {
+    let Ok(input) = input::read_whole(&mut from, &mut file) else {
         err.write_all(b"strip: the plan cannot be read\n").is_ok();
         return;
-    }
-    let n = input.length;
-    if !print_plan(&rt.stdout(), &file[..n]) {
+    };
+    if print_plan(&rt.stdout(), &file[..input.length]).is_err() {
         err.write_all(b"strip: the bitmap could not be written whole\n")
             .is_ok();
     }

@@ -7,10 +7,15 @@ ghost use Rattle.strips.specs.Stripped.{Strips};
 use plan::{Record, Refusal};
 use records::columns_of;
 
-// Strip: a row of a drawn sheet, from a column on, is written into the bytes, eight columns a byte; the refusal, or 0 and 0.
-pub fn strip(table: &[Record], positions: &[i32], row: u32, first: u32, bytes: &mut [u8]) -> Refusal
+// Strip: a row of a drawn sheet, from a column on, is written into the bytes, eight columns a byte; or the refusal.
+pub fn strip(
+    table: &[Record],
+    positions: &[i32],
+    row: u32,
+    first: u32,
+    bytes: &mut [u8],
+) -> Result<(), Refusal>
     ensures { Strips (cells_of table.now) positions.now row first bytes.old bytes.new result }
 {
-    let t = columns_of(table);
-    strips::strip(t, positions, row, first, bytes)
+    strips::strip(&columns_of(table), positions, row, first, bytes)
 }

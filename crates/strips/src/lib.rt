@@ -1,23 +1,22 @@
 // Strip: a row of a drawn sheet as bytes, for the raster printer.
 #![tactic(auto)]
 
-ghost use Rattle.std.specs.Prelude.{◌≡◌, false, ◌&&◌, ◌+◌, ◌-◌, ◌^◌, ◌/◌, ◌%◌, ◌<◌, ◌≤◌, min, eqb, leb, ltb, length};
+ghost use Rattle.std.specs.Prelude.{◌≡◌, ◌&&◌, ◌+◌, ◌-◌, ◌^◌, ◌/◌, ◌%◌, ◌<◌, ◌≤◌, eqb, leb, ltb, length};
 ghost use Rattle.plan.specs.Limits.{between};
 ghost use Rattle.plan.specs.Columns.{«table_of»};
 ghost use Rattle.plan.specs.Fit.{Fit};
 ghost use Rattle.plan.specs.Near.{Near};
-ghost use Rattle.plan.specs.Questions.{refusal, strip, strip_given};
+ghost use Rattle.plan.specs.Questions.{passed, refusal, strip, strip_given};
 ghost use Rattle.rules.specs.Placement.{placed};
 ghost use Rattle.corners.specs.Corners.{Spot, x_up};
 ghost use Rattle.raster.specs.Strip.{byte, strip_of};
 ghost use Rattle.strips.specs.Stripped.{Strips};
-ghost use Rattle.strips.specs.Picture.{Painted, Paints, «or_at», column, edge, «cell_in»};
+ghost use Rattle.strips.specs.Picture.{Paints, «or_at», column, edge, «cell_in»};
 
 use asking::{lent_refusal, near_refusal};
 use corners::{least_x, x_of, y_of};
-use plan::limits::{FARTHEST, MOST_CELLS};
+use plan::limits::FARTHEST;
 use plan::{Columns, Refusal};
-use whole::numbers::{wide8to32, wide16to32};
 
 // Place j of a byte alone, counted from the left.
 fn one_mask(j: u8) -> u8
@@ -51,12 +50,6 @@ fn part_mask(j: u8, k: u8) -> u8
     tail_mask(j) & head_mask(k)
 }
 
-fn lesser(a: usize, b: usize) -> usize
-    ensures { result ≡ min a b }
-{
-    if b < a { b } else { a }
-}
-
 // The place of a column in its byte.
 fn place(k: usize) -> u8
     ensures { (result ≡ k % 8) × (result < 8) }
@@ -69,17 +62,7 @@ fn or_at(bytes: &mut [u8], i: usize, mask: u8)
     ensures { bytes.new ≡ or_at bytes.old i mask }
 {
     if i < bytes.len() {
-        bytes[i] = bytes[i] | mask;
-    }
-}
-
-fn clear(bytes: &mut [u8])
-    ensures { Painted bytes.new (length bytes.old) (λ i j. false) }
-{
-    let mut i: usize = 0;
-    while i < bytes.len() {
-        bytes[i] = 0;
-        i += 1;
+        bytes[i] |= mask;
     }
 }
 
@@ -88,11 +71,9 @@ fn fill(bytes: &mut [u8], a: usize, b: usize)
     requires { a ≤ b }
     ensures { Paints bytes.old bytes.new (λ i j. leb a i && ltb i b) }
 {
-    let stop = lesser(b, bytes.len());
-    let mut k = a;
-    while k < stop {
+    let stop = b.min(bytes.len());
+    for k in a..stop {
         bytes[k] = 255;
-        k += 1;
     }
 }
 
@@ -148,17 +129,10 @@ fn put_box(bytes: &mut [u8], first: usize, row: usize, x: usize, y: usize, w: us
     requires { (x < 2 ^ 32) × (y < 2 ^ 32) × (w < 2 ^ 32) × (d < 2 ^ 32) }
     ensures { Paints bytes.old bytes.new (λ i j. edge x y w d (first + column i j) row) }
 {
-    if row < y {
+    if row < y || y + d < row {
         return;
     }
-    if y + d < row {
-        return;
-    }
-    if row == y {
-        run_from(bytes, first, x, x + w);
-        return;
-    }
-    if row == y + d {
+    if row == y || row == y + d {
         run_from(bytes, first, x, x + w);
         return;
     }
@@ -166,16 +140,9 @@ fn put_box(bytes: &mut [u8], first: usize, row: usize, x: usize, y: usize, w: us
     one_from(bytes, first, x + w);
 }
 
-fn wide(x: u32) -> usize
-    ensures { (result ≡ x) × (result < 2 ^ 32) }
-{
-    x as usize
-}
-
 // The boundary of the box of cell c in a row; the row and y moved up, x counted from the least.
-fn put_cell<'a>(
-    widths: &'a [u16; MOST_CELLS],
-    depths: &'a [u8; MOST_CELLS],
+fn put_cell(
+    t: &Columns,
     positions: &[i32],
     left: u32,
     first: usize,
@@ -184,52 +151,48 @@ fn put_cell<'a>(
     bytes: &mut [u8],
 )
     requires { Spot positions.now c × (left ≤ x_up positions.now c) }
-    ensures { Paints bytes.old bytes.new (cell_in first row left widths.now depths.now positions.now c) }
+    ensures { Paints bytes.old bytes.new (cell_in first row left t.now.width t.now.depth positions.now c) }
 {
-    let w = wide(wide16to32(widths[c]));
-    let d = wide(wide8to32(depths[c]));
-    let x = wide(x_of(positions, c) - left);
-    let y = wide(y_of(positions, c));
-    put_box(bytes, first, row, x, y, w, d);
+    let x = x_of(positions, c) - left;
+    let y = y_of(positions, c);
+    let w = usize::from(t.width[c]);
+    let d = usize::from(t.depth[c]);
+    put_box(bytes, first, row, x as usize, y as usize, w, d);
 }
 
 // The strip of a sheet that no question refuses.
-fn draw(t: Columns, positions: &[i32], row: u32, first: u32, bytes: &mut [u8])
-    requires { Fit (table_of t) × Near positions.now t.count }
-    ensures { bytes.new ≡ strip_of (table_of t) (placed positions.now) row first (length bytes.old) }
+fn draw(t: &Columns, positions: &[i32], row: u32, first: u32, bytes: &mut [u8])
+    requires { Fit (table_of t.now) × Near positions.now t.now.count }
+    ensures { bytes.new ≡ strip_of (table_of t.now) (placed positions.now) row first (length bytes.old) }
 {
-    let n = t.count;
-    let left = least_x(positions, n);
-    let from = wide(first);
-    let at = wide(row) + (FARTHEST as usize);
-    clear(bytes);
-    let mut c: usize = 0;
-    while c < n {
-        put_cell(&t.width, &t.depth, positions, left, from, at, c, bytes);
-        c += 1;
+    let left = least_x(positions, t.count);
+    let from = first as usize;
+    let at = (row as usize) + (FARTHEST as usize);
+    bytes.fill(0);
+    for c in 0..t.count {
+        put_cell(t, positions, left, from, at, c, bytes);
     }
 }
 
 // The questions, in their sequence.
-fn refuse(t: Columns, positions: &[i32]) -> Refusal
-    ensures { result ≡ refusal strip (strip_given (table_of t) positions.now) }
+fn refuse(t: &Columns, positions: &[i32]) -> Result<(), Refusal>
+    ensures { result ≡ passed (refusal strip (strip_given (table_of t.now) positions.now)) }
 {
-    let n = t.count;
-    let lent = lent_refusal(&t.parent, &t.kind, &t.width, &t.depth, n, positions.len());
-    if lent.number != 0 {
-        return lent;
-    }
-    near_refusal(positions, n)
+    lent_refusal(t, positions.len())?;
+    near_refusal(positions, t.count)
 }
 
 // THE call: the bytes of a row, from a column on. Refused, they stay as they are.
-pub fn strip(t: Columns, positions: &[i32], row: u32, first: u32, bytes: &mut [u8]) -> Refusal
-    ensures { Strips (table_of t) positions.now row first bytes.old bytes.new result }
+pub fn strip(
+    t: &Columns,
+    positions: &[i32],
+    row: u32,
+    first: u32,
+    bytes: &mut [u8],
+) -> Result<(), Refusal>
+    ensures { Strips (table_of t.now) positions.now row first bytes.old bytes.new result }
 {
-    let no = refuse(t, positions);
-    if no.number != 0 {
-        return no;
-    }
+    refuse(t, positions)?;
     draw(t, positions, row, first, bytes);
-    no
+    Ok(())
 }

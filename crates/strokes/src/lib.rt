@@ -2,12 +2,12 @@
 #![tactic(auto)]
 
 ghost use Rattle.std.specs.Prelude.{◌≡◌, ◌+◌, ◌<◌, ◌≤◌, ◌^◌, get_or, pos, ◌-ℤ◌};
-ghost use Rattle.plan.specs.Limits.{farthest, most_width, most_depth};
+ghost use Rattle.plan.specs.Limits.{farthest};
 ghost use Rattle.plan.specs.Columns.{«table_of»};
 ghost use Rattle.plan.specs.Fit.{Fit};
 ghost use Rattle.plan.specs.Near.{Near};
 ghost use Rattle.plan.specs.Pages.{from_to, fair};
-ghost use Rattle.plan.specs.Questions.{refusal, stroke, stroke_given, strokes_of};
+ghost use Rattle.plan.specs.Questions.{passed, refusal, stroke, stroke_given, strokes_of};
 ghost use Rattle.rules.specs.Placement.{placed};
 ghost use Rattle.corners.specs.Corners.{Spot};
 ghost use Rattle.ends.specs.Ended.{half};
@@ -20,18 +20,10 @@ use asking::{asked, lent_refusal, near_refusal};
 use corners::{least_x, x_of, y_of};
 use ends::half;
 use pen::Stroke;
-use plan::limits::{FARTHEST, MOST_CELLS};
+use plan::limits::FARTHEST;
 use plan::{Columns, Page, Refusal};
 use spans::parent_of;
 use whole::difference;
-use whole::numbers::{wide8to32, wide16to32};
-
-// The stroke; or the refusal's number and cell.
-#[derive(Drop)]
-pub enum Stroked {
-    Drawn(Stroke),
-    Refused(u8, u16),
-}
 
 // From low to high, both included. A NaN is not.
 fn from_to(low: f64, high: f64, x: f64) -> bool
@@ -118,52 +110,21 @@ fn connector_stroke(page: Page, left: u32, x: u32, y: u32, u: u32, v: u32, j: us
     }
 }
 
-// W, D and half the W of a box that is no greater than question 8 allows.
-fn width_of(widths: &[u16; MOST_CELLS], c: usize) -> u32
-    requires { (c < 256) × (get_or widths.now c 0 ≤ most_width) }
-    ensures { (result ≡ get_or widths.now c 0) × (result ≤ most_width) }
-{
-    wide16to32(widths[c])
-}
-
-fn depth_of(depths: &[u8; MOST_CELLS], c: usize) -> u32
-    requires { (c < 256) × (get_or depths.now c 0 ≤ most_depth) }
-    ensures { (result ≡ get_or depths.now c 0) × (result ≤ most_depth) }
-{
-    wide8to32(depths[c])
-}
-
-fn half_of(widths: &[u16; MOST_CELLS], c: usize) -> u32
-    requires { (c < 256) × (get_or widths.now c 0 ≤ most_width) }
-    ensures { (result ≡ half (get_or widths.now c 0)) × (result ≤ most_width) }
-{
-    half(widths[c])
-}
-
 // Stroke j of box c.
-fn box_of<'a>(
-    widths: &'a [u16; MOST_CELLS],
-    depths: &'a [u8; MOST_CELLS],
-    positions: &[i32],
-    page: Page,
-    left: u32,
-    c: usize,
-    j: usize,
-) -> Stroke
-    requires { (left ≤ farthest + farthest) × Spot positions.now c × Boxed widths.now depths.now c }
-    ensures { result ≡ get_or (box_of page left widths.now depths.now positions.now c) j Stroke.Lift }
+fn box_of(t: &Columns, positions: &[i32], page: Page, left: u32, c: usize, j: usize) -> Stroke
+    requires { (left ≤ farthest + farthest) × Spot positions.now c × Boxed t.now.width t.now.depth c }
+    ensures { result ≡ get_or (box_of page left t.now.width t.now.depth positions.now c) j Stroke.Lift }
 {
-    let w = width_of(widths, c);
-    let d = depth_of(depths, c);
     let x = x_of(positions, c);
     let y = y_of(positions, c);
+    let w = u32::from(t.width[c]);
+    let d = u32::from(t.depth[c]);
     box_stroke(page, left, x, y, w, d, j)
 }
 
 // Stroke j of the connector from cell p to cell c: its ends are those of Ends.
-fn connector_of<'a>(
-    widths: &'a [u16; MOST_CELLS],
-    depths: &'a [u8; MOST_CELLS],
+fn connector_of(
+    t: &Columns,
     positions: &[i32],
     page: Page,
     left: u32,
@@ -171,12 +132,12 @@ fn connector_of<'a>(
     c: usize,
     j: usize,
 ) -> Stroke
-    requires { (left ≤ farthest + farthest) × Spot positions.now p × Spot positions.now c × Boxed widths.now depths.now p × Boxed widths.now depths.now c }
-    ensures { result ≡ get_or (connector_of page left widths.now depths.now positions.now p c) j Stroke.Lift }
+    requires { (left ≤ farthest + farthest) × Spot positions.now p × Spot positions.now c × Boxed t.now.width t.now.depth p × Boxed t.now.width t.now.depth c }
+    ensures { result ≡ get_or (connector_of page left t.now.width t.now.depth positions.now p c) j Stroke.Lift }
 {
-    let h = half_of(widths, p);
-    let d = depth_of(depths, p);
-    let k = half_of(widths, c);
+    let h = half(t.width[p]);
+    let d = u32::from(t.depth[p]);
+    let k = half(t.width[c]);
     let x = x_of(positions, p);
     let y = y_of(positions, p);
     let u = x_of(positions, c);
@@ -185,48 +146,35 @@ fn connector_of<'a>(
 }
 
 // Stroke s of a sheet that no question refuses.
-pub fn drawn(t: Columns, positions: &[i32], page: Page, s: usize) -> Stroke
-    requires { Fit (table_of t) × Near positions.now t.count × (s < strokes_of t.count) }
-    ensures { result ≡ get_or (strokes (table_of t) (placed positions.now) page) s Stroke.Lift }
+pub fn drawn(t: &Columns, positions: &[i32], page: Page, s: usize) -> Stroke
+    requires { Fit (table_of t.now) × Near positions.now t.now.count × (s < strokes_of t.now.count) }
+    ensures { result ≡ get_or (strokes (table_of t.now) (placed positions.now) page) s Stroke.Lift }
 {
     let n = t.count;
     let left = least_x(positions, n);
     if s < 6 * n {
-        return box_of(&t.width, &t.depth, positions, page, left, s / 6, s % 6);
+        return box_of(t, positions, page, left, s / 6, s % 6);
     }
     let r = s - 6 * n;
     let c = 1 + r / 3;
     let p = parent_of(&t.parent, c);
-    connector_of(&t.width, &t.depth, positions, page, left, p, c, r % 3)
+    connector_of(t, positions, page, left, p, c, r % 3)
 }
 
 // The questions, in their sequence.
-fn refuse(t: Columns, positions: &[i32], page: Page, s: usize) -> Refusal
-    ensures { result ≡ refusal stroke (stroke_given (table_of t) positions.now page s) }
+fn refuse(t: &Columns, positions: &[i32], page: Page, s: usize) -> Result<(), Refusal>
+    ensures { result ≡ passed (refusal stroke (stroke_given (table_of t.now) positions.now page s)) }
 {
-    let n = t.count;
-    let lent = lent_refusal(&t.parent, &t.kind, &t.width, &t.depth, n, positions.len());
-    if lent.number != 0 {
-        return lent;
-    }
-    let near = near_refusal(positions, n);
-    if near.number != 0 {
-        return near;
-    }
-    let paged = asked(17, fair(page), 0);
-    if paged.number != 0 {
-        return paged;
-    }
-    asked(18, s < 9 * n - 3, 0)
+    lent_refusal(t, positions.len())?;
+    near_refusal(positions, t.count)?;
+    asked(17, fair(page), 0)?;
+    asked(18, s < 9 * t.count - 3, 0)
 }
 
 // THE call over columns: stroke number s, from 0.
-pub fn stroke_at(t: Columns, positions: &[i32], page: Page, s: usize) -> Stroked
-    ensures { result ≡ stroked_of (table_of t) positions.now page s }
+pub fn stroke_at(t: &Columns, positions: &[i32], page: Page, s: usize) -> Result<Stroke, Refusal>
+    ensures { result ≡ stroked_of (table_of t.now) positions.now page s }
 {
-    let no = refuse(t, positions, page, s);
-    if no.number != 0 {
-        return Stroked::Refused(no.number, no.cell);
-    }
-    Stroked::Drawn(drawn(t, positions, page, s))
+    refuse(t, positions, page, s)?;
+    Ok(drawn(t, positions, page, s))
 }

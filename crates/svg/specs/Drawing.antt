@@ -8,7 +8,7 @@ use Rattle.plan.specs.Pages.{fair}
 use Rattle.plan.specs.declared.Page.{Page}
 use Rattle.rules.specs.Placement.{placed, width, rows}
 use Rattle.positions.specs.Written.{written}
-use Rattle.planfile_spec.specs.declared.Reading.{Reading}
+use Rattle.planfile_spec.specs.Read.{Reading}
 use Rattle.planfile_spec.specs.Reading.{reading_of}
 use Rattle.listing.specs.Printed.{Bytes, refused_line}
 use Rattle.printing.specs.Printing.{label_bytes, read_table, ours}

@@ -15,16 +15,12 @@ fn put_letter(b: u8, out: &mut [u8], at: usize) -> usize
     requires { at + 5 ≤ length out.old }
     ensures { Put out.old at (letter b) out.new result × (result ≤ at + 5) }
 {
-    if b == 38 {
-        return put_text(b"&amp;", out, at);
+    match b {
+        b'&' => put_text(b"&amp;", out, at),
+        b'<' => put_text(b"&lt;", out, at),
+        b'>' => put_text(b"&gt;", out, at),
+        _ => put_byte(b, out, at),
     }
-    if b == 60 {
-        return put_text(b"&lt;", out, at);
-    }
-    if b == 62 {
-        return put_text(b"&gt;", out, at);
-    }
-    put_byte(b, out, at)
 }
 
 // The letters of a label.
@@ -33,10 +29,8 @@ fn put_letters(label: &[u8], out: &mut [u8], at: usize) -> usize
     ensures { Put out.old at (escaped label.now) out.new result × (result ≤ at + 5 * length label.now) }
 {
     let mut next = at;
-    let mut i: usize = 0;
-    while i < label.len() {
-        next = put_letter(label[i], out, next);
-        i += 1;
+    for letter in label {
+        next = put_letter(*letter, out, next);
     }
     next
 }
@@ -60,7 +54,7 @@ pub fn put_label(stroke: Stroke, label: &[u8], out: &mut [u8], at: usize) -> usi
     requires { (length label.now ≤ most_label) × (at + label_size ≤ length out.old) }
     ensures { Put out.old at (label_text stroke label.now) out.new result × (result ≤ at + label_size) }
 {
-    if label.len() == 0 {
+    if label.is_empty() {
         return at;
     }
     match stroke {

@@ -9,7 +9,6 @@ use native.Mathlib.Decide.{ℕ_discrete}
 use lib.ListN.{length, set, length-set}
 use Rattle.whole.specs.Says.{Says}
 use Rattle.plan.specs.Limits.{most_cells}
-use Rattle.plan.specs.Trees.{Column}
 use Rattle.plan.specs.Plan.{Table, Is, parent}
 use Rattle.spans.specs.Spans.{at}
 use Rattle.spans.proofs.Laws.Deepest.{Sunk, sunk_start, sunk_next, deepest}
@@ -33,22 +32,21 @@ said false f h = record { read = λ k. absurd k; show = λ p. absurd (let e = h 
 pub not_both : {X : Type 0} {r : Bool} → r ≡ true → r ≡ false → X
 not_both e f = absurd (let z : ◌≡◌ {A = ℕ} 0 1 = cc in omega arith)
 
--- ---- P holds of the first c of n
-pub record Upto (P : ℕ → Type 0) (n c : ℕ) : Type 0 where
-  pub high : c ≤ n
+-- ---- P holds of the first c
+pub record Upto (P : ℕ → Type 0) (c : ℕ) : Type 0 where
   pub each : (i : ℕ) → i < c → P i
 
-pub upto-none : (P : ℕ → Type 0) (n : ℕ) → Upto P n 0
-upto-none P n = record { high = omega arith; each = λ i h. absurd (omega arith) }
+pub upto-none : (P : ℕ → Type 0) → Upto P 0
+upto-none P = record { each = λ i h. absurd (omega arith) }
 
-pub upto_next : {P : ℕ → Type 0} {n c : ℕ} → Upto P n c → c < n → P c → Upto P n (c + 1)
-upto_next {P} {n} {c} h l p = record { high = omega arith; each = λ i k. go i k (ℕ_discrete i c) }
+pub upto_next : {P : ℕ → Type 0} {c : ℕ} → Upto P c → P c → Upto P (c + 1)
+upto_next {P} {c} h p = record { each = λ i k. go i k (ℕ_discrete i c) }
   where
     go : (i : ℕ) → i < c + 1 → Dec (i ≡ c) → P i
     go i k (yes e) = rw e p
     go i k (no e) = h.each i (omega arith)
 
-pub upto_all : {P : ℕ → Type 0} {n c : ℕ} → Upto P n c → n ≤ c → (i : ℕ) → i < n → P i
+pub upto_all : {P : ℕ → Type 0} {n c : ℕ} → Upto P c → n ≤ c → (i : ℕ) → i < n → P i
 upto_all h l i k = h.each i (omega arith)
 
 -- ---- S1 and S2
@@ -66,33 +64,6 @@ alone_two {s} {c} {f} {v} {w} e z q d h = let r = h.two (omega arith) in cc
 
 pub parent_low : {s : Sights} {n c f : ℕ} {w : View} → Ready s n → c < n → c ≢ 0 → w ≡ s c → f ≡ w.parent → f < n
 parent_low {c = c} r l z e q = omega (arith, ap (λ (v : View). v.parent) e, r.parents c (omega arith) l)
-
--- ---- a column, cell by cell
-pub record Making (f : ℕ → ℕ) (n c : ℕ) (xs : List ℕ) : Type 0 where
-  pub high : c ≤ n
-  pub few : n ≤ most_cells
-  pub made : Column xs c f
-
-module _ (f : ℕ → ℕ) (n : ℕ) where
-  pub making_starts : n ≤ most_cells → Making f n 0 (all 0)
-  making_starts k = record { high = omega arith; few = k; made = record { long = all-long 0; each = λ c h. absurd (omega arith) } }
-
-  pub making_turns : {c : ℕ} {xs : List ℕ} (v : ℕ) → Making f n c xs → c < n → v ≡ f c → Making f n (c + 1) (set xs c v)
-  making_turns {c} {xs} v h l e = record {
-    high = omega arith;
-    few = h.few;
-    made = record { long = simp length-set h.made.long; each = λ i k. go i k (ℕ_discrete i c) };
-  }
-    where
-      p : Put (at xs) (at (set xs c v)) c v
-      p = put xs c v (omega (arith, h.made.long, h.few))
-
-      go : (i : ℕ) → i < c + 1 → Dec (i ≡ c) → at (set xs c v) i ≡ f i
-      go i k (yes q) = rw q (p.here ∙ e)
-      go i k (no q) = p.off i q ∙ h.made.each i (omega arith)
-
-  pub making_ends : {c : ℕ} {xs : List ℕ} → Making f n c xs → n ≤ c → Column xs n f
-  making_ends {c} h l = let e : c ≡ n = omega (arith, h.high) in rw e at h.made
 
 -- ---- the greatest of each subtree
 pub record Gathering (s : Sights) (n : ℕ) (bases : List ℕ) (c : ℕ) (xs : List ℕ) : Type 0 where

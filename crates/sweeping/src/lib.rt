@@ -12,11 +12,11 @@ ghost use Rattle.looking_sights.specs.Sights.{Sighted, «view_in»};
 ghost use Rattle.looking.specs.Passes.{«found_of», «all_found»};
 ghost use Rattle.sweeping.specs.Swept.{Seen, Ready, AloneAt, Alone, Order, top, Gathered, Small, BesideAt, Beside, Clear, Rows, most_rows, Filled, Taken, Settled, Blocked};
 
-use looking::search::{Found, pass1, pass2, search};
+use looking::search::{pass1, pass2, search};
 use looking_columns::SIGHTS;
 use looking_sights::see;
+use plan::Breach;
 use plan::limits::{FARTHEST, LAST_ROW, MOST_CELLS};
-use whole::numbers::{greater, wide16, wide32};
 
 // A number that no coordinate passes: what is left to it of an x is greatest where the x is least.
 pub const TOP: u32 = 2147483648;
@@ -36,7 +36,7 @@ fn alone_at(sights: &[u32; SIGHTS], n: usize, c: usize) -> bool
     if c == 0 {
         return true;
     }
-    let f = wide32(w.parent);
+    let f = w.parent as usize;
     let v = see(sights, f);
     pass2(f, v, w)
 }
@@ -45,12 +45,10 @@ fn alone(sights: &[u32; SIGHTS], n: usize) -> bool
     requires { Ready (view_in sights.now) n }
     ensures { Says result (Alone (view_in sights.now) n) }
 {
-    let mut c: usize = 0;
-    while c < n {
+    for c in 0..n {
         if !alone_at(sights, n, c) {
             return false;
         }
-        c += 1;
     }
     true
 }
@@ -61,12 +59,10 @@ fn order_of(sights: &[u32; SIGHTS], n: usize) -> [u16; MOST_CELLS]
     ensures { Order (view_in sights.now) n result }
 {
     let mut order = [0u16; MOST_CELLS];
-    let mut c: usize = 0;
-    while c < n {
+    for c in 0..n {
         let w = see(sights, c);
-        let k = wide32(w.first);
+        let k = w.first as usize;
         order[k] = c as u16;
-        c += 1;
     }
     order
 }
@@ -76,35 +72,29 @@ fn cell_at(order: &[u16; MOST_CELLS], k: usize) -> usize
     requires { k < most_cells }
     ensures { result ≡ get_or order.now k 0 }
 {
-    wide16(order[k])
+    usize::from(order[k])
 }
 
-fn rights_of(sights: &[u32; SIGHTS], n: usize) -> [u32; MOST_CELLS]
-    requires { n ≤ most_cells }
-    ensures { Column result n (λ c. (view_in sights.now c).right) }
-{
-    let mut out = [0u32; MOST_CELLS];
-    let mut c: usize = 0;
-    while c < n {
-        let w = see(sights, c);
-        out[c] = w.right;
-        c += 1;
-    }
-    out
+// Of each cell a right edge, and what is left of TOP to the right of an x.
+#[derive(Drop)]
+struct Sides {
+    high: [u32; MOST_CELLS],
+    low: [u32; MOST_CELLS],
 }
 
-fn lefts_of(sights: &[u32; SIGHTS], n: usize) -> [u32; MOST_CELLS]
+// Those of the cell alone.
+fn sides_of(sights: &[u32; SIGHTS], n: usize) -> Sides
     requires { Ready (view_in sights.now) n }
-    ensures { Column result n (λ c. top - (view_in sights.now c).x) }
+    ensures { Column result.high n (λ c. (view_in sights.now c).right) × Column result.low n (λ c. top - (view_in sights.now c).x) }
 {
-    let mut out = [0u32; MOST_CELLS];
-    let mut c: usize = 0;
-    while c < n {
+    let mut high = [0u32; MOST_CELLS];
+    let mut low = [0u32; MOST_CELLS];
+    for c in 0..n {
         let w = see(sights, c);
-        out[c] = TOP - w.x;
-        c += 1;
+        high[c] = w.right;
+        low[c] = TOP - w.x;
     }
-    out
+    Sides { high, low }
 }
 
 // The greatest of a column's numbers in each subtree. From the last cell to the first: each is taken in by its parent.
@@ -112,12 +102,10 @@ fn gather(sights: &[u32; SIGHTS], n: usize, column: &mut [u32; MOST_CELLS])
     requires { Ready (view_in sights.now) n × (length column.old ≡ most_cells) }
     ensures { Gathered (view_in sights.now) n (at column.old) (at column.new) }
 {
-    let mut c = n;
-    while 1 < c {
-        c -= 1;
+    for c in (1..n).rev() {
         let w = see(sights, c);
-        let f = wide32(w.parent);
-        let most = greater(column[f], column[c]);
+        let f = w.parent as usize;
+        let most = column[f].max(column[c]);
         column[f] = most;
     }
 }
@@ -127,24 +115,23 @@ fn beside_at(
     sights: &[u32; SIGHTS],
     n: usize,
     order: &[u16; MOST_CELLS],
-    high: &[u32; MOST_CELLS],
-    low: &[u32; MOST_CELLS],
+    sides: &Sides,
     v: usize,
     allowance: u32,
 ) -> bool
     requires ready { Ready (view_in sights.now) n × Order (view_in sights.now) n order.now }
-    requires small { Small n (at high.now) (at low.now) × (v < n) × (allowance < 2 ^ 31) }
-    ensures { Says result (BesideAt (view_in sights.now) n allowance (at high.now) (at low.now) v) }
+    requires small { Small n (at sides.now.high) (at sides.now.low) × (v < n) × (allowance < 2 ^ 31) }
+    ensures { Says result (BesideAt (view_in sights.now) n allowance (at sides.now.high) (at sides.now.low) v) }
 {
     let w = see(sights, v);
-    let k = wide32(w.from);
+    let k = w.from as usize;
     let u = cell_at(order, k);
     if u == v {
         return true;
     }
     let e = see(sights, u);
-    let most = high[u];
-    let least = TOP - low[v];
+    let most = sides.high[u];
+    let least = TOP - sides.low[v];
     if w.x <= most {
         return false;
     }
@@ -158,20 +145,17 @@ fn beside(
     sights: &[u32; SIGHTS],
     n: usize,
     order: &[u16; MOST_CELLS],
-    high: &[u32; MOST_CELLS],
-    low: &[u32; MOST_CELLS],
+    sides: &Sides,
     allowance: u32,
 ) -> bool
     requires ready { Ready (view_in sights.now) n × Order (view_in sights.now) n order.now }
-    requires small { Small n (at high.now) (at low.now) × (allowance < 2 ^ 31) }
-    ensures { Says result (Beside (view_in sights.now) n allowance (at high.now) (at low.now)) }
+    requires small { Small n (at sides.now.high) (at sides.now.low) × (allowance < 2 ^ 31) }
+    ensures { Says result (Beside (view_in sights.now) n allowance (at sides.now.high) (at sides.now.low)) }
 {
-    let mut v: usize = 0;
-    while v < n {
-        if !beside_at(sights, n, order, high, low, v, allowance) {
+    for v in 0..n {
+        if !beside_at(sights, n, order, sides, v, allowance) {
             return false;
         }
-        v += 1;
     }
     true
 }
@@ -181,14 +165,12 @@ fn fill(rows: &mut [u32; ROWS], from: u32, to: u32, x: u32, v: u32) -> bool
     requires { (x ≤ v) × (length rows.old ≡ most_rows) × (farthest ≤ from) × (from ≤ to + 1) × (to ≤ farthest + last_row) }
     ensures { (result ≡ true → Filled rows.old rows.new from to x v) × (result ≡ false → Taken rows.old from to x) }
 {
-    let mut y = from;
-    while y <= to {
-        let r = wide32(y - FARTHEST);
+    for y in from..=to {
+        let r = (y - FARTHEST) as usize;
         if x < rows[r] {
             return false;
         }
         rows[r] = v;
-        y += 1;
     }
     true
 }
@@ -205,7 +187,7 @@ fn settle(sights: &[u32; SIGHTS], n: usize, rows: &mut [u32; ROWS], c: usize) ->
     if c == 0 {
         return true;
     }
-    let v = see(sights, wide32(w.parent));
+    let v = see(sights, w.parent as usize);
     if w.nth != v.middle {
         return true;
     }
@@ -218,15 +200,13 @@ fn sweep(sights: &[u32; SIGHTS], n: usize, order: &[u16; MOST_CELLS]) -> bool
     ensures { Says result (Clear (view_in sights.now) n) }
 {
     let root = see(sights, 0);
-    let last = wide32(root.end);
+    let last = root.end as usize;
     let mut rows = [0u32; ROWS];
-    let mut k: usize = 0;
-    while k < last {
+    for k in 0..last {
         let c = cell_at(order, k);
         if !settle(sights, n, &mut rows, c) {
             return false;
         }
-        k += 1;
     }
     true
 }
@@ -240,23 +220,22 @@ fn all_kept(sights: &[u32; SIGHTS], n: usize, allowance: u32) -> bool
         return false;
     }
     let order = order_of(sights, n);
-    let mut high = rights_of(sights, n);
-    gather(sights, n, &mut high);
-    let mut low = lefts_of(sights, n);
-    gather(sights, n, &mut low);
-    if !beside(sights, n, &order, &high, &low, allowance) {
+    let mut sides = sides_of(sights, n);
+    gather(sights, n, &mut sides.high);
+    gather(sights, n, &mut sides.low);
+    if !beside(sights, n, &order, &sides, allowance) {
         return false;
     }
     sweep(sights, n, &order)
 }
 
 // What the search finds, which is run only where the rules are not all kept.
-pub fn find(sights: &[u32; SIGHTS], n: usize, allowance: u32) -> Found
+pub fn find(sights: &[u32; SIGHTS], n: usize, allowance: u32) -> Result<(), Breach>
     requires { Seen (view_in sights.now) n × Sighted (view_in sights.now) n × (allowance < 2 ^ 31) }
     ensures { result ≡ found_of (all_found (view_in sights.now) allowance n) }
 {
     if all_kept(sights, n, allowance) {
-        return Found::Kept;
+        return Ok(());
     }
     search(sights, n, allowance)
 }

@@ -5,9 +5,9 @@ ghost use Rattle.std.specs.Prelude.{◌≡◌};
 ghost use Rattle.season.specs.Pool.{pool};
 ghost use Rattle.reporting.specs.Reporting.{Reports};
 
-use plan::Record;
+use plan::{Record, Refusal};
 use records::fill;
-use season::{Report, Reported};
+use season::Report;
 
 // Report: the report of one plan file, with its sheet at its own allowance. The table is filled as Read fills it, scratch and positions are left as Layout leaves them; or the refusal.
 pub fn report(
@@ -15,17 +15,16 @@ pub fn report(
     table: &mut [Record],
     scratch: &mut [u32],
     positions: &mut [i32],
-) -> Reported
+) -> Result<Report, Refusal>
     ensures { Reports file.now table.old table.new scratch.old scratch.new positions.old positions.new result }
 {
-    let draft = reporting::report(file, table.len(), scratch, positions);
-    let plan = draft.reading;
-    fill(plan, plan.columns.count, table);
-    draft.answer
+    let draft = reporting::report(file, table.len(), scratch, positions)?;
+    fill(&draft.plan.cells, table);
+    Ok(draft.report)
 }
 
 // Pool: the report of two folders together; or the refusal.
-pub fn pool(a: Report, b: Report) -> Reported
+pub fn pool(a: Report, b: Report) -> Result<Report, Refusal>
     ensures { result ≡ pool a b }
 {
     season::pool(a, b)

@@ -4,6 +4,7 @@ use Rattle.plan.specs.Limits.{most_cells, last_row}
 use Rattle.rows.specs.Rows.{row_size, extent, Low, box_to}
 use Rattle.joining.specs.Joining.{Memory, memory_of, height, joined_rows, completed, Completing, Settling, finished}
 use Rattle.links.specs.Links.{link}
+use Rattle.walk.specs.declared.Board.{Board}
 
 -- the columns that the walk reads: links, widths, depths, top rows; and the allowance
 pub record Chart : Type 0 where
@@ -15,6 +16,10 @@ pub record Chart : Type 0 where
 
 abbrev pub chart : List ℕ → List ℕ → List ℕ → List ℕ → ℕ → Chart
 chart ls ws ds ts al = record { links = ls; widths = ws; depths = ds; tops = ts; allowance = al }
+
+-- of a board as the code has it
+abbrev pub chart_of : Board → Chart
+chart_of b = chart b.links.now b.widths.now b.depths.now b.tops.now b.allowance
 
 -- W, D, the top row and the appointed place of a cell, as the chart has them
 abbrev pub wide : Chart → ℕ → ℕ

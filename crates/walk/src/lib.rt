@@ -1,12 +1,12 @@
 // The walk of the tree: a loop over the chain of open cells. Each cell is opened, its children are joined one after another, and it is closed.
 #![tactic(auto)]
 
-ghost use Rattle.std.specs.Prelude.{◌≡◌, ◌+◌, ◌<◌, ◌≤◌, length, get_or, [], ◌∷◌};
+ghost use Rattle.std.specs.Prelude.{◌≡◌, ◌+◌, ◌<◌, ◌≤◌, length, [], ◌∷◌};
 ghost use Rattle.links.specs.Links.{link};
 ghost use Rattle.joining.specs.Joining.{memory_of, finished};
 ghost use Rattle.walk.specs.Walked.{Walking, Walked};
 ghost use Rattle.walk.specs.Opened.{Visited, Begins, Descends, Underway, Onward};
-ghost use Rattle.walk.specs.Machine.{Finishing, Rooting, root_closed, chart, step, Closing, closed, OnlyStretch, Turning};
+ghost use Rattle.walk.specs.Machine.{Finishing, Rooting, root_closed, chart_of, step, Closing, closed, OnlyStretch, Turning};
 ghost use Rattle.walk.specs.Turns.{stack_of, state_of};
 ghost use Rattle.walk.specs.Falls.{Falls, fallen, down};
 
@@ -14,27 +14,15 @@ use joining::settle;
 use joining_cells::{complete, joined_rows};
 use links::link_of;
 use rows::{ROW, box_rows};
-use whole::numbers::{wide8, wide16, wide16to32};
 
-pub fn number(s: &[u8], i: usize) -> usize
-    requires { i < length s.now }
-    ensures { result ≡ get_or s.now i 0 }
-{
-    wide8(s[i])
-}
-
-pub fn row_of(s: &[u16], i: usize) -> usize
-    requires { i < length s.now }
-    ensures { result ≡ get_or s.now i 0 }
-{
-    wide16(s[i])
-}
-
-pub fn width_of(s: &[u16], i: usize) -> u32
-    requires { i < length s.now }
-    ensures { result ≡ get_or s.now i 0 }
-{
-    wide16to32(s[i])
+// What the walk reads of a table: its links, its widths and depths and the top rows of its cells; and the allowance.
+#[derive(Clone, Copy)]
+pub struct Board<'a> {
+    pub links: &'a [u16],
+    pub widths: &'a [u16],
+    pub depths: &'a [u8],
+    pub tops: &'a [u16],
+    pub allowance: u32,
 }
 
 // The finished child c, of depth d and width w, is completed and joins its parent f.
@@ -67,27 +55,16 @@ pub fn finish_root(rows: &mut [u32], marks: &mut [u32], d: usize, w: u32)
 }
 
 // The finished cell c joins its parent f at the given level. Only the stretch of rows below the box of f is lent on, and written.
-pub fn close(
-    links: &[u16],
-    widths: &[u16],
-    depths: &[u8],
-    tops: &[u16],
-    allowance: u32,
-    level: usize,
-    f: usize,
-    c: usize,
-    rows: &mut [u32],
-    marks: &mut [u32],
-)
-    requires { Closing (chart links.now widths.now depths.now tops.now allowance) level f c rows.old marks.old }
-    ensures marks_after { memory_of rows.new marks.new ≡ closed (chart links.now widths.now depths.now tops.now allowance) level f c (memory_of rows.old marks.old) }
-    ensures only_stretch { OnlyStretch (chart links.now widths.now depths.now tops.now allowance) f c rows.old marks.old rows.new }
+pub fn close(b: &Board, level: usize, f: usize, c: usize, rows: &mut [u32], marks: &mut [u32])
+    requires { Closing (chart_of b.now) level f c rows.old marks.old }
+    ensures marks_after { memory_of rows.new marks.new ≡ closed (chart_of b.now) level f c (memory_of rows.old marks.old) }
+    ensures only_stretch { OnlyStretch (chart_of b.now) f c rows.old marks.old rows.new }
 {
-    let d = number(depths, c);
-    let w = width_of(widths, c);
-    let place = link_of(links, c, 2);
-    let apt = link_of(links, f, 3);
-    let start = ROW * row_of(tops, c);
+    let d = usize::from(b.depths[c]);
+    let w = u32::from(b.widths[c]);
+    let place = link_of(b.links, c, 2);
+    let apt = link_of(b.links, f, 3);
+    let start = ROW * usize::from(b.tops[c]);
     let end = start + ROW * joined_rows(marks, f, c, d);
     finish_child(
         &mut rows[start..end],
@@ -99,7 +76,7 @@ pub fn close(
         w,
         place,
         apt,
-        allowance,
+        b.allowance,
     );
 }
 
@@ -110,54 +87,31 @@ pub struct Chain {
     pub count: usize,
 }
 
-// The chain after a turn, and the child to open next, 0 where there is none.
+// The chain before or after a turn, and the child to open next, 0 where there is none.
 #[derive(Drop)]
 pub struct Turned {
     pub open_cells: Chain,
     pub next: usize,
 }
 
-// The open cell at a level.
-fn open_at(cells: &[u16; 32], level: usize) -> usize
-    requires { level < 32 }
-    ensures { result ≡ get_or cells.now level 0 }
-{
-    wide16(cells[level])
-}
-
 // The latest open cell, at the given level, is closed. Its next sibling, 0 where there is none.
-fn shut(
-    links: &[u16],
-    widths: &[u16],
-    depths: &[u8],
-    tops: &[u16],
-    allowance: u32,
-    cells: &[u16; 32],
-    level: usize,
-    rows: &mut [u32],
-    marks: &mut [u32],
-) -> usize
-    requires { Turning (chart links.now widths.now depths.now tops.now allowance) (state_of cells.now (level + 1) 0 rows.old marks.old) }
-    ensures { state_of cells.now level result rows.new marks.new ≡ step (chart links.now widths.now depths.now tops.now allowance) (state_of cells.now (level + 1) 0 rows.old marks.old) }
+fn shut(b: &Board, cells: &[u16; 32], level: usize, rows: &mut [u32], marks: &mut [u32]) -> usize
+    requires { Turning (chart_of b.now) (state_of cells.now (level + 1) 0 rows.old marks.old) }
+    ensures { state_of cells.now level result rows.new marks.new ≡ step (chart_of b.now) (state_of cells.now (level + 1) 0 rows.old marks.old) }
 {
     if level == 0 {
-        finish_root(rows, marks, number(depths, 0), width_of(widths, 0));
+        finish_root(
+            rows,
+            marks,
+            usize::from(b.depths[0]),
+            u32::from(b.widths[0]),
+        );
         return 0;
     }
-    let c = open_at(cells, level);
-    close(
-        links,
-        widths,
-        depths,
-        tops,
-        allowance,
-        level - 1,
-        open_at(cells, level - 1),
-        c,
-        rows,
-        marks,
-    );
-    link_of(links, c, 1)
+    let c = usize::from(cells[level]);
+    let f = usize::from(cells[level - 1]);
+    close(b, level - 1, f, c, rows, marks);
+    link_of(b.links, c, 1)
 }
 
 // The child `next` is opened, and its first child, and so on, down to a cell with no children. Each of them is put into the chain:
@@ -195,32 +149,20 @@ pub fn begin(links: &[u16]) -> Turned
     }
 }
 
-// One turn: the child `next`, if there is one, is opened and so on down; then the latest open cell is closed. The chain travels by value.
+// One turn: the child that is next, if there is one, is opened and so on down; then the latest open cell is closed. The chain travels by value.
 // It is given a chain whose numbers up to the count are exactly the open cells (`Underway`), and hands such a one back (`Onward`).
-pub fn turn(
-    links: &[u16],
-    widths: &[u16],
-    depths: &[u8],
-    tops: &[u16],
-    allowance: u32,
-    chain: Chain,
-    next: usize,
-    rows: &mut [u32],
-    marks: &mut [u32],
-) -> Turned
-    requires count_nonzero { 0 < chain.count }
-    requires falls { Falls links.now 32 chain.count next }
-    requires turning { Turning (chart links.now widths.now depths.now tops.now allowance) (down links.now (stack_of chain.cells chain.count) next (memory_of rows.old marks.old)) }
-    requires underway { Underway (chart links.now widths.now depths.now tops.now allowance) chain.cells chain.count next rows.old marks.old }
-    ensures marks_after { state_of result.open_cells.cells result.open_cells.count result.next rows.new marks.new ≡ step (chart links.now widths.now depths.now tops.now allowance) (down links.now (stack_of chain.cells chain.count) next (memory_of rows.old marks.old)) }
-    ensures onward { Onward (chart links.now widths.now depths.now tops.now allowance) chain.cells chain.count next rows.old marks.old result.open_cells.cells result.open_cells.count result.next rows.new marks.new }
+pub fn turn(b: &Board, at: Turned, rows: &mut [u32], marks: &mut [u32]) -> Turned
+    requires count_nonzero { 0 < at.open_cells.count }
+    requires falls { Falls b.now.links.now 32 at.open_cells.count at.next }
+    requires turning { Turning (chart_of b.now) (down b.now.links.now (stack_of at.open_cells.cells at.open_cells.count) at.next (memory_of rows.old marks.old)) }
+    requires underway { Underway (chart_of b.now) at.open_cells.cells at.open_cells.count at.next rows.old marks.old }
+    ensures marks_after { state_of result.open_cells.cells result.open_cells.count result.next rows.new marks.new ≡ step (chart_of b.now) (down b.now.links.now (stack_of at.open_cells.cells at.open_cells.count) at.next (memory_of rows.old marks.old)) }
+    ensures onward { Onward (chart_of b.now) at.open_cells.cells at.open_cells.count at.next rows.old marks.old result.open_cells.cells result.open_cells.count result.next rows.new marks.new }
 {
-    let mut c = chain;
-    let level = descend(links, &mut c.cells, c.count, next) - 1;
+    let mut c = at.open_cells;
+    let level = descend(b.links, &mut c.cells, c.count, at.next) - 1;
     c.count = level;
-    let n = shut(
-        links, widths, depths, tops, allowance, &c.cells, level, rows, marks,
-    );
+    let n = shut(b, &c.cells, level, rows, marks);
     Turned {
         open_cells: c,
         next: n,
@@ -230,24 +172,13 @@ pub fn turn(
 // The walk of the tree below cell 0: a loop in which the chain of open cells travels from turn to turn.
 // `Visited`: at every turn its numbers up to the count are the open cells from the root down, and the cells are opened in preorder, each once
 // (proofs/Visits: `open_cells`, `opened-in_order`, `opened-once`). Of the chain itself `begin` and `turn` say it (`Visiting`), and the loop keeps it.
-pub fn walk<'a>(
-    links: &[u16],
-    widths: &'a [u16],
-    depths: &'a [u8],
-    tops: &[u16],
-    allowance: u32,
-    rows: &mut [u32],
-    marks: &mut [u32],
-)
-    requires { Walking (chart links.now widths.now depths.now tops.now allowance) rows.old marks.old }
-    ensures walked { Walked (chart links.now widths.now depths.now tops.now allowance) rows.old rows.new marks.new }
-    ensures visited { Visited (chart links.now widths.now depths.now tops.now allowance) (memory_of rows.old marks.old) (memory_of rows.new marks.new) }
+pub fn walk(b: &Board, rows: &mut [u32], marks: &mut [u32])
+    requires { Walking (chart_of b.now) rows.old marks.old }
+    ensures walked { Walked (chart_of b.now) rows.old rows.new marks.new }
+    ensures visited { Visited (chart_of b.now) (memory_of rows.old marks.old) (memory_of rows.new marks.new) }
 {
-    let mut at = begin(links);
+    let mut at = begin(b.links);
     while 0 < at.open_cells.count {
-        let chain = at.open_cells;
-        at = turn(
-            links, widths, depths, tops, allowance, chain, at.next, rows, marks,
-        );
+        at = turn(b, at, rows, marks);
     }
 }

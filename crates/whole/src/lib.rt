@@ -1,8 +1,6 @@
 // Whole numbers become natural ones here, moved up so that none is negative, and differences of natural numbers whole ones.
 #![tactic(auto)]
 
-pub mod numbers;
-
 ghost use Rattle.std.specs.Prelude.{◌≡◌, ◌<◌, ◌^◌, length, get_or, pos, ◌-ℤ◌};
 ghost use Rattle.whole.specs.Bias.{bias};
 ghost use Rattle.whole.specs.Range.{in_range, InRange};

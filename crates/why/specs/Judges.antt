@@ -1,15 +1,24 @@
 -- WHAT IS ANSWERED OF ANYONE'S PLACEMENT, on every input: Check's own verdict or refusal; where it keeps the rules, the reason for its width, or that there is none, so that it could be narrower.
 -- Assumes nothing.
-use Rattle.std.specs.Prelude.{◌≡◌, Bool, false, List, ℕ, replicate, ℤ}
-use Rattle.plan.specs.Limits.{most_cells}
+use Rattle.std.specs.Prelude.{◌≡◌, List, ℕ, ℤ, Option, Result, Ok, Err}
 use Rattle.plan.specs.Plan.{Table}
+use Rattle.plan.specs.declared.Measures.{Measures}
+use Rattle.plan.specs.declared.Refusal.{Refusal}
 use Rattle.rules.specs.Placement.{placed}
 use Rattle.checker.specs.Checked.{checked_of}
-use Rattle.checker.specs.declared.Checked.{Checked}
-use Rattle.checker.specs.declared.Checked.TheVariants.{Kept}
-use Rattle.why_search.specs.Explains.{Explains}
+use Rattle.checker.specs.declared.Verdict.{Verdict}
+use Rattle.checker.specs.declared.Verdict.TheVariants as verdict
+use Rattle.why_search.specs.Explains.{Explained}
+use Rattle.why_search.specs.declared.Chain.{Chain}
+use Rattle.why.specs.declared.Judged.{Judged}
+use Rattle.why.specs.declared.Judged.TheVariants.{Kept, Broken}
 
-pub record Judges (t : Table) (al : ℕ) (ps : List ℤ) (checked : Checked) (found : Bool) (count : ℕ) (cells rules : List ℕ) : Type 0 where
-  pub checks : checked ≡ checked_of t ps al
-  pub kept : (w h : ℕ) → checked ≡ Kept w h → Explains t al (placed ps) found count cells rules
-  pub other : ((w h : ℕ) → ¬ (checked ≡ Kept w h)) → (found ≡ false) × (count ≡ 0) × (cells ≡ replicate most_cells 0) × (rules ≡ replicate most_cells 0)
+-- Check's part of an answer
+abbrev pub checked : Result Judged Refusal → Result Verdict Refusal
+checked (Ok (Kept m c)) = Ok (verdict.Kept m)
+checked (Ok (Broken b)) = Ok (verdict.Broken b)
+checked (Err r) = Err r
+
+pub record Judges (t : Table) (al : ℕ) (ps : List ℤ) (r : Result Judged Refusal) : Type 0 where
+  pub checks : checked r ≡ checked_of t ps al
+  pub kept : (m : Measures) (c : Option Chain) → r ≡ Ok (Kept m c) → Explained t al (placed ps) c

@@ -5,82 +5,49 @@ ghost use Rattle.plan.specs.Columns.{«table_of»};
 ghost use Rattle.why.specs.Judges.{Judges};
 ghost use Rattle.why.specs.Shows.{Shows};
 
-use checker::{Checked, check};
-use layout::{Laid, layout};
-use plan::Columns;
-use plan::limits::MOST_CELLS;
-use why_search::explain;
+use checker::{Verdict, check};
+use layout::layout;
+use plan::{Breach, Columns, Measures, Refusal};
+use why_search::{Chain, explain};
 
-// What Layout answers; of a sheet the number of links, and the chain's cells, one more, from left to right, and the rule of each link.
+// Our sheet's width and rows, and the chain that says why it is as wide as it is.
 #[derive(Drop)]
 pub struct Shown {
-    pub laid: Laid,
-    pub found: bool,
-    pub count: usize,
-    pub cells: [usize; MOST_CELLS],
-    pub rules: [u8; MOST_CELLS],
+    pub measures: Measures,
+    pub chain: Chain,
 }
 
-pub fn why(t: Columns, allowance: u32, scratch: &mut [u32], positions: &mut [i32]) -> Shown
-    ensures { Shows (table_of t) allowance scratch.old scratch.new positions.old positions.new result.laid result.found result.count result.cells result.rules }
+// What Layout answers, with the reason for the width of a sheet.
+pub fn why(
+    t: Columns,
+    allowance: u32,
+    scratch: &mut [u32],
+    positions: &mut [i32],
+) -> Result<Shown, Refusal>
+    ensures { Shows (table_of t) allowance scratch.old scratch.new positions.old positions.new result }
 {
-    let laid = layout(t, allowance, scratch, positions);
-    if let Laid::Refused(number, cell) = laid {
-        let cells = [0usize; MOST_CELLS];
-        let rules = [0u8; MOST_CELLS];
-        return Shown {
-            laid: Laid::Refused(number, cell),
-            found: false,
-            count: 0,
-            cells,
-            rules,
-        };
-    }
-    let chain = explain(t, &positions[..], allowance);
-    let cells = chain.cells;
-    let rules = chain.rules;
-    Shown {
-        laid,
-        found: chain.found,
-        count: chain.count,
-        cells,
-        rules,
-    }
+    let measures = layout(t, allowance, scratch, positions)?;
+    let chain = explain(t, &positions[..], allowance).unwrap();
+    Ok(Shown { measures, chain })
 }
 
-// What Check answers; where that is "kept", whether there is a reason, and the same of it.
+// Kept, with the chain if there is one; or broken.
 #[derive(Drop)]
-pub struct Judged {
-    pub checked: Checked,
-    pub found: bool,
-    pub count: usize,
-    pub cells: [usize; MOST_CELLS],
-    pub rules: [u8; MOST_CELLS],
+pub enum Judged {
+    Kept(Measures, Option<Chain>),
+    Broken(Breach),
 }
 
-pub fn judge(t: Columns, positions: &[i32], allowance: u32) -> Judged
-    ensures { Judges (table_of t) allowance positions.now result.checked result.found result.count result.cells result.rules }
+// What Check answers; where that is "kept", with the reason, if there is one.
+pub fn judge(t: Columns, positions: &[i32], allowance: u32) -> Result<Judged, Refusal>
+    ensures { Judges (table_of t) allowance positions.now result }
 {
-    let checked = check(t, positions, allowance);
-    if let Checked::Kept(width, rows) = checked {
-        let chain = explain(t, positions, allowance);
-        let cells = chain.cells;
-        let rules = chain.rules;
-        return Judged {
-            checked: Checked::Kept(width, rows),
-            found: chain.found,
-            count: chain.count,
-            cells,
-            rules,
-        };
-    }
-    let cells = [0usize; MOST_CELLS];
-    let rules = [0u8; MOST_CELLS];
-    Judged {
-        checked,
-        found: false,
-        count: 0,
-        cells,
-        rules,
+    let verdict = check(t, positions, allowance)?;
+    match verdict {
+        Verdict::Kept(measures) => {
+            let chain = explain(t, positions, allowance);
+            Ok(Judged::Kept(measures, chain))
+        }
+        Verdict::Broken(breach) => Ok(Judged::Broken(breach)),
     }
 }

@@ -1,5 +1,5 @@
 -- The search as the code makes it, on marks: a cell's mark is 1 more than the fewest links that lead to it, 0 where none do so far. Assumes nothing.
-use Rattle.std.specs.Prelude.{Bool, cond, ◌&&◌, List, ℕ, zero, suc, ◌+◌, get_or, eqb, ltb}
+use Rattle.std.specs.Prelude.{Bool, cond, ◌&&◌, List, ℕ, zero, suc, ◌+◌, get_or, eqb, ltb, Option, Some, None}
 use Rattle.looking_sights.specs.Sights.{Sights}
 use Rattle.why_ties.specs.Ties.{rule_of}
 
@@ -7,6 +7,10 @@ use Rattle.why_ties.specs.Ties.{rule_of}
 unfoldable pub seek : (ℕ → Bool) → ℕ → ℕ → ℕ
 seek f k zero = k
 seek f k (suc d) = let r = seek f (suc k) d in cond (f k) k r
+
+-- a search's answer: the number among n, none where it is n
+unfoldable pub among : (n k : ℕ) → Option ℕ
+among n k = cond (ltb k n) (Some k) None
 
 module _ (s : Sights) where
   -- a has mark m, and a tight link leads from it to b

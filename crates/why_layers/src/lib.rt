@@ -6,7 +6,7 @@ ghost use Rattle.plan.specs.Limits.{most_cells};
 ghost use Rattle.plan.specs.Trees.{Column};
 ghost use Rattle.looking_sights.specs.Sights.{«view_in», Sighted};
 ghost use Rattle.why_ties.specs.Ties.{Ready};
-ghost use Rattle.why_layers.specs.Marks.{leads_on, source, at_end, ending, mark_first, mark_next};
+ghost use Rattle.why_layers.specs.Marks.{leads_on, among, source, at_end, ending, mark_first, mark_next};
 
 use looking_columns::SIGHTS;
 use looking_sights::see;
@@ -30,11 +30,10 @@ fn leads_on<'a>(
     }
     let v = see(sights, a);
     let w = see(sights, b);
-    let rule = rule_of(a, b, v, w, allowance);
-    0 < rule
+    rule_of(a, b, v, w, allowance).is_some()
 }
 
-// The lowest such a; n where there is none.
+// The lowest such a.
 pub fn source<'a>(
     sights: &'a [u32; SIGHTS],
     marks: &'a [usize; MOST_CELLS],
@@ -42,18 +41,16 @@ pub fn source<'a>(
     m: usize,
     b: usize,
     allowance: u32,
-) -> usize
+) -> Option<usize>
     requires { Sighted (view_in sights.now) n × (b < n) × (allowance < 2 ^ 31) }
-    ensures { result ≡ source (view_in sights.now) allowance n marks.now m b }
+    ensures { result ≡ among n (source (view_in sights.now) allowance n marks.now m b) }
 {
-    let mut a: usize = 0;
-    while a < n {
+    for a in 0..n {
         if leads_on(sights, marks, m, a, b, allowance) {
-            return a;
+            return Some(a);
         }
-        a += 1;
     }
-    n
+    None
 }
 
 // e has mark m and the greatest right edge.
@@ -74,25 +71,23 @@ fn at_end<'a>(
     v.right == high
 }
 
-// The lowest such e; n where there is none.
+// The lowest such e.
 pub fn ending<'a>(
     sights: &'a [u32; SIGHTS],
     marks: &'a [usize; MOST_CELLS],
     n: usize,
     m: usize,
     high: u32,
-) -> usize
+) -> Option<usize>
     requires { n ≤ most_cells }
-    ensures { result ≡ ending (view_in sights.now) n marks.now m high }
+    ensures { result ≡ among n (ending (view_in sights.now) n marks.now m high) }
 {
-    let mut e: usize = 0;
-    while e < n {
+    for e in 0..n {
         if at_end(sights, marks, m, high, e) {
-            return e;
+            return Some(e);
         }
-        e += 1;
     }
-    n
+    None
 }
 
 fn mark_first(sights: &[u32; SIGHTS], low: u32, c: usize) -> usize
@@ -112,10 +107,8 @@ pub fn first_marks(sights: &[u32; SIGHTS], n: usize, low: u32) -> [usize; MOST_C
     ensures { Column result n (mark_first (view_in sights.now) low) }
 {
     let mut out = [0usize; MOST_CELLS];
-    let mut c: usize = 0;
-    while c < n {
+    for c in 0..n {
         out[c] = mark_first(sights, low, c);
-        c += 1;
     }
     out
 }
@@ -135,11 +128,10 @@ fn mark_next<'a>(
     if old != 0 {
         return old;
     }
-    let a = source(sights, marks, n, m, c, allowance);
-    if a < n {
-        return m + 1;
+    match source(sights, marks, n, m, c, allowance) {
+        Some(_) => m + 1,
+        None => 0,
     }
-    0
 }
 
 // The marks of one link more.
@@ -154,10 +146,8 @@ pub fn next_marks<'a>(
     ensures { Column result n (mark_next (view_in sights.now) allowance n marks.now m) }
 {
     let mut out = [0usize; MOST_CELLS];
-    let mut c: usize = 0;
-    while c < n {
+    for c in 0..n {
         out[c] = mark_next(sights, marks, n, m, c, allowance);
-        c += 1;
     }
     out
 }

@@ -9,7 +9,7 @@ ghost use Rattle.why_lines.specs.Steps.{link_size, head_size, last_size, x_of, �
 
 use decimals::{put_byte, put_decimal, put_text};
 use plan::limits::MOST_CELLS;
-use whole::numbers::wide8to32;
+use why_search::Chain;
 
 const SPACE: u8 = 32;
 
@@ -103,74 +103,52 @@ pub fn put_last(cell: u64, width: u32, x: u32, x_first: u32, out: &mut [u8], at:
 }
 
 // The x of cell number j of a chain.
-fn x_of<'a>(
-    cells: &'a [usize; MOST_CELLS],
-    xs: &'a [u32; MOST_CELLS],
-    count: usize,
-    j: usize,
-) -> u32
-    requires { Few cells.now count × (j ≤ count) }
-    ensures { result ≡ x_of cells.now xs.now j }
+fn x_of(chain: &Chain, xs: &[u32; MOST_CELLS], j: usize) -> u32
+    requires { Few chain.now.cells chain.now.count × (j ≤ chain.now.count) }
+    ensures { result ≡ x_of chain.now.cells xs.now j }
 {
-    xs[cells[j]]
+    xs[chain.cells[j]]
 }
 
 // The link from cell number j to the next.
-fn put_step<'a>(
-    cells: &'a [usize; MOST_CELLS],
-    rules: &'a [u8; MOST_CELLS],
-    xs: &'a [u32; MOST_CELLS],
-    count: usize,
-    j: usize,
-    out: &mut [u8],
-    at: usize,
-) -> usize
-    requires { Few cells.now count × (j < count) × (at + link_size ≤ length out.old) }
-    ensures { Put out.old at (step_line cells.now rules.now xs.now j) out.new result × (result ≤ at + link_size) }
+fn put_step(chain: &Chain, xs: &[u32; MOST_CELLS], j: usize, out: &mut [u8], at: usize) -> usize
+    requires { Few chain.now.cells chain.now.count × (j < chain.now.count) × (at + link_size ≤ length out.old) }
+    ensures { Put out.old at (step_line chain.now.cells chain.now.rules xs.now j) out.new result × (result ≤ at + link_size) }
 {
-    let x_first = x_of(cells, xs, count, 0);
-    let x_from = x_of(cells, xs, count, j);
-    let x_to = x_of(cells, xs, count, j + 1);
-    let from = cells[j] as u64;
-    let to = cells[j + 1] as u64;
-    let rule = wide8to32(rules[j]);
+    let x_first = x_of(chain, xs, 0);
+    let x_from = x_of(chain, xs, j);
+    let x_to = x_of(chain, xs, j + 1);
+    let from = chain.cells[j] as u64;
+    let to = chain.cells[j + 1] as u64;
+    let rule = u32::from(chain.rules[j]);
     put_link(from, to, rule, x_from, x_to, x_first, out, at)
 }
 
 // The lines of all links of a chain.
-pub fn put_steps<'a>(
-    cells: &'a [usize; MOST_CELLS],
-    rules: &'a [u8; MOST_CELLS],
-    xs: &'a [u32; MOST_CELLS],
-    count: usize,
-    out: &mut [u8],
-    at: usize,
-) -> usize
-    requires { Few cells.now count × (at + link_size * count ≤ length out.old) }
-    ensures { Put out.old at (steps_text cells.now rules.now xs.now count) out.new result × (result ≤ at + link_size * count) }
+pub fn put_steps(chain: &Chain, xs: &[u32; MOST_CELLS], out: &mut [u8], at: usize) -> usize
+    requires { Few chain.now.cells chain.now.count × (at + link_size * chain.now.count ≤ length out.old) }
+    ensures { Put out.old at (steps_text chain.now.cells chain.now.rules xs.now chain.now.count) out.new result × (result ≤ at + link_size * chain.now.count) }
 {
     let mut next = at;
-    let mut j: usize = 0;
-    while j < count {
-        next = put_step(cells, rules, xs, count, j, out, next);
-        j += 1;
+    for j in 0..chain.count {
+        next = put_step(chain, xs, j, out, next);
     }
     next
 }
 
 // The last line of a chain, whose last cell has this width.
-pub fn put_end<'a>(
-    cells: &'a [usize; MOST_CELLS],
-    xs: &'a [u32; MOST_CELLS],
-    count: usize,
+pub fn put_end(
+    chain: &Chain,
+    xs: &[u32; MOST_CELLS],
     width: u32,
     out: &mut [u8],
     at: usize,
 ) -> usize
-    requires { Few cells.now count × (at + last_size ≤ length out.old) × (x_of cells.now xs.now count + width < 2 ^ 32) }
-    ensures { Put out.old at (end_line cells.now xs.now count width) out.new result × (result ≤ at + last_size) }
+    requires { Few chain.now.cells chain.now.count × (at + last_size ≤ length out.old) × (x_of chain.now.cells xs.now chain.now.count + width < 2 ^ 32) }
+    ensures { Put out.old at (end_line chain.now.cells xs.now chain.now.count width) out.new result × (result ≤ at + last_size) }
 {
-    let x_first = x_of(cells, xs, count, 0);
-    let x = x_of(cells, xs, count, count);
-    put_last(cells[count] as u64, width, x, x_first, out, at)
+    let x_first = x_of(chain, xs, 0);
+    let x = x_of(chain, xs, chain.count);
+    let last = chain.cells[chain.count] as u64;
+    put_last(last, width, x, x_first, out, at)
 }

@@ -1,11 +1,12 @@
 -- WHAT IS ANSWERED of a placement: the chain's cells one by one, so that its links are those from cell to cell. Assumes nothing.
-use Rattle.std.specs.Prelude.{◌≡◌, Bool, true, false, List, ℕ, ◌+◌, ◌≤◌, ◌<◌, length, get_or}
+use Rattle.std.specs.Prelude.{◌≡◌, Bool, true, false, List, ℕ, ◌+◌, ◌≤◌, ◌<◌, length, get_or, Option, Some, None}
 use Rattle.plan.specs.Plan.{Table, Is}
 use Rattle.rules.specs.Placement.{Placement}
 use Rattle.why_spec.specs.Measures.{across}
 use Rattle.why_spec.specs.Links.{Reason}
 use Rattle.why_spec.specs.Search.{because, no_reason, link, why}
 use Rattle.why_search.specs.Stops.{steps}
+use Rattle.why_search.specs.declared.Chain.{Chain}
 
 -- the reason with these cells
 abbrev pub told : Table → ℕ → Placement → (count : ℕ) → List ℕ → Reason
@@ -21,3 +22,8 @@ pub record Chained (t : Table) (al : ℕ) (p : Placement) (count : ℕ) (cells r
 pub record Explains (t : Table) (al : ℕ) (p : Placement) (found : Bool) (count : ℕ) (cells rules : List ℕ) : Type 0 where
   pub yes : found ≡ true → (why t al (across t) p ≡ because (told t al p count cells)) × Chained t al p count cells rules
   pub no : found ≡ false → why t al (across t) p ≡ no_reason
+
+-- the same of an answer
+abbrev pub Explained : Table → ℕ → Placement → Option Chain → Type 0
+Explained t al p (Some c) = Explains t al p true c.count c.cells c.rules
+Explained t al p None = why t al (across t) p ≡ no_reason

@@ -1,5 +1,5 @@
 -- WHAT THE SEARCH FINDS, of every table and placement whose numbers it reads (for the contracts of functions inside). Assumes nothing.
-use Rattle.std.specs.Prelude.{◌≡◌, ◌⊎◌, List, ℕ, suc, ◌≤◌, ◌<◌, length, get_or, T, eqb, ltb}
+use Rattle.std.specs.Prelude.{◌≡◌, ◌⊎◌, List, ℕ, suc, ◌≤◌, ◌<◌, length, get_or, T, eqb, ltb, Option, Some, None}
 use Rattle.plan.specs.Lists.{from, some, mem}
 use Rattle.plan.specs.Plan.{Table, Is}
 use Rattle.rules.specs.Placement.{Placement}
@@ -8,6 +8,7 @@ use Rattle.why_spec.specs.Measures.{across}
 use Rattle.why_spec.specs.Layers.{New}
 use Rattle.why_spec.specs.Search.{first, tight, tied, leftmost, rightmost, reached, closes, fewest, final}
 use Rattle.why_ties.specs.Ties.{rule_of}
+use Rattle.why_search.specs.declared.search.Way.{Way}
 
 module _ (t : Table) (al : ℕ) (p : Placement) where
   -- the marks after k turns
@@ -34,9 +35,9 @@ pub record Stands (t : Table) (al : ℕ) (p : Placement) (s : Sights) (n low hig
   pub tops : (e : ℕ) → Is t e → eqb (s e).right high ≡ rightmost (across t) p e
 
 -- what the search finds
-pub record Told (t : Table) (al : ℕ) (p : Placement) (n : ℕ) (marks : List ℕ) (count last : ℕ) : Type 0 where
-  pub found : last < n → Closed t al p count last × (count < n) × Marks t al p marks count
-  pub none : n ≤ last → Open t al p n
+abbrev pub Told : Table → ℕ → Placement → (n : ℕ) → Option Way → Type 0
+Told t al p n (Some w) = Closed t al p w.count w.last × (w.count < n) × (w.last < n) × Marks t al p w.marks w.count
+Told t al p n None = Open t al p n
 
 -- what the search has left, where it closed
 pub record Begun (t : Table) (al : ℕ) (p : Placement) (s : Sights) (n : ℕ) (marks : List ℕ) (count last : ℕ) : Type 0 where

@@ -9,7 +9,7 @@ use looking_sights::see;
 use plan::limits::MOST_CELLS;
 use why_ties::rule_of;
 
-// The rule between cell number j and the next.
+// The rule between cell number j and the next; 0 where no link is tight.
 fn rule_at<'a>(
     sights: &'a [u32; SIGHTS],
     cells: &'a [usize; MOST_CELLS],
@@ -25,7 +25,7 @@ fn rule_at<'a>(
     let b = cells[j + 1];
     let v = see(sights, a);
     let w = see(sights, b);
-    rule_of(a, b, v, w, allowance)
+    rule_of(a, b, v, w, allowance).unwrap_or(0)
 }
 
 pub fn rules_of<'a>(
@@ -39,10 +39,8 @@ pub fn rules_of<'a>(
     ensures { Column result count (rule_between (view_in sights.now) allowance cells.now) }
 {
     let mut out = [0u8; MOST_CELLS];
-    let mut j: usize = 0;
-    while j < count {
+    for j in 0..count {
         out[j] = rule_at(sights, cells, n, count, j, allowance);
-        j += 1;
     }
     out
 }

@@ -12,7 +12,7 @@ ghost use Rattle.plan.specs.Near.{Near};
 ghost use Rattle.rules.specs.Placement.{placed};
 ghost use Rattle.rules.specs.Rules.{S1};
 ghost use Rattle.looking_sights.specs.Sights.{«view_in»};
-ghost use Rattle.why_search.specs.Explains.{Explains};
+ghost use Rattle.why_search.specs.Explains.{Explained};
 ghost use Rattle.why_search.specs.Extremes.{Extremes};
 
 use crate::between::rules_of;
@@ -21,7 +21,6 @@ use looking_columns::SIGHTS;
 use looking_sights::{look, see};
 use plan::Columns;
 use plan::limits::MOST_CELLS;
-use whole::numbers::{greater, lesser};
 
 // The least x and the greatest right edge.
 #[derive(Drop)]
@@ -37,53 +36,37 @@ fn span_of(sights: &[u32; SIGHTS], n: usize) -> Span
     let root = see(sights, 0);
     let mut high = root.right;
     let mut low = root.x;
-    let mut c: usize = 1;
-    while c < n {
+    for c in 1..n {
         let v = see(sights, c);
-        high = greater(high, v.right);
-        low = lesser(low, v.x);
-        c += 1;
+        high = high.max(v.right);
+        low = low.min(v.x);
     }
     Span { low, high }
 }
 
-// Whether there is a chain; the number of its links; its cells, one more than the links, from left to right; the rule of each link.
+// The number of links; the cells, one more than the links, from left to right; the rule of each link.
 #[derive(Drop)]
 pub struct Chain {
-    pub found: bool,
     pub count: usize,
     pub cells: [usize; MOST_CELLS],
     pub rules: [u8; MOST_CELLS],
 }
 
-// Of a placement whose rows are those of S1: our sheet's, or one that Check keeps.
-pub fn explain(t: Columns, positions: &[i32], allowance: u32) -> Chain
+// The chain, if there is one, of a placement whose rows are those of S1: our sheet's, or one that Check keeps.
+pub fn explain(t: Columns, positions: &[i32], allowance: u32) -> Option<Chain>
     requires { Fit (table_of t) × Near positions.now t.count × (allowance ≤ most_allowance) × S1 (table_of t) (placed positions.now) }
-    ensures { Explains (table_of t) allowance (placed positions.now) result.found result.count result.cells result.rules }
+    ensures { Explained (table_of t) allowance (placed positions.now) result }
 {
     let n = t.count;
     let mut sights = [0u32; SIGHTS];
     look(t, positions, &mut sights);
     let span = span_of(&sights, n);
-    let way = search(&sights, n, allowance, span.low, span.high);
-    let last = way.last;
-    let count = way.count;
-    let marks = way.marks;
-    if n <= last {
-        let none = [0u8; MOST_CELLS];
-        return Chain {
-            found: false,
-            count,
-            cells: marks,
-            rules: none,
-        };
-    }
-    let cells = trace(&sights, &marks, n, allowance, count, last);
-    let rules = rules_of(&sights, &cells, n, count, allowance);
-    Chain {
-        found: true,
-        count,
+    let way = search(&sights, n, allowance, span.low, span.high)?;
+    let cells = trace(&sights, &way.marks, n, allowance, way.count, way.last);
+    let rules = rules_of(&sights, &cells, n, way.count, allowance);
+    Some(Chain {
+        count: way.count,
         cells,
         rules,
-    }
+    })
 }

@@ -10,7 +10,7 @@ use looking_columns::SIGHTS;
 use plan::limits::MOST_CELLS;
 use why_layers::{ending, first_marks, next_marks, source};
 
-// The marks, the number of links and the last cell; the count of cells for the last cell where no chain closes.
+// The marks, the number of links and the last cell.
 #[derive(Drop)]
 pub struct Way {
     pub marks: [usize; MOST_CELLS],
@@ -19,29 +19,18 @@ pub struct Way {
 }
 
 // A link more each time, until a cell with the greatest right edge is marked.
-pub fn search(sights: &[u32; SIGHTS], n: usize, allowance: u32, low: u32, high: u32) -> Way
+pub fn search(sights: &[u32; SIGHTS], n: usize, allowance: u32, low: u32, high: u32) -> Option<Way>
     requires { Sighted (view_in sights.now) n × (allowance < 2 ^ 31) }
-    ensures { (t : Table) (p : Placement) → Stands t allowance p (view_in sights.now) n low high → Told t allowance p n result.marks result.count result.last }
+    ensures { (t : Table) (p : Placement) → Stands t allowance p (view_in sights.now) n low high → Told t allowance p n result }
 {
     let mut marks = first_marks(sights, n, low);
-    let mut m: usize = 1;
-    while m <= n {
-        let last = ending(sights, &marks, n, m, high);
-        if last < n {
-            return Way {
-                marks,
-                count: m - 1,
-                last,
-            };
+    for count in 0..n {
+        if let Some(last) = ending(sights, &marks, n, count + 1, high) {
+            return Some(Way { marks, count, last });
         }
-        marks = next_marks(sights, &marks, n, m, allowance);
-        m += 1;
+        marks = next_marks(sights, &marks, n, count + 1, allowance);
     }
-    Way {
-        marks,
-        count: n,
-        last: n,
-    }
+    None
 }
 
 // The cells of the chain, from the last back to the first; number j of the result is the cell that j links lead to.
@@ -58,15 +47,12 @@ pub fn trace<'a>(
         → (j : ℕ) → j ≤ count → get_or result j 0 ≡ stop t allowance p count last j }
 {
     let mut out = [0usize; MOST_CELLS];
-    let mut k = count;
     let mut b = last;
-    out[k] = b;
-    while 0 < k {
-        let a = source(sights, marks, n, k, b, allowance);
-        if n <= a {
+    out[count] = b;
+    for k in (0..count).rev() {
+        let Some(a) = source(sights, marks, n, k + 1, b, allowance) else {
             return out;
-        }
-        k -= 1;
+        };
         out[k] = a;
         b = a;
     }

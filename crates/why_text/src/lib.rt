@@ -5,6 +5,7 @@ ghost use Rattle.std.specs.Prelude.{◌≤◌, length};
 ghost use Rattle.plan.specs.Columns.{«table_of»};
 ghost use Rattle.listing.specs.Printed.{lines_joined};
 ghost use Rattle.listing.specs.Put.{Put};
+ghost use Rattle.planfile_spec.specs.Read.{reading};
 ghost use Rattle.printing.specs.Printing.{Taken};
 ghost use Rattle.why_text.specs.Text.{sheet_reason, why_text, reason_size, Reasoned};
 
@@ -12,66 +13,52 @@ use decimals::put_refused;
 use looking_columns::raised;
 use plan::Columns;
 use plan::limits::{MOST_CELLS, SCRATCH_SIZE};
-use planfile_spec::Reading;
-use whole::numbers::wide16to32;
+use planfile_spec::PlanFile;
 use why_lines::{put_end, put_head, put_steps};
-use why_search::explain;
+use why_search::{Chain, explain};
 
 // Bytes of an output that is long enough, whatever the file.
 pub const REASON_SIZE: usize = 32768;
 
-// The lines of a chain, from the positions of the sheet, its width, the chain's cells and its rules.
-fn write_chain<'a>(
+// The lines of a chain, from the positions of the sheet and its width.
+fn write_chain(
     t: Columns,
     allowance: u32,
     width: u32,
     positions: &[i32],
-    count: usize,
-    cells: &'a [usize; MOST_CELLS],
-    rules: &'a [u8; MOST_CELLS],
+    chain: &Chain,
     out: &mut [u8],
 ) -> usize
-    requires { Reasoned t allowance width positions.now count cells.now rules.now × (reason_size ≤ length out.old) }
+    requires { Reasoned t allowance width positions.now chain.now.count chain.now.cells chain.now.rules × (reason_size ≤ length out.old) }
     ensures { Put out.old 0 (lines_joined (sheet_reason (table_of t) allowance)) out.new result × (result ≤ reason_size) }
 {
     let xs = raised(positions, t.count, 0);
-    let last = cells[count];
-    let wide = wide16to32(t.width[last]);
+    let last = chain.cells[chain.count];
+    let wide = u32::from(t.width[last]);
     let a = put_head(
         t.count as u64,
         allowance as u64,
         width as u64,
-        count as u64,
+        chain.count as u64,
         out,
         0,
     );
-    let b = put_steps(cells, rules, &xs, count, out, a);
-    put_end(cells, &xs, count, wide, out, b)
+    let b = put_steps(chain, &xs, out, a);
+    put_end(chain, &xs, wide, out, b)
 }
 
-// The reason of a plan that Read gave: Layout's questions have all been answered.
-fn write_plan(plan: Reading, file: &[u8], out: &mut [u8]) -> usize
-    requires { Taken plan file.now × (reason_size ≤ length out.old) }
+// The reason of a plan that Read gave: Layout's questions have all been answered, and our sheet has a reason.
+fn write_plan(plan: PlanFile, file: &[u8], out: &mut [u8]) -> usize
+    requires { Taken (reading plan) file.now × (reason_size ≤ length out.old) }
     ensures { Put out.old 0 (why_text file.now) out.new result × (result ≤ reason_size) }
 {
-    let columns = plan.columns;
+    let columns = plan.cells.columns;
     let allowance = plan.allowance as u32;
     let mut scratch = [0u32; SCRATCH_SIZE];
     let mut positions = [0i32; 2 * MOST_CELLS];
     let drawn = layout::draw_over_zeros(columns, allowance, &mut scratch, &mut positions);
-    let chain = explain(columns, &positions, allowance);
-    let cells = chain.cells;
-    let rules = chain.rules;
-    write_chain(
-        columns,
-        allowance,
-        drawn.width,
-        &positions,
-        chain.count,
-        &cells,
-        &rules,
-        out,
-    )
+    let chain = explain(columns, &positions, allowance).unwrap();
+    write_chain(columns, allowance, drawn.width, &positions, &chain, out)
 }
 
 // The reason of a plan file, or the line of the refusal, into an output that is long enough: its length.
@@ -79,10 +66,8 @@ pub fn write_reason(file: &[u8], out: &mut [u8]) -> usize
     requires { reason_size ≤ length out.old }
     ensures { Put out.old 0 (why_text file.now) out.new result × (result ≤ reason_size) }
 {
-    let plan = planfile::read(file, MOST_CELLS);
-    let refusal = plan.refusal;
-    if refusal.number != 0 {
-        return put_refused(refusal.number as u64, refusal.cell as u64, out, 0);
+    match planfile::read(file, MOST_CELLS) {
+        Ok(plan) => write_plan(plan, file, out),
+        Err(refusal) => put_refused(refusal.number as u64, refusal.cell as u64, out, 0),
     }
-    write_plan(plan, file, out)
 }

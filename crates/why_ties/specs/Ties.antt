@@ -1,5 +1,5 @@
 -- The links that two cells just keep, as the code tests them, on the numbers of the two cells (crate looking_sights). Assumes nothing.
-use Rattle.std.specs.Prelude.{Bool, cond, ◌&&◌, ◌||◌, ℕ, ◌+◌, ◌^◌, ◌<◌, eqb, leb, ltb}
+use Rattle.std.specs.Prelude.{Bool, cond, ◌&&◌, ◌||◌, ℕ, zero, suc, ◌+◌, ◌^◌, ◌<◌, eqb, leb, ltb, Option, Some, None}
 use Rattle.plan.specs.Limits.{most_cells}
 use Rattle.looking_sights.specs.declared.View.{View}
 
@@ -38,3 +38,8 @@ tie5 al v w = eqb (v.right + 1) (w.x + al) && leb v.end w.first
 unfoldable pub rule_of : ℕ → ℕ → ℕ → View → View → ℕ
 rule_of al a b v w =
     cond (tie2 a b v w) 2 (cond (tie3_ends v w || tie3_starts v w) 3 (cond (tie4_box v w || tie4_stem v w) 4 (cond (tie5 al v w) 5 0)))
+
+-- a rule's number as it is answered: 0 is none
+unfoldable pub named : ℕ → Option ℕ
+named zero = None
+named (suc r) = Some (suc r)

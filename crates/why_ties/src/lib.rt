@@ -3,7 +3,7 @@
 
 ghost use Rattle.std.specs.Prelude.{◌≡◌, ◌^◌, ◌<◌};
 ghost use Rattle.plan.specs.Limits.{most_cells};
-ghost use Rattle.why_ties.specs.Ties.{appoints, tie2, tie3_ends, tie3_starts, tie4_box, tie4_stem, tie5, rule_of, Ready};
+ghost use Rattle.why_ties.specs.Ties.{appoints, tie2, tie3_ends, tie3_starts, tie4_box, tie4_stem, tie5, rule_of, named, Ready};
 
 use looking_sights::View;
 
@@ -105,28 +105,28 @@ fn tied5(v: View, w: View, allowance: u32) -> bool
     v.end <= w.first
 }
 
-// The lowest rule that asks of a and b just the distance that they have; 0 where none does.
-pub fn rule_of(a: usize, b: usize, v: View, w: View, allowance: u32) -> u8
+// The lowest rule that asks of a and b just the distance that they have; none where no rule does.
+pub fn rule_of(a: usize, b: usize, v: View, w: View, allowance: u32) -> Option<u8>
     requires { Ready a b v w allowance }
-    ensures { result ≡ rule_of allowance a b v w }
+    ensures { result ≡ named (rule_of allowance a b v w) }
 {
     if tied2(a, b, v, w) {
-        return 2;
+        return Some(2);
     }
     if tied3_ends(v, w) {
-        return 3;
+        return Some(3);
     }
     if tied3_starts(v, w) {
-        return 3;
+        return Some(3);
     }
     if tied4_box(v, w) {
-        return 4;
+        return Some(4);
     }
     if tied4_stem(v, w) {
-        return 4;
+        return Some(4);
     }
     if tied5(v, w, allowance) {
-        return 5;
+        return Some(5);
     }
-    0
+    None
 }

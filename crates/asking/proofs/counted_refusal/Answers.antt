@@ -1,18 +1,17 @@
-use mathlib.Core.Path.{sym, ap, ◌∙◌}
-use Rattle.plan.specs.Questions.{asked}
-use Rattle.plan.proofs.Laws.Questions.{stops, goes_on}
+use mathlib.Core.Path.{refl, sym, ap, ◌∙◌}
+use native.Mathlib.Omega.{arith}
+use Rattle.plan.specs.Questions.{passed}
+use Rattle.plan.proofs.Laws.Answered.{err_stops, ok_goes_on, passes}
 use Rattle.plan.proofs.Laws.Steps.{counted-columns, counted-read}
 use Rattle.asking.proofs.counted_refusal.Goals as goal
 
-pub returns-then-few-ne0 : goal.returns-then-few-ne0
-returns-then-few-ne0 c =
-    let a = c.args in
-    λ qs. stops _ _ _ (c.asked-few.ensures ∙ ap (λ x. asked 4 x 0) c.counted.ensures) c.if-few-ne0.true ∙ sym (counted-columns a.parents.now a.kinds.now a.widths.now a.depths.now qs a.n)
+pub returns-in_err-asked : goal.returns-in_err-asked
+returns-in_err-asked c =
+    err_stops _ _ _ _ (rw c.counted.ensures at c.in_err-asked.ensures.numbered (omega arith)) c.from_residual.ensures.1 _ ∙ ap passed (sym (counted-columns _ _ _ _ _ _))
 
 pub table_refusal-requires : goal.table_refusal-requires
-table_refusal-requires c = counted-read _ _ (c.asked-few.ensures ∙ ap (λ x. asked 4 x 0) c.counted.ensures) c.if-few-ne0.false
+table_refusal-requires c = counted-read _ _ refl (passes _ _ (rw c.counted.ensures at c.in_ok-asked.ensures.numbered (omega arith)))
 
 pub returns : goal.returns
 returns c =
-    let a = c.args in
-    λ qs. goes_on _ _ _ _ (c.asked-few.ensures ∙ ap (λ x. asked 4 x 0) c.counted.ensures) c.if-few-ne0.false (c.table_refusal.ensures qs) ∙ sym (counted-columns a.parents.now a.kinds.now a.widths.now a.depths.now qs a.n)
+    ok_goes_on _ _ (rw c.counted.ensures at c.in_ok-asked.ensures.numbered (omega arith)) _ _ _ c.table_refusal.ensures ∙ ap passed (sym (counted-columns _ _ _ _ _ _))

@@ -1,21 +1,28 @@
-use mathlib.Core.Path.{sym, ap, ◌∙◌}
+use mathlib.Core.Path.{refl, sym, ap, ◌∙◌}
 use native.Mathlib.Omega.{arith}
-use Rattle.plan.specs.Questions.{asked}
-use Rattle.plan.proofs.Laws.Questions.{stops, goes_on}
+use Rattle.plan.specs.Questions.{passed}
+use Rattle.plan.proofs.Laws.Answered.{err_stops, ok_goes_on, passes}
 use Rattle.plan.proofs.Laws.Steps.{lent_columns, counted-read}
 use Rattle.asking.proofs.lent_refusal.Goals as goal
 
-pub returns-then-few-ne0 : goal.returns-then-few-ne0
-returns-then-few-ne0 c = λ qs. stops _ _ _ (c.asked-few.ensures ∙ ap (λ x. asked 4 x 0) c.counted.ensures) c.if-few-ne0.true ∙ sym (lent_columns c.args.parents.now c.args.kinds.now c.args.widths.now c.args.depths.now qs c.args.n c.args.positions)
+pub returns-in_err-asked : goal.returns-in_err-asked
+returns-in_err-asked c =
+    err_stops _ _ _ _ (rw c.counted.ensures at c.in_err-asked.ensures.numbered (omega arith)) c.from_residual.ensures.1 _ ∙ ap passed (sym (lent_columns _ _ _ _ _ _ _))
 
-pub overflow_mul-n : goal.overflow_mul-n
-overflow_mul-n c = omega (arith, counted-read c.args.n c.asked-few.result (c.asked-few.ensures ∙ ap (λ x. asked 4 x 0) c.counted.ensures) c.if-few-ne0.false)
+pub overflow_mul-t : goal.overflow_mul-t
+overflow_mul-t c = omega (arith, counted-read c.args.t.now.count _ refl (passes _ _ (rw c.counted.ensures at c.in_ok-asked.ensures.numbered (omega arith))))
 
-pub returns-then-long-ne0 : goal.returns-then-long-ne0
-returns-then-long-ne0 c = λ qs. goes_on _ _ _ _ (c.asked-few.ensures ∙ ap (λ x. asked 4 x 0) c.counted.ensures) c.if-few-ne0.false (stops _ _ _ c.asked-long.ensures c.if-long-ne0.true) ∙ sym (lent_columns c.args.parents.now c.args.kinds.now c.args.widths.now c.args.depths.now qs c.args.n c.args.positions)
+pub returns-in_err-asked-2 : goal.returns-in_err-asked-2
+returns-in_err-asked-2 c =
+    ok_goes_on _ _ (rw c.counted.ensures at c.in_ok-asked.ensures.numbered (omega arith)) _ _ _
+    (err_stops _ _ _ _ (c.in_err-asked-2.ensures.numbered (omega arith)) c.from_residual-in_err-asked-2.ensures.1 _)
+    ∙ ap passed (sym (lent_columns _ _ _ _ _ _ _))
 
 pub table_refusal-requires : goal.table_refusal-requires
-table_refusal-requires c = counted-read _ _ (c.asked-few.ensures ∙ ap (λ x. asked 4 x 0) c.counted.ensures) c.if-few-ne0.false
+table_refusal-requires c = counted-read _ _ refl (passes _ _ (rw c.counted.ensures at c.in_ok-asked.ensures.numbered (omega arith)))
 
 pub returns : goal.returns
-returns c = λ qs. goes_on _ _ _ _ (c.asked-few.ensures ∙ ap (λ x. asked 4 x 0) c.counted.ensures) c.if-few-ne0.false (goes_on _ _ _ _ c.asked-long.ensures c.if-long-ne0.false (c.table_refusal.ensures qs)) ∙ sym (lent_columns c.args.parents.now c.args.kinds.now c.args.widths.now c.args.depths.now qs c.args.n c.args.positions)
+returns c =
+    ok_goes_on _ _ (rw c.counted.ensures at c.in_ok-asked.ensures.numbered (omega arith)) _ _ _
+    (ok_goes_on _ _ (c.in_ok-asked-2.ensures.numbered (omega arith)) _ _ _ c.table_refusal.ensures)
+    ∙ ap passed (sym (lent_columns _ _ _ _ _ _ _))

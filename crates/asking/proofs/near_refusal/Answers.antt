@@ -1,29 +1,15 @@
-use mathlib.Core.Path.{ap, ◌∙◌}
 use native.Mathlib.Omega.{arith}
-use Rattle.plan.specs.Questions.{asked}
-use Rattle.plan.proofs.Laws.Questions.{loop_starts, loop_stops, loop_goes_on, loop_ends}
 use Rattle.plan.specs.Steps.{near_refusal}
+use Rattle.plan.proofs.Laws.Answered.{each_err, each_ok, all_ok}
 use Rattle.asking.proofs.near_refusal.Goals as goal
 
-pub loop-c-init : goal.loop-c-init
-loop-c-init c = (omega arith, loop_starts _ _)
-
-pub both_near-requires : goal.both_near-requires
-both_near-requires c = omega arith
-
-pub returns-then-r-ne0 : goal.returns-then-r-ne0
+pub returns-in_err-asked : goal.returns-in_err-asked
 unfolding near_refusal
-returns-then-r-ne0 c = loop_stops _ _ _ c.loop-c.invariant.1 c.loop-c-test.true _ (c.asked-r.ensures ∙ ap (λ x. asked 15 x c.loop-c.c) c.both_near.ensures) c.if-r-ne0.true
-
-pub overflow_add-c : goal.overflow_add-c
-overflow_add-c c = omega arith
-
-pub loop-c-smaller : goal.loop-c-smaller
-loop-c-smaller c = omega arith
+returns-in_err-asked c = each_err _ _ _ c.loop-c.invariant _ _ c.loop-c-test.true (rw c.both_near.ensures at c.in_err-asked.ensures.numbered (omega arith)) c.from_residual.ensures.1
 
 pub loop-c-preserved : goal.loop-c-preserved
-loop-c-preserved c = (omega arith, loop_goes_on _ _ _ c.loop-c.invariant.1 c.loop-c-test.true _ (c.asked-r.ensures ∙ ap (λ x. asked 15 x c.loop-c.c) c.both_near.ensures) c.if-r-ne0.false)
+loop-c-preserved c = each_ok _ _ _ c.loop-c.invariant _ c.loop-c-test.true (rw c.both_near.ensures at c.in_ok-asked.ensures.numbered (omega arith))
 
 pub returns : goal.returns
 unfolding near_refusal
-returns c = loop_ends _ _ _ c.loop-c.invariant.1 c.loop-c-test.false
+returns c = all_ok _ _ _ c.loop-c.invariant (omega (arith, c.loop-c-test.false))

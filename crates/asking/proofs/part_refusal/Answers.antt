@@ -1,14 +1,14 @@
-use mathlib.Core.Path.{ap, ◌∙◌}
-use Rattle.plan.specs.Questions.{asked}
-use Rattle.plan.proofs.Laws.Questions.{stops, goes_on}
+use mathlib.Core.Path.{refl}
+use native.Mathlib.Omega.{arith}
+use Rattle.plan.proofs.Laws.Answered.{err_stops, ok_goes_on, passes}
 use Rattle.plan.proofs.Laws.Steps.{counted-read}
 use Rattle.asking.proofs.part_refusal.Goals as goal
 
-pub returns-then-few-ne0 : goal.returns-then-few-ne0
-returns-then-few-ne0 c = λ qs. stops _ _ _ (c.asked-few.ensures ∙ ap (λ x. asked 4 x 0) c.counted.ensures) c.if-few-ne0.true
+pub returns-in_err-asked : goal.returns-in_err-asked
+returns-in_err-asked c = err_stops _ _ _ _ (rw c.counted.ensures at c.in_err-asked.ensures.numbered (omega arith)) c.from_residual.ensures.1 _
 
 pub cells_refusal-requires : goal.cells_refusal-requires
-cells_refusal-requires c = (counted-read _ _ (c.asked-few.ensures ∙ ap (λ x. asked 4 x 0) c.counted.ensures) c.if-few-ne0.false).1
+cells_refusal-requires c = (counted-read _ _ refl (passes _ _ (rw c.counted.ensures at c.in_ok-asked.ensures.numbered (omega arith)))).1
 
 pub returns : goal.returns
-returns c = λ qs. goes_on _ _ _ _ (c.asked-few.ensures ∙ ap (λ x. asked 4 x 0) c.counted.ensures) c.if-few-ne0.false (c.cells_refusal.ensures qs)
+returns c = ok_goes_on _ _ (rw c.counted.ensures at c.in_ok-asked.ensures.numbered (omega arith)) _ _ _ c.cells_refusal.ensures

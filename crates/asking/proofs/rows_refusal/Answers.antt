@@ -1,35 +1,15 @@
-use mathlib.Core.Path.{ap, ◌∙◌}
 use native.Mathlib.Omega.{arith}
-use Rattle.plan.specs.Questions.{asked}
-use Rattle.plan.proofs.Laws.Questions.{loop_starts, loop_stops, loop_goes_on, loop_ends}
+use Rattle.plan.proofs.Laws.Answered.{each_err, each_ok, all_ok}
 use Rattle.asking.proofs.rows_refusal.Goals as goal
 
-pub loop-c-init : goal.loop-c-init
-loop-c-init c = (omega arith, loop_starts _ _)
+pub returns-in_err-asked : goal.returns-in_err-asked
+returns-in_err-asked c = each_err _ _ _ c.loop-c.invariant _ _ c.loop-c-test.true (rw (c.at_most.ensures, c.box_bottom.ensures) at c.in_err-asked.ensures.numbered (omega arith)) c.from_residual.ensures.1
 
-pub offset_bounds-rows-c : goal.offset_bounds-rows-c
-offset_bounds-rows-c c = omega arith
+pub loop-c-preserved : goal.loop-c-preserved
+loop-c-preserved c = each_ok _ _ _ c.loop-c.invariant _ c.loop-c-test.true (rw (c.at_most.ensures, c.box_bottom.ensures) at c.in_ok-asked.ensures.numbered (omega arith))
 
-pub bounds-rows-c : goal.bounds-rows-c
-bounds-rows-c c = omega arith
-
-pub bounds-depths-c : goal.bounds-depths-c
-bounds-depths-c c = omega arith
+pub returns : goal.returns
+returns c = all_ok _ _ _ c.loop-c.invariant (omega (arith, c.loop-c-test.false))
 
 pub box_bottom-requires : goal.box_bottom-requires
 box_bottom-requires c = c.requires.1.short _ c.loop-c-test.true
-
-pub returns-then-r-ne0 : goal.returns-then-r-ne0
-returns-then-r-ne0 c = loop_stops _ _ _ c.loop-c.invariant.1 c.loop-c-test.true _ (c.asked-r.ensures ∙ ap (λ b. asked 13 b c.loop-c.c) (c.at_most.ensures ∙ rw c.box_bottom.ensures)) c.if-r-ne0.true
-
-pub overflow_add-c : goal.overflow_add-c
-overflow_add-c c = omega arith
-
-pub loop-c-smaller : goal.loop-c-smaller
-loop-c-smaller c = omega arith
-
-pub loop-c-preserved : goal.loop-c-preserved
-loop-c-preserved c = (omega arith, loop_goes_on _ _ _ c.loop-c.invariant.1 c.loop-c-test.true _ (c.asked-r.ensures ∙ ap (λ b. asked 13 b c.loop-c.c) (c.at_most.ensures ∙ rw c.box_bottom.ensures)) c.if-r-ne0.false)
-
-pub returns : goal.returns
-returns c = loop_ends _ _ _ c.loop-c.invariant.1 c.loop-c-test.false

@@ -1,32 +1,32 @@
-use mathlib.Core.Path.{sym, ◌∙◌}
-use mathlib.Core.List.{[]}
+use mathlib.Core.Path.{sym, ap, ◌∙◌}
+use Rattle.plan.specs.Questions.{passed}
 use Rattle.plan.specs.Steps.{tree_refusal}
-use Rattle.plan.proofs.Laws.Questions.{stops, goes_on}
+use Rattle.plan.proofs.Laws.Answered.{err_stops, ok_goes_on}
 use Rattle.plan.proofs.Laws.Steps.{rows_short, children-columns, levels_columns, rows-columns}
 use Rattle.asking.proofs.tree_refusal.Goals as goal
 
-pub returns-then-at_children-ne0 : goal.returns-then-at_children-ne0
+pub returns-in_err-children_refusal : goal.returns-in_err-children_refusal
 unfolding tree_refusal
-returns-then-at_children-ne0 c =
-    let g = c.args in
-    λ ws qs. stops _ _ _ (c.children_refusal-at_children.ensures ∙ sym (children-columns g.parents.now g.kinds.now ws g.depths.now qs g.n _ (c.survey.ensures _ ws qs).0)) c.if-at_children-ne0.true
+returns-in_err-children_refusal c =
+    let t = c.args.t.now in
+    err_stops _ _ _ _ (c.in_err-children_refusal.ensures ∙ ap passed (sym (children-columns t.parent t.kind t.width t.depth t.rank t.count _ c.survey-found.ensures.0))) c.from_residual.ensures.1 _
 
-pub returns-then-at_levels-ne0 : goal.returns-then-at_levels-ne0
+pub returns-in_err-levels_refusal : goal.returns-in_err-levels_refusal
 unfolding tree_refusal
-returns-then-at_levels-ne0 c =
-    let g = c.args in
-    λ ws qs. goes_on _ _ _ _ (c.children_refusal-at_children.ensures ∙ sym (children-columns g.parents.now g.kinds.now ws g.depths.now qs g.n _ (c.survey.ensures _ ws qs).0)) c.if-at_children-ne0.false
-    (stops _ _ _ (c.levels_refusal-at_levels.ensures ∙ sym (levels_columns g.parents.now g.kinds.now ws g.depths.now qs g.n _ (c.survey.ensures _ ws qs).1)) c.if-at_levels-ne0.true)
+returns-in_err-levels_refusal c =
+    let t = c.args.t.now in
+    ok_goes_on _ _ (c.in_ok-children_refusal.ensures ∙ ap passed (sym (children-columns t.parent t.kind t.width t.depth t.rank t.count _ c.survey-found.ensures.0))) _ _ _
+    (err_stops _ _ _ _ (c.in_err-levels_refusal.ensures ∙ ap passed (sym (levels_columns t.parent t.kind t.width t.depth t.rank t.count _ c.survey-found.ensures.1))) c.from_residual-in_err-levels_refusal.ensures.1 _)
 
 pub returns : goal.returns
 unfolding tree_refusal
 returns c =
-    let g = c.args in
-    λ ws qs. goes_on _ _ _ _ (c.children_refusal-at_children.ensures ∙ sym (children-columns g.parents.now g.kinds.now ws g.depths.now qs g.n _ (c.survey.ensures _ ws qs).0)) c.if-at_children-ne0.false
-    (goes_on _ _ _ _ (c.levels_refusal-at_levels.ensures ∙ sym (levels_columns g.parents.now g.kinds.now ws g.depths.now qs g.n _ (c.survey.ensures _ ws qs).1)) c.if-at_levels-ne0.false
-    (c.rows_refusal.ensures ∙ sym (rows-columns g.parents.now g.kinds.now ws g.depths.now qs g.n _ (c.survey.ensures _ ws qs).2)))
+    let t = c.args.t.now in
+    ok_goes_on _ _ (c.in_ok-children_refusal.ensures ∙ ap passed (sym (children-columns t.parent t.kind t.width t.depth t.rank t.count _ c.survey-found.ensures.0))) _ _ _
+    (ok_goes_on _ _ (c.in_ok-levels_refusal.ensures ∙ ap passed (sym (levels_columns t.parent t.kind t.width t.depth t.rank t.count _ c.survey-found.ensures.1))) _ _ _
+    (c.rows_refusal.ensures ∙ ap passed (sym (rows-columns t.parent t.kind t.width t.depth t.rank t.count _ c.survey-found.ensures.2))))
 
 pub rows_refusal-requires : goal.rows_refusal-requires
 rows_refusal-requires c =
-    let g = c.args in
-    (c.requires.lower.few, rows_short g.parents.now g.kinds.now [] g.depths.now [] _ _ c.requires.lower c.requires.flat (c.survey.ensures _ _ _).2)
+    let t = c.args.t.now in
+    (c.requires.lower.few, rows_short t.parent t.kind t.width t.depth t.rank _ _ c.requires.lower c.requires.flat c.survey-found.ensures.2)

@@ -3,4 +3,4 @@ use Rattle.answers.specs.Answers.{report_answer}
 use Rattle.capi.proofs.kuzpalen_pool.Goals as goal
 
 pub returns : goal.returns
-returns c = c.told_report.ensures ∙ ap report_answer c.pool-answer.ensures
+returns c = c.into.ensures ∙ ap report_answer c.pool.ensures

@@ -1,4 +1,4 @@
 use Rattle.capi.proofs.kuzpalen_read.Goals as goal
 
 pub returns : goal.returns
-returns c = record { read = c.read-answer.result; reads = c.read-answer.ensures; answers = c.told_read.ensures }
+returns c = record { read = c.read.result; reads = c.read.ensures; answers = c.into.ensures }

@@ -1,4 +1,4 @@
 use Rattle.capi.proofs.kuzpalen_start.Goals as goal
 
 pub returns : goal.returns
-returns c = record { started = c.start-answer.result; starts = c.start-answer.ensures; answers = c.told_start.ensures }
+returns c = record { started = c.start.result; starts = c.start.ensures; answers = c.into.ensures }

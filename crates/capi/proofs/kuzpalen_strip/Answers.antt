@@ -1,4 +1,4 @@
 use Rattle.capi.proofs.kuzpalen_strip.Goals as goal
 
 pub returns : goal.returns
-returns c = record { refused = c.strip-answer.result; strips = c.strip-answer.ensures; answers = c.told_strip.ensures }
+returns c = record { refused = c.strip.result; strips = c.strip.ensures; answers = c.into.ensures }

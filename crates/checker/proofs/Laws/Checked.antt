@@ -15,12 +15,13 @@ use Rattle.plan.proofs.Laws.Questions.{asked_yes, both-none}
 use Rattle.plan.proofs.Laws.Calls.{check-refusal}
 use Rattle.plan.proofs.Laws.Fit.{lent_fit}
 use Rattle.plan.specs.declared.Refusal.{Refusal}
+use Rattle.plan.specs.declared.Breach.{Breach}
 use Rattle.rules.specs.Placement.{Placement, right, bottom, width, rows, placed}
 use Rattle.rules.specs.Search.{kept, broken}
 use Rattle.rules.specs.Verdict.{verdict, answer}
 use Rattle.rules.proofs.Laws.Verdict.{kept_keeps, fine-answer}
 use Rattle.rules.proofs.Laws.Extents.{width_le, width_ge, rows-plan}
-use Rattle.checker.specs.declared.Checked.TheVariants.{Kept, Broken}
+use Rattle.checker.specs.declared.Verdict.TheVariants.{Kept, Broken}
 use Rattle.looking_sights.specs.Sights.{Sights}
 use Rattle.checker.specs.Checked.{answered}
 use Rattle.looking_sights.specs.Sees.{Lifts, Looked}
@@ -71,15 +72,15 @@ module _ (t : Table) (p : Placement) (s : Sights) (sound : Sound t) (some : 1 �
   bounds few = record { some = some; few = few; each = λ c i. rw (l.agree.same c i) (omega (arith, l.sees.rights c i)) }
 
   module _ (al : ℕ) where
-    pub answered-kept : (w : ℕ) → verdict t p al ≡ kept → Spread s (length t) w → Kept w ((s 0).bottom - (s 0).y + 1) ≡ answered (answer t p al)
+    pub answered-kept : (w : ℕ) → verdict t p al ≡ kept → Spread s (length t) w → Kept (record { width = w; rows = (s 0).bottom - (s 0).y + 1 }) ≡ answered (answer t p al)
     unfolding answered
     answered-kept w e h =
         rw (fine-answer t p al e)
         (rw (width_is w h, rows_is (kept_keeps t p al some e).s1.root_y) refl)
 
-pub answered-broken : (t : Table) (p : Placement) (al : ℕ) {r a b : ℕ} → verdict t p al ≡ broken r a b → Broken r a b ≡ answered (answer t p al)
+pub answered-broken : (t : Table) (p : Placement) (al : ℕ) (b : Breach) → verdict t p al ≡ broken b.rule b.a b.b → Broken b ≡ answered (answer t p al)
 unfolding answered answer
-answered-broken t p al e = rw (e, answer)
+answered-broken t p al b e = rw (e, answer)
 
 -- ---- width and rows of a kept sheet are not negative, and small
 module _ (t : Table) (al : ℕ) (ps : List ℤ) (h : Accepted t al ps) where

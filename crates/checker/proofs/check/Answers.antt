@@ -1,16 +1,17 @@
-use Rattle.checker.proofs.Judging.{accepted, unless-refused, unless-none}
+use mathlib.Core.Path.{◌∙◌, ap}
+use Rattle.std.specs.Prelude.{Ok}
+use Rattle.plan.proofs.Laws.Answered.{answers_err, answers_ok, passes}
 use Rattle.checker.specs.Checked.{checked_of}
-use Rattle.plan.specs.declared.Refusal.{Refusal}
-use mathlib.Core.Path.{◌∙◌, sym, ap}
+use Rattle.checker.proofs.Judging.{accepted}
 use Rattle.checker.proofs.check.Goals as goal
 
-pub returns-then-no-ne0 : goal.returns-then-no-ne0
+pub returns-in_err-refuse : goal.returns-in_err-refuse
 unfolding checked_of
-returns-then-no-ne0 c = unless-refused _ _ _ c.refuse-no.ensures c.if-no-ne0.true
+returns-in_err-refuse c = answers_err _ _ _ _ c.in_err-refuse.ensures c.from_residual.ensures.1
 
 pub judge-requires : goal.judge-requires
-judge-requires c = accepted c.args.t c.args.allowance c.args.positions.now (ap (λ (x : Refusal). x.number) (sym c.refuse-no.ensures) ∙ c.if-no-ne0.false)
+judge-requires c = accepted c.args.t c.args.allowance c.args.positions.now (passes _ _ c.in_ok-refuse.ensures)
 
 pub returns : goal.returns
 unfolding checked_of
-returns c = c.judge.ensures ∙ unless-none _ _ _ c.refuse-no.ensures c.if-no-ne0.false
+returns c = ap Ok c.judge.ensures ∙ answers_ok _ _ c.in_ok-refuse.ensures _

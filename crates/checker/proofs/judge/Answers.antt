@@ -5,11 +5,11 @@ use Rattle.checker.proofs.Judging.{broken-answer, kept-answer, bounds, rows_fit}
 use native.Mathlib.Omega.{arith}
 use Rattle.checker.proofs.judge.Goals as goal
 
-pub find-found-requires : goal.find-found-requires
-find-found-requires c = (record { table = table_of c.args.t; placement = placed c.args.positions.now; fit = c.requires.0; count = length-is c.args.t; looked = c.look.ensures.0 }, c.look.ensures.1, omega (arith, c.requires.2))
+pub find-requires : goal.find-requires
+find-requires c = (record { table = table_of c.args.t; placement = placed c.args.positions.now; fit = c.requires.0; count = length-is c.args.t; looked = c.look.ensures.0 }, c.look.ensures.1, omega (arith, c.requires.2))
 
-pub returns-in-Broken : goal.returns-in-Broken
-returns-in-Broken c = broken-answer c.args.t c.requires.0 c.args.positions.now c.args.allowance _ c.look.ensures.0 _ c.find-found.ensures c.in-Broken.is
+pub returns-in-Err : goal.returns-in-Err
+returns-in-Err c = broken-answer c.args.t c.requires.0 c.args.positions.now c.args.allowance _ c.look.ensures.0 _ _ c.find.ensures c.in-Err.is
 
 pub width_of-width-requires : goal.width_of-width-requires
 width_of-width-requires c = bounds c.args.t c.requires.0 c.args.positions.now c.args.allowance _ c.look.ensures.0
@@ -21,4 +21,4 @@ pub overflow_add-result : goal.overflow_add-result
 overflow_add-result c = let (l, h) = rows_fit c.args.t c.requires.0 c.args.positions.now c.args.allowance _ c.look.ensures.0 c.look.ensures.1 _ c.see-root.ensures in omega arith
 
 pub returns : goal.returns
-returns c = kept-answer c.args.t c.requires.0 c.args.positions.now c.args.allowance _ c.look.ensures.0 _ _ _ c.find-found.ensures c.in_default.is c.width_of-width.ensures c.see-root.ensures
+returns c = kept-answer c.args.t c.requires.0 c.args.positions.now c.args.allowance _ c.look.ensures.0 _ tt _ _ c.find.ensures c.in_default.is c.width_of-width.ensures c.see-root.ensures

@@ -1,22 +1,32 @@
-use Rattle.plan.proofs.Laws.Tables.{length-is, count_few}
-use Rattle.plan.specs.Steps.{near_refusal}
-use Rattle.plan.proofs.Laws.Fit.{lent_fit}
-use Rattle.plan.proofs.Laws.Calls.{check-refusal}
-use Rattle.plan.proofs.Laws.Questions.{stops, goes_on}
-use Rattle.plan.specs.Columns.{table_of}
-use Rattle.plan.specs.declared.Refusal.{Refusal}
-use native.Mathlib.Omega.{arith}
 use mathlib.Core.Path.{◌∙◌, sym, ap}
+use native.Mathlib.Omega.{arith}
+use Rattle.plan.specs.Columns.{table_of}
+use Rattle.plan.specs.Questions.{passed}
+use Rattle.plan.specs.Steps.{near_refusal}
+use Rattle.plan.proofs.Laws.Answered.{err_stops, ok_goes_on, passes}
+use Rattle.plan.proofs.Laws.Calls.{check-refusal}
+use Rattle.plan.proofs.Laws.Fit.{lent_fit}
+use Rattle.plan.proofs.Laws.Tables.{length-is, count_few}
 use Rattle.checker.proofs.refuse.Goals as goal
 
-pub returns-then-lent-ne0 : goal.returns-then-lent-ne0
-returns-then-lent-ne0 c = stops _ _ _ (c.lent_refusal-lent.ensures _) c.if-lent-ne0.true ∙ sym (check-refusal (table_of c.args.t) c.args.allowance c.args.positions.now)
+pub returns-in_err-lent_refusal : goal.returns-in_err-lent_refusal
+returns-in_err-lent_refusal c =
+    err_stops _ _ _ _ c.in_err-lent_refusal.ensures c.from_residual.ensures.1 _ ∙ ap passed (sym (check-refusal (table_of c.args.t.now) c.args.allowance c.args.positions.now))
 
-pub returns-then-small-ne0 : goal.returns-then-small-ne0
-returns-then-small-ne0 c = goes_on _ _ _ _ (c.lent_refusal-lent.ensures _) c.if-lent-ne0.false (stops _ _ _ c.allowance_refusal-small.ensures c.if-small-ne0.true) ∙ sym (check-refusal (table_of c.args.t) c.args.allowance c.args.positions.now)
+pub returns-in_err-allowance_refusal : goal.returns-in_err-allowance_refusal
+returns-in_err-allowance_refusal c =
+    ok_goes_on _ _ c.in_ok-lent_refusal.ensures _ _ _
+    (err_stops _ _ _ _ c.in_err-allowance_refusal.ensures c.from_residual-in_err-allowance_refusal.ensures.1 _)
+    ∙ ap passed (sym (check-refusal (table_of c.args.t.now) c.args.allowance c.args.positions.now))
 
 pub near_refusal-requires : goal.near_refusal-requires
-near_refusal-requires c = let h = (lent_fit _ _ (ap (λ (x : Refusal). x.number) (sym (c.lent_refusal-lent.ensures _)) ∙ c.if-lent-ne0.false)) in (count_few c.args.t h.fit, omega (arith, h.room, length-is c.args.t))
+near_refusal-requires c =
+    let h = lent_fit _ _ (passes _ _ c.in_ok-lent_refusal.ensures) in
+    (count_few c.args.t.now h.fit, omega (arith, h.room, length-is c.args.t.now))
 
 pub returns : goal.returns
-returns c = goes_on _ _ _ _ (c.lent_refusal-lent.ensures _) c.if-lent-ne0.false (goes_on _ _ _ _ c.allowance_refusal-small.ensures c.if-small-ne0.false (c.near_refusal.ensures ∙ ap (near_refusal _) (sym (length-is c.args.t)))) ∙ sym (check-refusal (table_of c.args.t) c.args.allowance c.args.positions.now)
+returns c =
+    ok_goes_on _ _ c.in_ok-lent_refusal.ensures _ _ _
+    (ok_goes_on _ _ c.in_ok-allowance_refusal.ensures _ _ _
+    (c.near_refusal.ensures ∙ ap (λ n. passed (near_refusal c.args.positions.now n)) (sym (length-is c.args.t.now))))
+    ∙ ap passed (sym (check-refusal (table_of c.args.t.now) c.args.allowance c.args.positions.now))

@@ -6,7 +6,7 @@ pub loop-c-init : goal.loop-c-init
 loop-c-init c = widening_starts _ _ c.requires _ c.see-root.ensures
 
 pub loop-c-preserved : goal.loop-c-preserved
-loop-c-preserved c = widening_turns _ _ c.requires c.loop-c.invariant c.loop-c-test.true _ c.see-v.ensures c.greater-high.ensures c.lesser-low.ensures
+loop-c-preserved c = widening_turns _ _ c.requires c.loop-c.invariant c.loop-c-test.true _ c.see-v.ensures c.max-high.ensures c.min-low.ensures
 
 pub overflow_sub-result : goal.overflow_sub-result
 overflow_sub-result c = let h = low_high _ _ c.requires c.loop-c.invariant in omega arith

@@ -1,10 +1,6 @@
 use Rattle.checker.proofs.Widening.{Widening}
 use Rattle.looking_sights.specs.Sights.{view_in}
-use Prim.Native.Nat.{◌-◌}
 use Rattle.checker.proofs.width_of.Given as goal
 
 abbrev pub invariant-loop-c : goal.invariant-loop-c
 invariant-loop-c l = Widening (view_in l.sights) l.n l.c l.high l.low
-
-abbrev pub decreases-loop-c : goal.decreases-loop-c
-decreases-loop-c l = l.n - l.c

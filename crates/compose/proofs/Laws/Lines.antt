@@ -1,5 +1,5 @@
 -- A whole line, and the lines of a text, as the code reads them. Assumes nothing.
-use Rattle.std.specs.Prelude.{◌≡◌, List, [], ◌∷◌, Bool, true, false, cond, ℕ, suc, ◌+◌, ◌≤◌, ◌<◌, eqb, length, get_or, take, drop}
+use Rattle.std.specs.Prelude.{◌≡◌, List, [], ◌∷◌, Bool, true, false, cond, ℕ, suc, ◌+◌, ◌-◌, ◌≤◌, ◌<◌, eqb, length, get_or, take, drop}
 use Rattle.std.proofs.Math.Path.{refl, sym}
 use Rattle.std.proofs.Common.{ap, ◌∙◌, arith, eq-eqb, ne_eqb, lt-ltb, le-ltb}
 use Rattle.std.proofs.Math.Decide.{dec_lt}
@@ -23,6 +23,10 @@ module _ (text : Bytes) (at i : ℕ) (e : at + line_long (drop at text) ≡ i + 
   pub end_last : length text ≤ i → i ≡ at + line_long (drop at text)
   unfolding line_long
   end_last h = sym (e ∙ (let n : line_long (drop i text) ≡ 0 = rw (past_end text i h) refl in omega (arith, n)))
+
+-- the line as a slice
+pub line-here : (text : Bytes) (at end : ℕ) → end ≡ at + line_long (drop at text) → take (end - at) (drop at text) ≡ take (line_long (drop at text)) (drop at text)
+line-here text at end e = let q : end - at ≡ line_long (drop at text) = omega arith in ap (λ n. take n (drop at text)) q
 
 -- the first line of a text that is not empty, and the others
 pub lines_cons : (b : ℕ) (t : Bytes) → lines (b ∷ t) ≡ take (line_long (b ∷ t)) (b ∷ t) ∷ lines (drop (line_long (b ∷ t)) t)

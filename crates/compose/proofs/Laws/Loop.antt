@@ -8,7 +8,9 @@ use Rattle.plan.specs.Limits.{most_cells}
 use Rattle.plan.specs.declared.Record.{Record}
 use Rattle.listing.specs.Printed.{Bytes}
 use Rattle.content.specs.Content.{Item, text_of}
-use Rattle.outline_spec.specs.Understood.{Fault, many_cells, cell, wrong, Cells, faulty, items, line, lines, with_cell, cells}
+use Rattle.outline_spec.specs.Understood.{cell, wrong, Cells, faulty, items, line, lines, with_cell, cells}
+use Rattle.outline_spec.specs.declared.Fault.{Fault}
+use Rattle.outline_spec.specs.declared.Fault.TheVariants.{ManyCells}
 use Rattle.compose.specs.Steps.{line_long}
 use Rattle.compose.specs.Prefixed.{prefixed}
 use Rattle.compose_fields.proofs.Laws.Parts.{from_place, past_end}
@@ -32,7 +34,7 @@ prefixed-all (j ∷ is) js = ap (with_cell j) (prefixed-all is js)
 
 -- ---- the next line
 module _ (c : ℕ) (seen : List ℕ) (b : Bytes) (bs : List Bytes) where
-  pub cells_many : most_cells ≤ c → cells c seen (b ∷ bs) ≡ faulty (c + 2) many_cells
+  pub cells_many : most_cells ≤ c → cells c seen (b ∷ bs) ≡ faulty (c + 2) ManyCells
   unfolding cells
   cells_many h = rw (le-ltb c most_cells h, cells) refl
 

@@ -1,7 +1,7 @@
 -- One line more: what is still to be read stays the same. Assumes nothing.
-use Rattle.std.specs.Prelude.{◌≡◌, ℕ, zero, suc, ◌+◌, ◌-◌, ◌≤◌, ◌<◌, length, get_or, take, drop, set}
+use Rattle.std.specs.Prelude.{◌≡◌, ℕ, zero, suc, ◌+◌, ◌-◌, ◌≤◌, ◌<◌, length, get_or, take, drop, set, Result, Ok, Err, IsErrAnd}
 use Rattle.std.proofs.Math.Path.{refl, ap}
-use Rattle.std.proofs.Common.{sym, ◌∙◌, length-drop, length-take-le, take-suc-set, eq-eqb, ne_eqb}
+use Rattle.std.proofs.Common.{sym, ◌∙◌, length-drop, length-take-le, take-suc-set}
 use mathlib.Core.List.{List, [], ◌∷◌, ◌++◌, map, append-nil}
 use native.Mathlib.Omega.{arith}
 use Rattle.std.proofs.Math.Decide.{ℕ_discrete}
@@ -20,13 +20,14 @@ use Rattle.content.specs.Content.{Item, item_of}
 use Rattle.content.specs.Clean.{labels, record_of, entries}
 use Rattle.copying.proofs.Laws.Cleaned.{rows_same}
 use Rattle.copying.proofs.Laws.Written.{map_last, labels_append, entries_last}
-use Rattle.outline_spec.specs.Faults.{most_fault, fault_of}
-use Rattle.outline_spec.specs.Understood.{cell, wrong, faulty, line, lines, with_cell, cells}
+use Rattle.outline_spec.specs.declared.Fault.{Fault}
+use Rattle.outline_spec.specs.declared.Fault.TheVariants.{ManyCells}
+use Rattle.outline_spec.specs.Understood.{cell, faulty, line, lines, with_cell, cells}
 use Rattle.compose_line.specs.Steps.{item_in, told_in, Tells}
 use Rattle.compose.specs.Steps.{line_long, past_line, record_from, note}
 use Rattle.compose.specs.Prefixed.{prefixed}
 use Rattle.compose.specs.Meaning.{count, items_in, so_far}
-use Rattle.compose.specs.State.{stopped_at, rest_of, Long, Well, Tight, Turned}
+use Rattle.compose.specs.State.{rest_of, rest_in, Long, Well, Tight, Turned}
 use Rattle.compose.proofs.Laws.Lines.{past_drop, past_on}
 use Rattle.compose.proofs.Laws.Loop.{prefixed_last, prefixed-fault, cells_many, cells-wrong, cells-more, lines_from, base_more, text-kept, text_new}
 use Rattle.compose_line.specs.declared.Told.{Told}
@@ -87,23 +88,7 @@ map-append f [] b = refl
 map-append {A} {B} f (x ∷ a) b = ap (λ (r : List B). f x ∷ r) (map-append f a b)
 
 -- ---- what is left
-going : (text letters : List ℕ) (s : State) → s.fault ≡ 0 → rest_of text letters s ≡ prefixed (so_far letters s) (cells (count s) (take (count s) s.levels) (lines (drop s.at text)))
-unfolding rest_of
-going text letters s z = rw (eq-eqb s.fault 0 z) refl
-
-rest-stopped : (text letters : List ℕ) (s : State) (f i : ℕ) → ¬ (f ≡ 0) → rest_of text letters (stopped_at s f i) ≡ faulty (count s + 2) (fault_of f)
-unfolding rest_of stopped_at
-rest-stopped text letters s f i n = rw (ne_eqb f 0 n) refl
-
-well_stopped : (size : ℕ) (s : State) (f : ℕ) → f ≤ most_fault → Well size s → Well size (stopped_at s f size)
-unfolding stopped_at
-well_stopped size s f m w = record { few = w.few; goes = λ h. absurd (omega arith); brief = w.brief; within = w.within; long = w.long; seen = w.seen; known = m }
-
-tight-stopped : (letters : List ℕ) (s : State) (f i : ℕ) → Tight letters s.used s.table → Tight letters (stopped_at s f i).used (stopped_at s f i).table
-unfolding stopped_at
-tight-stopped letters s f i h = h
-
-module _ (text letters : List ℕ) (s : State) (w : Well (length text) s) (h : s.at < length text) where
+module _ (text letters : List ℕ) (s : State) (w : Well s) (h : s.at < length text) where
   abbrev b : Bytes
   b = take (line_long (drop s.at text)) (drop s.at text)
 
@@ -111,41 +96,39 @@ module _ (text letters : List ℕ) (s : State) (w : Well (length text) s) (h : s
   others = lines (drop (s.at + line_long (drop s.at text) + 1) text)
 
   left_is : rest_of text letters s ≡ prefixed (so_far letters s) (cells (count s) (take (count s) s.levels) (b ∷ others))
-  left_is = going text letters s (w.goes h) ∙ ap (λ x. prefixed (so_far letters s) (cells (count s) (take (count s) s.levels) x)) (lines_from text s.at h)
+  unfolding rest_of
+  left_is = ap (λ x. prefixed (so_far letters s) (cells (count s) (take (count s) s.levels) x)) (lines_from text s.at h)
 
-  stops : (f : ℕ) → f ≤ most_fault → ¬ (f ≡ 0) → cells (count s) (take (count s) s.levels) (b ∷ others) ≡ faulty (count s + 2) (fault_of f) → (r : State) → r ≡ stopped_at s f (length text) → Turned text letters s letters r
-  stops f m n e r q =
-      rw q
-      (record {
-        same = rest-stopped text letters s f (length text) n ∙ sym (left_is ∙ ap (prefixed (so_far letters s)) e ∙ prefixed-fault (so_far letters s) (count s + 2) (fault_of f));
-        well = well_stopped (length text) s f m w;
-        tight = tight-stopped letters s f (length text);
-        on = unfold stopped_at in h;
-      })
+  stops : (f : Fault) → cells (count s) (take (count s) s.levels) (b ∷ others) ≡ faulty (count s + 2) f → (r : Result State Fault) → IsErrAnd r (λ d. d ≡ f) → Turned text letters s letters r
+  unfolding rest_in
+  stops f e (Ok t) p = absurd p
+  stops f e (Err g) p =
+      record {
+        same = ap (faulty (count s + 2)) p ∙ sym (left_is ∙ ap (prefixed (so_far letters s)) e ∙ prefixed-fault (so_far letters s) (count s + 2) f);
+        well = tt;
+        tight = λ x. tt;
+        on = tt;
+      }
 
   -- more than 256 cells
-  pub turn_many : most_cells ≤ count s → (r : State) → r ≡ stopped_at s 4 (length text) → Turned text letters s letters r
-  unfolding fault_of
-  turn_many k r q = stops 4 (omega arith) (λ z. omega arith) (cells_many (count s) (take (count s) s.levels) b others k) r q
+  pub turn_many : most_cells ≤ count s → Turned text letters s letters (Err ManyCells)
+  turn_many k = stops ManyCells (cells_many (count s) (take (count s) s.levels) b others k) (Err ManyCells) refl
 
-  module _ (k : count s < most_cells) (t : Told) (y : Bytes) (e : y ≡ b) (d : Tells y (line (count s) (take (count s) s.levels) y) t) where
-    told-wrong : ¬ (t.fault ≡ 0) → told_in y t ≡ wrong (fault_of t.fault)
-    unfolding told_in
-    told-wrong n = rw (ne_eqb t.fault 0 n) refl
+  module _ (k : count s < most_cells) (y : Bytes) (e : y ≡ b) (seen : List ℕ) (se : seen ≡ take (count s) s.levels) (v : length s.levels ≡ 256) where
+    seen-long : length seen ≡ count s
+    seen-long = ap length se ∙ length-take-le (count s) s.levels (omega (arith, v, k))
 
-    told-cell : t.fault ≡ 0 → told_in y t ≡ cell t.level (item_in y t)
-    unfolding told_in
-    told-cell n = rw (eq-eqb t.fault 0 n) refl
-
-    line-is : line (count s) (take (count s) s.levels) b ≡ told_in y t
-    line-is = ap (line (count s) (take (count s) s.levels)) (sym e) ∙ sym d.says
+    line-is : (x : Result Told Fault) → Tells y (line (length seen) seen y) x → line (count s) (take (count s) s.levels) b ≡ told_in y x
+    line-is x d =
+        ap (line (count s) (take (count s) s.levels)) (sym e) ∙ ap (λ z. line (count s) z y) (sym se) ∙ ap (λ n. line n seen y) (sym seen-long) ∙ sym d.says
 
     -- a line that is not understood
-    pub turn_wrong : ¬ (t.fault ≡ 0) → (r : State) → r ≡ stopped_at s t.fault (length text) → Turned text letters s letters r
-    turn_wrong n r q = stops t.fault d.few n (cells-wrong (count s) (take (count s) s.levels) b others k (fault_of t.fault) (line-is ∙ told-wrong n)) r q
+    pub turn_wrong : (f : Fault) → Tells y (line (length seen) seen y) (Err f) → (r : Result State Fault) → IsErrAnd r (λ d. d ≡ f) → Turned text letters s letters r
+    unfolding told_in
+    turn_wrong f d = stops f (cells-wrong (count s) (take (count s) s.levels) b others k f (line-is (Err f) d))
 
     -- a cell more
-    module _ (z : t.fault ≡ 0) (g : Long s.table) (v : length s.levels ≡ 256) (room : 65536 ≤ length letters) (letters' : List ℕ) (used : ℕ) (put : Put letters s.used (take (t.end - t.start) (drop t.start y)) letters' used) where
+    module _ (t : Told) (d : Tells y (line (length seen) seen y) (Ok t)) (g : Long s.table) (room : 65536 ≤ length letters) (letters' : List ℕ) (used : ℕ) (put : Put letters s.used (take (t.end - t.start) (drop t.start y)) letters' used) where
       abbrev label : Bytes
       label = take (t.end - t.start) (drop t.start y)
 
@@ -181,7 +164,7 @@ module _ (text letters : List ℕ) (s : State) (w : Well (length text) s) (h : s
       kept = items_kept base label s.table 0 (count s) (λ j p q. omega (arith, w.within j (omega arith), base-long))
 
       abbrev next : ℕ → State
-      next i = record { fault = 0; at = i; used = used; levels = set s.levels (count s) t.level; table = note s.table (count s) rec }
+      next i = record { at = i; used = used; levels = set s.levels (count s) t.level; table = note s.table (count s) rec }
 
       so_far-is : items_in letters' used (note s.table (count s) rec) ≡ so_far letters s ++ (item_in y t ∷ [])
       unfolding items_in
@@ -198,16 +181,20 @@ module _ (text letters : List ℕ) (s : State) (w : Well (length text) s) (h : s
       next-count : (note s.table (count s) rec).columns.count ≡ suc (count s)
       next-count = note-count s.table (count s) rec g k
 
+      told-cell : told_in y (Ok t) ≡ cell t.level (item_in y t)
+      unfolding told_in
+      told-cell = refl
+
       rest-next : (end : ℕ) → end ≡ s.at + line_long (drop s.at text) → rest_of text letters' (next (past_line (length text) end)) ≡ rest_of text letters s
+      unfolding rest_of
       rest-next end q =
-          going text letters' (next (past_line (length text) end)) refl
-          ∙ ap (λ x. prefixed x (cells (count (next 0)) (take (count (next 0)) (next 0).levels) (lines (drop (past_line (length text) end) text)))) so_far-is
+          ap (λ x. prefixed x (cells (count (next 0)) (take (count (next 0)) (next 0).levels) (lines (drop (past_line (length text) end) text)))) so_far-is
           ∙ ap (λ x. prefixed (so_far letters s ++ (item_in y t ∷ [])) (cells (count (next 0)) (take (count (next 0)) (next 0).levels) (lines x))) (past_drop text end)
           ∙ ap (λ n. prefixed (so_far letters s ++ (item_in y t ∷ [])) (cells n (take n (next 0).levels) (lines (drop (end + 1) text)))) next-count
           ∙ ap (λ x. prefixed (so_far letters s ++ (item_in y t ∷ [])) (cells (suc (count s)) x (lines (drop (end + 1) text)))) seen-is
           ∙ prefixed_last (so_far letters s) (item_in y t) _
           ∙ ap (λ i. prefixed (so_far letters s) (with_cell (item_in y t) (cells (suc (count s)) (take (count s) s.levels ++ (t.level ∷ [])) (lines (drop (i + 1) text))))) q
-          ∙ ap (prefixed (so_far letters s)) (sym (cells-more (count s) (take (count s) s.levels) b others k t.level (item_in y t) (line-is ∙ told-cell z)))
+          ∙ ap (prefixed (so_far letters s)) (sym (cells-more (count s) (take (count s) s.levels) b others k t.level (item_in y t) (line-is (Ok t) d ∙ told-cell)))
           ∙ sym left_is
 
       within-next : (j : ℕ) → j < count (next 0) → get_or (next 0).table.label_start j 0 + get_or (next 0).table.label_length j 0 ≤ used
@@ -263,12 +250,13 @@ module _ (text letters : List ℕ) (s : State) (w : Well (length text) s) (h : s
         tight-next : Tight letters' used (note s.table (count s) rec)
         tight-next = record { rows = rows_next ∙ ap (entries 0) (sym so_far-is); bytes = bytes_next ∙ ap labels (sym so_far-is) }
 
-      pub turn_more : (end : ℕ) → end ≡ s.at + line_long (drop s.at text) → (r : State) → r ≡ next (past_line (length text) end) → Turned text letters s letters' r
+      pub turn_more : (end : ℕ) → end ≡ s.at + line_long (drop s.at text) → (r : State) → r ≡ next (past_line (length text) end) → Turned text letters s letters' (Ok r)
+      unfolding rest_in
       turn_more end q r e =
           rw e
           (record {
             same = rest-next end q;
-            well = record { few = omega (arith, next-count, k); goes = λ l. refl; brief = omega (arith, next-count, put.place, label-long, d.brief, w.brief); within = within-next; long = long-next; seen = length-set s.levels (count s) t.level ∙ v; known = omega arith };
+            well = record { few = omega (arith, next-count, k); brief = omega (arith, next-count, put.place, label-long, d.brief, w.brief); within = within-next; long = long-next; seen = length-set s.levels (count s) t.level ∙ v };
             tight = tight-next;
             on = past_on (length text) end s.at (omega (arith, q)) h;
           })

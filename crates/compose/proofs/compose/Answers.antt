@@ -1,20 +1,14 @@
-use lib.Seq.{length-take-le}
-use mathlib.Core.Path.{sym}
-use native.Mathlib.Omega.{arith}
 use Rattle.compose.proofs.Laws.Composed.{compose_short, compose_wrong, compose_written, compose_refused}
 use Rattle.compose.proofs.compose.Goals as goal
 
 pub returns-then-out-lt-MOST_FILE : goal.returns-then-out-lt-MOST_FILE
 returns-then-out-lt-MOST_FILE c = compose_short c.args.text.now _ c.if-out-lt-MOST_FILE.true
 
-pub returns-then-u-ne0 : goal.returns-then-u-ne0
-returns-then-u-ne0 c = compose_wrong c.args.text.now _ c.understand-u.result c.understand-u.ensures c.args.out.now c.if-out-lt-MOST_FILE.false c.if-u-ne0.true
+pub returns-in_err-u : goal.returns-in_err-u
+returns-in_err-u c = compose_wrong c.args.text.now _ c.args.out.now c.if-out-lt-MOST_FILE.false _ c.in_err-u.ensures _ c.from_residual.ensures.1
 
-pub slice_bounds-copy-end : goal.slice_bounds-copy-end
-slice_bounds-copy-end c = sym (length-take-le _ _ (omega (arith, c.understand-u.ensures.room, c.understand-u.auto)))
+pub returns-in_err-n : goal.returns-in_err-n
+returns-in_err-n c = compose_refused c.args.text.now _ c.args.out.now c.if-out-lt-MOST_FILE.false c.in_ok-u.u c.in_ok-u.ensures _ _ (rw c.from.ensures at c.in_err-n.ensures) _ c.from_residual-in_err-n.ensures.1
 
-pub returns-in-Written : goal.returns-in-Written
-returns-in-Written c = compose_written c.args.text.now _ c.understand-u.result c.understand-u.ensures c.args.out.now c.if-out-lt-MOST_FILE.false c.if-u-ne0.false _ _ c.copy.ensures _ c.in-Written.is
-
-pub returns-in-Refused : goal.returns-in-Refused
-returns-in-Refused c = compose_refused c.args.text.now _ c.understand-u.result c.understand-u.ensures c.args.out.now c.if-out-lt-MOST_FILE.false c.if-u-ne0.false _ _ c.copy.ensures _ _ c.in-Refused.is
+pub returns : goal.returns
+returns c = compose_written c.args.text.now _ c.args.out.now c.if-out-lt-MOST_FILE.false c.in_ok-u.u c.in_ok-u.ensures _ _ (rw c.from.ensures at c.in_ok-n.ensures)

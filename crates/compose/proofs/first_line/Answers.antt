@@ -1,41 +1,32 @@
+use Rattle.std.specs.Prelude.{Err}
+use mathlib.Core.List.{[]}
 use Rattle.compose_fields.proofs.Laws.Fields.{word_end}
-use Rattle.outline_spec.specs.Faults.{fault_of}
-use Rattle.compose.specs.Meaning.{first_in}
-use mathlib.Core.Path.{sym, ◌∙◌}
+use Rattle.compose_line.proofs.Laws.Lines.{clear_short}
+use mathlib.Core.Path.{sym, ap, ◌∙◌}
 use native.Mathlib.Omega.{arith}
-use Rattle.compose.proofs.Laws.Whole.{first_strange, first-over, first-other, first_absent, first-large, first_more, first_read, first_small}
+use Rattle.compose.proofs.Laws.Whole.{first_unclear, first-other, first_absent, first-large, first_more, first_read}
 use Rattle.compose.proofs.first_line.Goals as goal
 
-pub returns-then-not-letters_printable : goal.returns-then-not-letters_printable
-unfolding first_in fault_of
-returns-then-not-letters_printable c = (first_strange c.args.line.now (sym c.letters_printable.ensures ∙ c.if-not-letters_printable.true), omega arith)
+pub returns-in_err-clear : goal.returns-in_err-clear
+returns-in_err-clear c = first_unclear c.args.line.now _ _ c.in_err-clear.ensures c.from_residual.ensures.1
 
-pub returns-then-line-gt255 : goal.returns-then-line-gt255
-unfolding first_in fault_of
-returns-then-line-gt255 c = (first-over c.args.line.now (sym c.letters_printable.ensures ∙ c.if-not-letters_printable.false) c.if-line-gt255.true, omega arith)
+pub begins-requires : goal.begins-requires
+begins-requires c = (omega arith, clear_short 0 [] c.args.line.now c.in_ok-clear.field-0 c.in_ok-clear.ensures, omega arith)
 
 pub returns-then-not-begins : goal.returns-then-not-begins
-unfolding first_in fault_of
-returns-then-not-begins c = (first-other c.args.line.now (sym c.letters_printable.ensures ∙ c.if-not-letters_printable.false) c.if-line-gt255.false (sym c.begins.ensures ∙ c.if-not-begins.true), omega arith)
+returns-then-not-begins c = first-other c.args.line.now c.in_ok-clear.field-0 c.in_ok-clear.ensures (sym c.begins.ensures ∙ c.if-not-begins.true)
 
 pub number-requires : goal.number-requires
-number-requires c = (c.if-line-gt255.false, omega (arith, word_end _ c.args.line.now 0 (sym c.begins.ensures ∙ c.if-not-begins.false) (omega arith)), omega arith)
+number-requires c = (clear_short 0 [] c.args.line.now c.in_ok-clear.field-0 c.in_ok-clear.ensures, omega (arith, word_end _ c.args.line.now 0 (sym c.begins.ensures ∙ c.if-not-begins.false) (omega arith)), omega arith)
 
-pub returns-then-next-line : goal.returns-then-next-line
-unfolding first_in fault_of
-returns-then-next-line c = (first_more c.args.line.now (sym c.letters_printable.ensures ∙ c.if-not-letters_printable.false) c.if-line-gt255.false (sym c.begins.ensures ∙ c.if-not-begins.false) _ c.number.ensures _ _ c.in-Read.is c.if-next-line.true, omega arith)
+pub returns-then-n-line : goal.returns-then-n-line
+returns-then-n-line c = first_more c.args.line.now c.in_ok-clear.field-0 c.in_ok-clear.ensures (sym c.begins.ensures ∙ c.if-not-begins.false) _ c.number.ensures _ c.in-Ok.is c.if-n-line.true
 
-pub overflow_cast-result : goal.overflow_cast-result
-overflow_cast-result c = omega (arith, first_small c.args.line.now (sym c.letters_printable.ensures ∙ c.if-not-letters_printable.false) c.if-line-gt255.false (sym c.begins.ensures ∙ c.if-not-begins.false) _ c.number.ensures _ _ c.in-Read.is)
+pub returns-in-Err-Absent : goal.returns-in-Err-Absent
+returns-in-Err-Absent c = first_absent c.args.line.now c.in_ok-clear.field-0 c.in_ok-clear.ensures (sym c.begins.ensures ∙ c.if-not-begins.false) _ c.number.ensures (c.in-Err-Absent.is ∙ ap Err c.in-Err-Absent.field-0-is)
 
-pub returns-in-Absent : goal.returns-in-Absent
-unfolding first_in fault_of
-returns-in-Absent c = (first_absent c.args.line.now (sym c.letters_printable.ensures ∙ c.if-not-letters_printable.false) c.if-line-gt255.false (sym c.begins.ensures ∙ c.if-not-begins.false) _ c.number.ensures c.in-Absent.is, omega arith)
+pub returns-in-Err-Large : goal.returns-in-Err-Large
+returns-in-Err-Large c = first-large c.args.line.now c.in_ok-clear.field-0 c.in_ok-clear.ensures (sym c.begins.ensures ∙ c.if-not-begins.false) _ c.number.ensures (c.in-Err-Large.is ∙ ap Err c.in-Err-Large.field-0-is)
 
-pub returns-in-Large : goal.returns-in-Large
-unfolding first_in fault_of
-returns-in-Large c = (first-large c.args.line.now (sym c.letters_printable.ensures ∙ c.if-not-letters_printable.false) c.if-line-gt255.false (sym c.begins.ensures ∙ c.if-not-begins.false) _ c.number.ensures c.in-Large.is, omega arith)
-
-pub returns-else-next-line : goal.returns-else-next-line
-unfolding first_in fault_of
-returns-else-next-line c = (first_read c.args.line.now (sym c.letters_printable.ensures ∙ c.if-not-letters_printable.false) c.if-line-gt255.false (sym c.begins.ensures ∙ c.if-not-begins.false) _ c.number.ensures _ _ c.in-Read.is c.if-next-line.false, omega arith)
+pub returns-else-n-line : goal.returns-else-n-line
+returns-else-n-line c = first_read c.args.line.now c.in_ok-clear.field-0 c.in_ok-clear.ensures (sym c.begins.ensures ∙ c.if-not-begins.false) _ c.number.ensures _ c.in-Ok.is c.if-n-line.false

@@ -1,15 +1,19 @@
 -- The parts of a line, as the code reads them. Assumes nothing.
-use Rattle.std.specs.Prelude.{◌≡◌, refl, [], ◌∷◌, Bool, true, false, cond, ℕ, suc, ◌+◌, ◌-◌, ◌*◌, ◌≤◌, ◌<◌, eqb, length, get_or, drop}
+use Rattle.std.specs.Prelude.{◌≡◌, refl, [], ◌∷◌, Bool, true, false, ◌&&◌, cond, ℕ, zero, suc, ◌+◌, ◌-◌, ◌*◌, ◌/◌, ◌%◌, ◌≤◌, ◌<◌, eqb, length, get_or, take, drop}
 use Rattle.std.proofs.Math.Path.{sym}
-use Rattle.std.proofs.Common.{ap, ◌∙◌, add-one, drop_of_length-le, drop-cons, eq-eqb, ne_eqb, le-leb}
+use Rattle.std.proofs.Math.Seq.{take-length}
+use Rattle.std.proofs.Common.{ap, length-drop, ◌∙◌, add-one, drop_of_length-le, drop-cons, eq-eqb, ne_eqb, le-leb}
 use Rattle.std.proofs.Math.Option.{Option, none, some}
 use native.Mathlib.Omega.{arith}
+use Rattle.std.proofs.Math.Decide.{ℕ_discrete}
 use Rattle.std.proofs.lemmas.Bool.{lt-leb}
 use Rattle.listing.specs.Printed.{Bytes, digit}
 use Rattle.outline_spec.specs.Understood.{Number, absent, large, read, Indented, odd, level, after, is_digit, number_from, number, indented, parted}
-use Rattle.compose_fields.specs.Steps.{begins, number_in, Ends, Numbers, level_in, starts, Levels}
-use Rattle.compose_fields.specs.declared.Digits.TheVariants as digits
-use Rattle.compose_fields.specs.declared.Blanks.TheVariants as blanks
+use Rattle.std.specs.Prelude.{Some, None, Ok, Err, nat_eq}
+use Rattle.std.specs.List.{starts_with}
+use Rattle.std.specs.Char.{is_ascii_digit}
+use Rattle.compose_fields.specs.Steps.{begins, number_in, Numbers, level_in, Levels}
+use Rattle.compose_fields.specs.declared.DigitsError.TheVariants as digits
 
 -- ---- a word
 pub after-begins : (w t : Bytes) → after w t ≡ cond (begins w t) (some (drop (length w) t)) none
@@ -30,44 +34,26 @@ from_place line i h = rw add-one (drop-cons line i 0 h)
 pub past_end : (line : Bytes) (i : ℕ) → length line ≤ i → drop i line ≡ []
 past_end line i h = drop_of_length-le line {i = i} h
 
-begins-cons : (x b : ℕ) (w t : Bytes) → begins (x ∷ w) (b ∷ t) ≡ elim (eqb x b) [ true ↦ begins w t | false ↦ false ]
+-- the line from a place on, as a slice
+pub rest_is : (line : Bytes) (at : ℕ) → take (length line - at) (drop at line) ≡ drop at line
+rest_is line at = rw (← length-drop at line) (take-length (drop at line))
+
+-- the library's test is the definition's
+pub starts-begins : (w t : Bytes) → starts_with nat_eq t w ≡ begins w t
 unfolding begins
-begins-cons x b w t = refl
-
-begins-empty : (x : ℕ) (w : Bytes) → begins (x ∷ w) [] ≡ false
-unfolding begins
-begins-empty x w = refl
-
-module _ (w line : Bytes) (at i : ℕ) (h : i < length w) where
-  pub begins_short : length line ≤ at + i → begins (drop i w) (drop (at + i) line) ≡ false
-  begins_short l = rw (from_place w i h, past_end line (at + i) l) (begins-empty _ _)
-
-  pub begins-other : at + i < length line → ¬ (get_or line (at + i) 0 ≡ get_or w i 0) → begins (drop i w) (drop (at + i) line) ≡ false
-  begins-other l n = rw (from_place w i h, from_place line (at + i) l, begins-cons, ne_eqb (get_or w i 0) (get_or line (at + i) 0) (λ e. n (sym e))) refl
-
-  pub begins-more : at + i < length line → get_or line (at + i) 0 ≡ get_or w i 0 → begins (drop i w) (drop (at + i) line) ≡ begins (drop (i + 1) w) (drop (at + (i + 1)) line)
-  begins-more l n =
-      let q : at + i + 1 ≡ at + (i + 1) = omega arith in
-      rw (from_place w i h, from_place line (at + i) l, begins-cons, eq-eqb (get_or w i 0) (get_or line (at + i) 0) (sym n), q) refl
-
-pub begins-all : (w t : Bytes) (i : ℕ) → length w ≤ i → begins (drop i w) t ≡ true
-begins-all w t i h = rw (past_end w i h) (unfold begins in refl)
-
-pub begins-start : (w line : Bytes) (at : ℕ) → begins w (drop at line) ≡ begins (drop 0 w) (drop (at + 0) line)
-begins-start w line at = let z : at + 0 ≡ at = omega arith in rw z refl
+starts-begins [] t = refl
+starts-begins (x ∷ w) [] = refl
+starts-begins (x ∷ w) (b ∷ t) = go (eqb x b) (starts-begins w t)
+  where
+    go : (y : Bool) → starts_with nat_eq t w ≡ begins w t → (y && starts_with nat_eq t w) ≡ elim y [ true ↦ begins w t | false ↦ false ]
+    go true h = h
+    go false h = refl
 
 -- ---- a number
-digit_yes : (b : ℕ) → 48 ≤ b → b ≤ 57 → is_digit b ≡ true
+-- the library's test is the definition's
+pub digit-is : (b : ℕ) (y : Bool) → y ≡ is_ascii_digit b → (z : Bool) → y ≡ z → is_digit b ≡ z
 unfolding is_digit
-digit_yes b h l = rw (le-leb 48 b h, le-leb b 57 l) refl
-
-digit_low : (b : ℕ) → b < 48 → is_digit b ≡ false
-unfolding is_digit
-digit_low b h = rw (lt-leb 48 b h) refl
-
-digit_high : (b : ℕ) → 57 < b → is_digit b ≡ false
-unfolding is_digit
-digit_high b h = rw (le-leb 48 b (omega arith), lt-leb b 57 h) refl
+digit-is b y e z q = sym e ∙ q
 
 from-other : (m a b : ℕ) (t : Bytes) → is_digit b ≡ false → number_from m a (b ∷ t) ≡ read a (b ∷ t)
 unfolding number_from
@@ -82,34 +68,31 @@ unfolding number_from
 from-digit m a b t e l = rw (e, number_from, le-leb (10 * a + (b - digit 0)) m l, number_from) refl
 
 module _ (line : Bytes) (m : ℕ) (x : Number) where
-  read_here : (a i : ℕ) → x ≡ read a (drop i line) → a ≤ m → i ≤ length line → Numbers line m x (digits.Read a i)
-  unfolding number_in Ends
-  read_here a i e h l = record { says = sym e; ended = (h, l) }
+  read_here : (a i : ℕ) → x ≡ read a (drop i line) → a ≤ m → i ≤ length line → Numbers line m x (Ok (record { value = a; next = i }))
+  unfolding number_in
+  read_here a i e h l = record { says = sym e; small = h; inside = l }
 
-  pub read-absent : x ≡ absent → Numbers line m x digits.Absent
-  unfolding number_in Ends
-  read-absent e = record { says = sym e; ended = omega arith }
+  pub read-absent : x ≡ absent → Numbers line m x (Err digits.Absent)
+  unfolding number_in
+  read-absent e = record { says = sym e; small = tt; inside = tt }
 
-  read-large : x ≡ large → Numbers line m x digits.Large
-  unfolding number_in Ends
-  read-large e = record { says = sym e; ended = omega arith }
+  read-large : x ≡ large → Numbers line m x (Err digits.Large)
+  unfolding number_in
+  read-large e = record { says = sym e; small = tt; inside = tt }
 
   -- the loop: what it has still to read, from i on
   module _ (a i : ℕ) (e : x ≡ number_from m a (drop i line)) (h : a ≤ m) where
-    pub digits_low : i < length line → get_or line i 0 < 48 → Numbers line m x (digits.Read a i)
-    digits_low l b = read_here a i (e ∙ rw (from_place line i l) (from-other m a _ _ (digit_low _ b))) h (omega arith)
+    pub digits_other : i < length line → is_digit (get_or line i 0) ≡ false → Numbers line m x (Ok (record { value = a; next = i }))
+    digits_other l b = read_here a i (e ∙ rw (from_place line i l) (from-other m a _ _ b)) h (omega arith)
 
-    pub digits_high : i < length line → 57 < get_or line i 0 → Numbers line m x (digits.Read a i)
-    digits_high l b = read_here a i (e ∙ rw (from_place line i l) (from-other m a _ _ (digit_high _ b))) h (omega arith)
+    pub digits-large : (n : ℕ) → i < length line → is_digit (get_or line i 0) ≡ true → n ≡ 10 * a + (get_or line i 0 - 48) → m < n → Numbers line m x (Err digits.Large)
+    digits-large n l d q k = read-large (e ∙ rw (from_place line i l) (from-large m a _ _ d (omega (arith, q))))
 
-    pub digits-large : (n : ℕ) → i < length line → 48 ≤ get_or line i 0 → get_or line i 0 ≤ 57 → n ≡ 10 * a + (get_or line i 0 - 48) → m < n → Numbers line m x digits.Large
-    digits-large n l b d q k = read-large (e ∙ rw (from_place line i l) (from-large m a _ _ (digit_yes _ b d) (omega (arith, q))))
+    pub digits_more : (n : ℕ) → i < length line → is_digit (get_or line i 0) ≡ true → n ≡ 10 * a + (get_or line i 0 - 48) → n ≤ m → x ≡ number_from m n (drop (i + 1) line)
+    digits_more n l d q k = e ∙ rw (from_place line i l, q) (from-digit m a _ _ d (omega (arith, q)))
 
-    pub digits_more : (n : ℕ) → i < length line → 48 ≤ get_or line i 0 → get_or line i 0 ≤ 57 → n ≡ 10 * a + (get_or line i 0 - 48) → n ≤ m → x ≡ number_from m n (drop (i + 1) line)
-    digits_more n l b d q k = e ∙ rw (from_place line i l, q) (from-digit m a _ _ (digit_yes _ b d) (omega (arith, q)))
-
-    pub digits-end : length line ≤ i → i ≤ length line → Numbers line m x (digits.Read a i)
-    digits-end l k = read_here a i (e ∙ rw (past_end line i l) (unfold number_from in refl)) h k
+    pub digits-end : i ≡ length line → Numbers line m x (Ok (record { value = a; next = length line }))
+    digits-end q = read_here a (length line) (rw q at e ∙ rw (past_end line (length line) (omega arith)) (unfold number_from in refl)) h (omega arith)
 
 number-cons : (m b : ℕ) (t : Bytes) → is_digit b ≡ true → number m (b ∷ t) ≡ number_from m 0 (b ∷ t)
 unfolding number
@@ -123,14 +106,11 @@ pub number-end : (line : Bytes) (m at : ℕ) → length line ≤ at → number m
 unfolding number
 number-end line m at h = rw (past_end line at h) refl
 
-pub number_low : (line : Bytes) (m at : ℕ) → at < length line → get_or line at 0 < 48 → number m (drop at line) ≡ absent
-number_low line m at h b = rw (from_place line at h) (number_not m _ _ (digit_low _ b))
+pub number_other : (line : Bytes) (m at : ℕ) → at < length line → is_digit (get_or line at 0) ≡ false → number m (drop at line) ≡ absent
+number_other line m at h b = rw (from_place line at h) (number_not m _ _ b)
 
-pub number_high : (line : Bytes) (m at : ℕ) → at < length line → 57 < get_or line at 0 → number m (drop at line) ≡ absent
-number_high line m at h b = rw (from_place line at h) (number_not m _ _ (digit_high _ b))
-
-pub number-goes : (line : Bytes) (m at : ℕ) → at < length line → 48 ≤ get_or line at 0 → get_or line at 0 ≤ 57 → number m (drop at line) ≡ number_from m 0 (drop at line)
-number-goes line m at h b d = rw (from_place line at h) (number-cons m _ _ (digit_yes _ b d))
+pub number-goes : (line : Bytes) (m at : ℕ) → at < length line → is_digit (get_or line at 0) ≡ true → number m (drop at line) ≡ number_from m 0 (drop at line)
+number-goes line m at h d = rw (from_place line at h) (number-cons m _ _ d)
 
 -- ---- blanks
 two_from : (line : Bytes) (i : ℕ) → i + 1 < length line → drop i line ≡ get_or line i 0 ∷ get_or line (i + 1) 0 ∷ drop (i + 1 + 1) line
@@ -168,37 +148,60 @@ unfolding indented
 one-other l a n = rw (ne_eqb a 32 n) refl
 
 module _ (line : Bytes) where
-  level-here : (x : Indented) (l : ℕ) → x ≡ level l (drop (2 * l) line) → 2 * l ≤ length line → Levels line x (blanks.Level l)
-  unfolding level_in starts
+  level-here : (x : Indented) (l : ℕ) → x ≡ level l (drop (2 * l) line) → 2 * l ≤ length line → Levels line x (Some l)
+  unfolding level_in
   level-here x l e h = record { says = sym e; started = h }
 
-  odd-here : (x : Indented) → x ≡ odd → Levels line x blanks.Odd
-  unfolding level_in starts
-  odd-here x e = record { says = sym e; started = omega arith }
-
-  pub blanks-start : indented 0 line ≡ indented 0 (drop (2 * 0) line)
-  blanks-start = refl
+  odd-here : (x : Indented) → x ≡ odd → Levels line x None
+  unfolding level_in
+  odd-here x e = record { says = sym e; started = tt }
 
   module _ (x : Indented) (l : ℕ) (e : x ≡ indented l (drop (2 * l) line)) where
-    pub blanks-other : 2 * l + 1 < length line → ¬ (get_or line (2 * l) 0 ≡ 32) → Levels line x (blanks.Level l)
-    blanks-other h n = level-here x l (e ∙ rw (two_from line (2 * l) h) (two-other l _ _ _ n)) (omega arith)
-
-    pub blanks-odd : 2 * l + 1 < length line → get_or line (2 * l) 0 ≡ 32 → ¬ (get_or line (2 * l + 1) 0 ≡ 32) → Levels line x blanks.Odd
-    blanks-odd h n k = odd-here x (e ∙ rw (two_from line (2 * l) h) (two-odd l _ _ _ n k))
-
-    pub blanks-more : 2 * l + 1 < length line → get_or line (2 * l) 0 ≡ 32 → get_or line (2 * l + 1) 0 ≡ 32 → x ≡ indented (l + 1) (drop (2 * (l + 1)) line)
+    blanks-more : 2 * l + 1 < length line → get_or line (2 * l) 0 ≡ 32 → get_or line (2 * l + 1) 0 ≡ 32 → x ≡ indented (suc l) (drop (2 * suc l) line)
     blanks-more h n k =
-        let q : 2 * l + 1 + 1 ≡ 2 * (l + 1) = omega arith in
-        e ∙ ap (indented l) (two_from line (2 * l) h) ∙ two-blanks l _ _ _ n k ∙ ap (λ i. indented (suc l) (drop i line)) q ∙ ap (λ i. indented i (drop (2 * (l + 1)) line)) (sym (add-one l))
+        let q : 2 * l + 1 + 1 ≡ 2 * suc l = omega arith in
+        e ∙ ap (indented l) (two_from line (2 * l) h) ∙ two-blanks l _ _ _ n k ∙ ap (λ i. indented (suc l) (drop i line)) q
 
-    pub blanks_last_odd : 2 * l < length line → length line ≤ 2 * l + 1 → get_or line (2 * l) 0 ≡ 32 → Levels line x blanks.Odd
-    blanks_last_odd h k n = odd-here x (e ∙ rw (one_from line (2 * l) h k) (one-odd l _ n))
+    -- the byte after them is no blank
+    blanks-other : 2 * l < length line → ¬ (get_or line (2 * l) 0 ≡ 32) → x ≡ level l (drop (2 * l) line)
+    blanks-other h n = e ∙ go (ℕ_discrete (length line) (2 * l + 1))
+      where
+        go : Dec (length line ≡ 2 * l + 1) → indented l (drop (2 * l) line) ≡ level l (drop (2 * l) line)
+        go (yes k) = rw (one_from line (2 * l) h (omega arith)) (one-other l _ n)
+        go (no k) = rw (two_from line (2 * l) (omega arith)) (two-other l _ _ _ n)
 
-    pub blanks_last : 2 * l < length line → length line ≤ 2 * l + 1 → ¬ (get_or line (2 * l) 0 ≡ 32) → Levels line x (blanks.Level l)
-    blanks_last h k n = level-here x l (e ∙ rw (one_from line (2 * l) h k) (one-other l _ n)) (omega arith)
+    -- one more blank, and no second
+    blanks_one : 2 * l < length line → get_or line (2 * l) 0 ≡ 32 → (2 * l + 1 < length line → ¬ (get_or line (2 * l + 1) 0 ≡ 32)) → x ≡ odd
+    blanks_one h n k = e ∙ go (ℕ_discrete (length line) (2 * l + 1))
+      where
+        go : Dec (length line ≡ 2 * l + 1) → indented l (drop (2 * l) line) ≡ odd
+        go (yes z) = rw (one_from line (2 * l) h (omega arith)) (one-odd l _ n)
+        go (no z) = rw (two_from line (2 * l) (omega arith)) (two-odd l _ _ _ n (k (omega arith)))
 
-    pub blanks-end : length line ≤ 2 * l → 2 * l ≤ length line → Levels line x (blanks.Level l)
-    blanks-end h k = level-here x l (e ∙ rw (past_end line (2 * l) h) (unfold indented in refl)) k
+    blanks-end : length line ≤ 2 * l → x ≡ level l (drop (2 * l) line)
+    blanks-end h = e ∙ rw (past_end line (2 * l) h) (unfold indented in refl)
+
+  -- so many blanks first, two by two
+  blanks_two : (l : ℕ) → 2 * l ≤ length line → ((j : ℕ) → j < 2 * l → get_or line j 0 ≡ 32) → indented 0 line ≡ indented l (drop (2 * l) line)
+  blanks_two zero h f = refl
+  blanks_two (suc l) h f = blanks-more (indented 0 line) l (blanks_two l (omega arith) (λ j k. f j (omega arith))) (omega arith) (f (2 * l) (omega arith)) (f (2 * l + 1) (omega arith))
+
+  -- so many blanks first, and then another byte or the end
+  module _ (n : ℕ) (h : n ≤ length line) (f : (j : ℕ) → j < n → get_or line j 0 ≡ 32) (s : n < length line → ¬ (get_or line n 0 ≡ 32)) where
+    pub blanks-odd : ¬ (n % 2 ≡ 0) → Levels line (indented 0 line) None
+    blanks-odd z =
+        let q : n ≡ 2 * (n / 2) + 1 = omega arith in
+        odd-here (indented 0 line) (blanks_one (indented 0 line) (n / 2) (blanks_two (n / 2) (omega arith) (λ j k. f j (omega arith))) (omega arith) (f (2 * (n / 2)) (omega arith)) (rw q at s))
+
+    pub blanks-even : n % 2 ≡ 0 → Levels line (indented 0 line) (Some (n / 2))
+    blanks-even z = level-here (indented 0 line) (n / 2) (go (ℕ_discrete n (length line))) (omega arith)
+      where
+        q : 2 * (n / 2) ≡ n
+        q = omega arith
+
+        go : Dec (n ≡ length line) → indented 0 line ≡ level (n / 2) (drop (2 * (n / 2)) line)
+        go (yes k) = blanks-end (indented 0 line) (n / 2) (blanks_two (n / 2) (omega (arith, q)) (λ j k. f j (omega (arith, q)))) (omega (arith, q))
+        go (no k) = blanks-other (indented 0 line) (n / 2) (blanks_two (n / 2) (omega (arith, q)) (λ j k. f j (omega (arith, q)))) (omega (arith, q)) (rw (← q) at s (omega arith))
 
 -- ---- the end of a word
 pub parted-end : (line : Bytes) (at : ℕ) → length line ≤ at → true ≡ parted (drop at line)

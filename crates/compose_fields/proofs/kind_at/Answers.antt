@@ -1,28 +1,28 @@
 use Rattle.outline_spec.specs.Outline.{word}
 use native.Mathlib.Omega.{arith}
-use Rattle.compose_fields.proofs.Laws.Fields.{named_1, named_2, named_3, named_4, named_5, named_0}
+use Rattle.compose_fields.proofs.Laws.Fields.{tries_here, tries_next, tries_none, names_all, left_out}
 use Rattle.compose_fields.proofs.kind_at.Goals as goal
 
-pub returns-then-step-ne0 : goal.returns-then-step-ne0
+pub returns-in-Some : goal.returns-in-Some
 unfolding word
-returns-then-step-ne0 c = named_1 c.args.line.now c.args.at _ 0 0 0 0 (omega arith) c.after_word-step.ensures c.if-step-ne0.true
+returns-in-Some c = names_all _ _ _ (tries_here c.args.line.now c.args.at 1 _ _ (omega arith) c.in-Some.ensures)
 
-pub returns-then-run-ne0 : goal.returns-then-run-ne0
+pub returns-in-Some-after_word : goal.returns-in-Some-after_word
 unfolding word
-returns-then-run-ne0 c = named_2 c.args.line.now c.args.at _ _ 0 0 0 (omega arith) c.after_word-step.ensures c.if-step-ne0.false c.after_word-run.ensures c.if-run-ne0.true
+returns-in-Some-after_word c = names_all _ _ _ (tries_next c.args.line.now c.args.at 1 _ _ (left_out _ _ c.after_word.ensures c.in_default.not-Some) (tries_here c.args.line.now c.args.at 2 _ _ (omega arith) c.in-Some-after_word.ensures))
 
-pub returns-then-repeat-ne0 : goal.returns-then-repeat-ne0
+pub returns-in-Some-after_word-2 : goal.returns-in-Some-after_word-2
 unfolding word
-returns-then-repeat-ne0 c = named_3 c.args.line.now c.args.at _ _ _ 0 0 (omega arith) c.after_word-step.ensures c.if-step-ne0.false c.after_word-run.ensures c.if-run-ne0.false c.after_word-repeat.ensures c.if-repeat-ne0.true
+returns-in-Some-after_word-2 c = names_all _ _ _ (tries_next c.args.line.now c.args.at 1 _ _ (left_out _ _ c.after_word.ensures c.in_default.not-Some) (tries_next c.args.line.now c.args.at 2 _ _ (left_out _ _ c.after_word-2.ensures c.in_default-after_word.not-Some) (tries_here c.args.line.now c.args.at 3 _ _ (omega arith) c.in-Some-after_word-2.ensures)))
 
-pub returns-then-choice-ne0 : goal.returns-then-choice-ne0
+pub returns-in-Some-after_word-3 : goal.returns-in-Some-after_word-3
 unfolding word
-returns-then-choice-ne0 c = named_4 c.args.line.now c.args.at _ _ _ _ 0 (omega arith) c.after_word-step.ensures c.if-step-ne0.false c.after_word-run.ensures c.if-run-ne0.false c.after_word-repeat.ensures c.if-repeat-ne0.false c.after_word-choice.ensures c.if-choice-ne0.true
+returns-in-Some-after_word-3 c = names_all _ _ _ (tries_next c.args.line.now c.args.at 1 _ _ (left_out _ _ c.after_word.ensures c.in_default.not-Some) (tries_next c.args.line.now c.args.at 2 _ _ (left_out _ _ c.after_word-2.ensures c.in_default-after_word.not-Some) (tries_next c.args.line.now c.args.at 3 _ _ (left_out _ _ c.after_word-3.ensures c.in_default-after_word-2.not-Some) (tries_here c.args.line.now c.args.at 4 _ _ (omega arith) c.in-Some-after_word-3.ensures))))
 
-pub returns-then-wait-ne0 : goal.returns-then-wait-ne0
+pub returns-in-Some-after_word-4 : goal.returns-in-Some-after_word-4
 unfolding word
-returns-then-wait-ne0 c = named_5 c.args.line.now c.args.at _ _ _ _ _ (omega arith) c.after_word-step.ensures c.if-step-ne0.false c.after_word-run.ensures c.if-run-ne0.false c.after_word-repeat.ensures c.if-repeat-ne0.false c.after_word-choice.ensures c.if-choice-ne0.false c.after_word-wait.ensures c.if-wait-ne0.true
+returns-in-Some-after_word-4 c = names_all _ _ _ (tries_next c.args.line.now c.args.at 1 _ _ (left_out _ _ c.after_word.ensures c.in_default.not-Some) (tries_next c.args.line.now c.args.at 2 _ _ (left_out _ _ c.after_word-2.ensures c.in_default-after_word.not-Some) (tries_next c.args.line.now c.args.at 3 _ _ (left_out _ _ c.after_word-3.ensures c.in_default-after_word-2.not-Some) (tries_next c.args.line.now c.args.at 4 _ _ (left_out _ _ c.after_word-4.ensures c.in_default-after_word-3.not-Some) (tries_here c.args.line.now c.args.at 5 _ _ (omega arith) c.in-Some-after_word-4.ensures)))))
 
 pub returns : goal.returns
 unfolding word
-returns c = named_0 c.args.line.now c.args.at _ _ _ _ _ (omega arith) c.after_word-step.ensures c.if-step-ne0.false c.after_word-run.ensures c.if-run-ne0.false c.after_word-repeat.ensures c.if-repeat-ne0.false c.after_word-choice.ensures c.if-choice-ne0.false c.after_word-wait.ensures c.if-wait-ne0.false
+returns c = names_all _ _ _ (tries_next c.args.line.now c.args.at 1 _ _ (left_out _ _ c.after_word.ensures c.in_default.not-Some) (tries_next c.args.line.now c.args.at 2 _ _ (left_out _ _ c.after_word-2.ensures c.in_default-after_word.not-Some) (tries_next c.args.line.now c.args.at 3 _ _ (left_out _ _ c.after_word-3.ensures c.in_default-after_word-2.not-Some) (tries_next c.args.line.now c.args.at 4 _ _ (left_out _ _ c.after_word-4.ensures c.in_default-after_word-3.not-Some) (tries_next c.args.line.now c.args.at 5 _ _ (left_out _ _ c.after_word-5.ensures c.in_default-after_word-4.not-Some) (tries_none c.args.line.now c.args.at))))))

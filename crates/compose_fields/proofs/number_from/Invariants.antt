@@ -1,11 +1,8 @@
-use Prim.Native.Nat.{◌-◌, ◌≤◌}
-use lib.ListN.{length, drop}
+use Prim.Native.Nat.{◌≤◌}
+use lib.ListN.{drop}
 use mathlib.Core.Path.{◌≡◌}
 use Rattle.outline_spec.specs.Understood.{number_from}
 use Rattle.compose_fields.proofs.number_from.Given as goal
 
-abbrev pub invariant-loop-i : goal.invariant-loop-i
-invariant-loop-i l = (l.i ≤ length l.line) × (l.a ≤ l.most) × (number_from l.most 0 (drop l.at l.line) ≡ number_from l.most l.a (drop l.i l.line))
-
-abbrev pub decreases-loop-i : goal.decreases-loop-i
-decreases-loop-i l = length l.line - l.i
+abbrev pub invariant-loop-next : goal.invariant-loop-next
+invariant-loop-next l = (l.value ≤ l.most) × (number_from l.most 0 (drop l.at l.line) ≡ number_from l.most l.value (drop l.next l.line))

@@ -1,44 +1,34 @@
 use Rattle.outline_spec.proofs.Laws.Told.{border_small}
-use mathlib.Core.Path.{refl, ◌∙◌}
+use mathlib.Core.Path.{◌∙◌}
 use native.Mathlib.Omega.{arith}
-use Rattle.compose_line.proofs.Laws.Cells.{fields_1, fields_2, fields_3, fields_4, fields_5, fields_0, usual_within}
+use Rattle.compose_line.proofs.Laws.Cells.{tells_err, fields_1, fields_2, fields_3, fields_4, fields_5, fields_0, usual_is, usual_within, nearest_small}
 use Rattle.compose_line.proofs.fields.Goals as goal
 
-pub returns-then-w-ne0 : goal.returns-then-w-ne0
-returns-then-w-ne0 c = fields_1 c.args.c _ c.args.level c.args.kind c.args.line.now c.args.at c.field_at-w.result c.field_at-w.ensures _ c.if-w-ne0.true c.wrong.ensures
+pub returns-in_err-width : goal.returns-in_err-width
+returns-in_err-width c = tells_err c.args.line.now _ _ _ (fields_1 c.args.seen.now c.args.level c.args.kind c.args.line.now c.args.at _ c.in_err-width.ensures) c.from_residual.ensures.1
 
-pub returns-then-d-ne0 : goal.returns-then-d-ne0
-returns-then-d-ne0 c = fields_2 c.args.c _ c.args.level c.args.kind c.args.line.now c.args.at c.field_at-w.result c.field_at-w.ensures c.if-w-ne0.false c.field_at-d.result c.field_at-d.ensures _ c.if-d-ne0.true c.wrong-then-d-ne0.ensures
+pub returns-in_err-depth : goal.returns-in_err-depth
+returns-in_err-depth c = tells_err c.args.line.now _ _ _ (fields_2 c.args.seen.now c.args.level c.args.kind c.args.line.now c.args.at c.in_ok-width.width c.in_ok-width.ensures _ c.in_err-depth.ensures) c.from_residual-in_err-depth.ensures.1
 
-pub returns-then-q-ne0 : goal.returns-then-q-ne0
-returns-then-q-ne0 c = fields_3 c.args.c _ c.args.level c.args.kind c.args.line.now c.args.at c.field_at-w.result c.field_at-w.ensures c.if-w-ne0.false c.field_at-d.result c.field_at-d.ensures c.if-d-ne0.false c.field_at-q.result c.field_at-q.ensures _ c.if-q-ne0.true c.wrong-then-q-ne0.ensures
+pub returns-in_err-rank : goal.returns-in_err-rank
+returns-in_err-rank c = tells_err c.args.line.now _ _ _ (fields_3 c.args.seen.now c.args.level c.args.kind c.args.line.now c.args.at c.in_ok-width.width c.in_ok-width.ensures c.in_ok-depth.depth c.in_ok-depth.ensures _ c.in_err-rank.ensures) c.from_residual-in_err-rank.ensures.1
 
-pub returns-then-u-ne0 : goal.returns-then-u-ne0
-returns-then-u-ne0 c = fields_4 c.args.c _ c.args.level c.args.kind c.args.line.now c.args.at c.field_at-w.result c.field_at-w.ensures c.if-w-ne0.false c.field_at-d.result c.field_at-d.ensures c.if-d-ne0.false c.field_at-q.result c.field_at-q.ensures c.if-q-ne0.false c.field_at-u.result c.field_at-u.ensures _ c.if-u-ne0.true c.wrong-then-u-ne0.ensures
+pub returns-in_err-under : goal.returns-in_err-under
+returns-in_err-under c = tells_err c.args.line.now _ _ _ (fields_4 c.args.seen.now c.args.level c.args.kind c.args.line.now c.args.at c.in_ok-width.width c.in_ok-width.ensures c.in_ok-depth.depth c.in_ok-depth.ensures c.in_ok-rank.rank c.in_ok-rank.ensures _ c.in_err-under.ensures) c.from_residual-in_err-under.ensures.1
 
-pub label_at-t-requires : goal.label_at-t-requires
-label_at-t-requires c = (omega (arith, c.requires.2), c.field_at-u.ensures.inside)
+pub returns-in_err-label : goal.returns-in_err-label
+returns-in_err-label c = tells_err c.args.line.now _ _ _ (fields_5 c.args.seen.now c.args.level c.args.kind c.args.line.now c.args.at c.in_ok-width.width c.in_ok-width.ensures c.in_ok-depth.depth c.in_ok-depth.ensures c.in_ok-rank.rank c.in_ok-rank.ensures c.in_ok-under.under c.in_ok-under.ensures _ c.in_err-label.ensures) c.from_residual-in_err-label.ensures.1
 
-pub returns-then-t-ne0 : goal.returns-then-t-ne0
-returns-then-t-ne0 c = fields_5 c.args.c _ c.args.level c.args.kind c.args.line.now c.args.at c.field_at-w.result c.field_at-w.ensures c.if-w-ne0.false c.field_at-d.result c.field_at-d.ensures c.if-d-ne0.false c.field_at-q.result c.field_at-q.ensures c.if-q-ne0.false c.field_at-u.result c.field_at-u.ensures c.if-u-ne0.false c.label_at-t.result c.label_at-t.ensures _ c.if-t-ne0.true c.wrong-then-t-ne0.ensures
+pub overflow_cast-told : goal.overflow_cast-told
+overflow_cast-told c =
+    omega (arith, c.unwrap_or.ensures, usual_within c.in_ok-under.under.value c.nearest-above.result 255 65535 (rw c.nearest-above.ensures (nearest_small c.args.level c.args.seen.now c.requires.0)) (omega arith) c.in_ok-under.ensures.small)
 
-pub nearest-requires : goal.nearest-requires
-nearest-requires c = c.requires.0
-
-pub overflow_sub-size : goal.overflow_sub-size
-overflow_sub-size c = omega (arith, c.label_at-t.ensures.upward)
-
-pub natural-requires : goal.natural-requires
-natural-requires c = omega (arith, c.label_at-t.ensures.inside, c.requires.2)
-
-pub placed-requires : goal.placed-requires
-placed-requires c = (
-  c.requires.0,
-  c.requires.1,
-  (let n = border_small c.args.kind in rw c.or_usual-width.ensures (usual_within _ _ 65535 (omega (arith, c.natural.ensures, n, c.label_at-t.ensures.inside, c.requires.2)) c.field_at-w.ensures.small)),
-  rw c.or_usual-depth.ensures (usual_within _ _ 255 (omega arith) c.field_at-d.ensures.small),
-  rw c.or_usual-rank.ensures (usual_within _ _ 255 (omega arith) c.field_at-q.ensures.small),
-)
+pub overflow_cast-told-2 : goal.overflow_cast-told-2
+overflow_cast-told-2 c =
+    omega (arith, c.unwrap_or-2.ensures, usual_within c.in_ok-width.width.value c.natural-usual.result 65535 65535 (let n = border_small c.args.kind in omega (arith, c.natural-usual.ensures, n, c.in_ok-label.ensures.inside, c.requires.1)) (omega arith) c.in_ok-width.ensures.small)
 
 pub returns : goal.returns
-returns c = fields_0 c.args.c _ c.args.level c.args.kind c.args.line.now c.args.at c.field_at-w.result c.field_at-w.ensures c.if-w-ne0.false c.field_at-d.result c.field_at-d.ensures c.if-d-ne0.false c.field_at-q.result c.field_at-q.ensures c.if-q-ne0.false c.field_at-u.result c.field_at-u.ensures c.if-u-ne0.false c.label_at-t.result c.label_at-t.ensures c.requires.4 c.requires.2 c.if-t-ne0.false _ _ _ _ _ (c.or_usual-parent.ensures ∙ rw c.nearest.ensures refl) (c.or_usual-width.ensures ∙ rw c.natural.ensures refl) c.or_usual-depth.ensures c.or_usual-rank.ensures c.placed.ensures
+returns c =
+    fields_0 c.args.seen.now c.args.level c.args.kind c.args.line.now c.args.at c.in_ok-width.width c.in_ok-width.ensures c.in_ok-depth.depth c.in_ok-depth.ensures c.in_ok-rank.rank c.in_ok-rank.ensures c.in_ok-under.under c.in_ok-under.ensures c.in_ok-label.label c.in_ok-label.ensures c.requires.3 c.requires.1 _ _ _ _ _
+    (c.unwrap_or.ensures ∙ rw c.nearest-above.ensures (usual_is c.in_ok-under.under _)) (c.unwrap_or-2.ensures ∙ rw c.natural-usual.ensures (usual_is c.in_ok-width.width _))
+    (c.unwrap_or-3.ensures ∙ usual_is c.in_ok-depth.depth _) (c.unwrap_or-4.ensures ∙ usual_is c.in_ok-rank.rank _) c.placed.ensures

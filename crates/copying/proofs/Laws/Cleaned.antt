@@ -1,5 +1,5 @@
 -- The clean copy of a plan file, as the code comes to it. Assumes nothing.
-use Rattle.std.specs.Prelude.{◌≡◌, List, [], ◌∷◌, ◌++◌, map, ℕ, zero, suc, ◌+◌, ◌≤◌, ◌<◌, length, take}
+use Rattle.std.specs.Prelude.{◌≡◌, List, [], ◌∷◌, ◌++◌, Result, Ok, Err, IsErrAnd, map, ℕ, zero, suc, ◌+◌, ◌≤◌, ◌<◌, length, take}
 use Rattle.std.proofs.Math.Path.{refl}
 use Rattle.std.proofs.Common.{sym, ap, ◌∙◌}
 use native.Mathlib.Omega.{arith}
@@ -15,7 +15,7 @@ use Rattle.plan.proofs.Laws.Questions.{both-none}
 use Rattle.plan.specs.declared.Record.{Record}
 use Rattle.plan.specs.declared.Lettered.{Lettered}
 use Rattle.plan.specs.declared.Refusal.{Refusal}
-use Rattle.planfile_spec.specs.declared.Reading.{Reading}
+use Rattle.planfile_spec.specs.Read.{Reading, plan_of, answer_of}
 use Rattle.planfile_spec.specs.Format.{trailer_of, entry, records_of, file_given}
 use Rattle.planfile_spec.specs.Reading.{columns_of, reading_of}
 use Rattle.planfile_spec.specs.FileSteps.{header_refusal, body_refusal, file_refusal}
@@ -26,8 +26,8 @@ use Rattle.content.specs.Content.{letters_of, file_content}
 use Rattle.content.specs.Clean.{copy, file_copy, copy_refusal}
 use Rattle.content.proofs.Promised.{read_copied}
 use Rattle.content.proofs.Laws.Promised.{copy_passed, copy_small}
-use Rattle.copying.specs.declared.Copied.{Copied}
-use Rattle.copying.specs.declared.Copied.TheVariants.{Written, Refused}
+use Rattle.planfile_spec.proofs.Laws.Answer.{read_answer, err_passes}
+use Rattle.plan.proofs.Laws.Answered.{answered_none, answered_some, refused_by, answers_err}
 use Rattle.copying.specs.Copied.{copied_of, output_after, Copies, cleaned_of, cleaned_after, size, Cleans}
 
 -- the records of a reading, with their labels
@@ -67,13 +67,9 @@ module _ (f : List ℕ) where
   unfolding columns_of
   plan_allowance = refl
 
-  refused-is : (r : Refusal) → r ≡ why → ¬ (why.number ≡ 0) → (out : List ℕ) → Cleans f out out (Refused r.number r.cell)
+  written_is : why.number ≡ 0 → (out out' : List ℕ) (d : Result ℕ Refusal) → d ≡ Ok (length (file_copy f)) → out' ≡ file_copy f ++ drop (length (file_copy f)) out → length (file_copy f) ≤ most_file → Cleans f out out' d
   unfolding cleaned_of cleaned_after size
-  refused-is r e z out = record { answers = rw (e, ne_eqb why.number 0 z) refl; output = refl; suffices = omega arith }
-
-  written_is : why.number ≡ 0 → (out out' : List ℕ) (d : Copied) → d ≡ Written (length (file_copy f)) → out' ≡ file_copy f ++ drop (length (file_copy f)) out → length (file_copy f) ≤ most_file → Cleans f out out' d
-  unfolding cleaned_of cleaned_after size
-  written_is z out out' d a b h = record { answers = a ∙ rw (eq-eqb why.number 0 z) refl; output = rw a b; suffices = rw a h }
+  written_is z out out' d a b h = record { answers = a ∙ sym (answered_none why _ z); output = rw a b; suffices = rw a h }
 
   -- ---- of a file that Read accepts
   module _ (z : why.number ≡ 0) where
@@ -103,14 +99,23 @@ module _ (f : List ℕ) where
     unfolding records_in records_of
     plan-records = rw plan-count (rows_same (row_at (lettered plan)) (entry f) 0 (trailer_of f).count (λ c p q. plan-row c (omega arith)))
 
-    copied_is : (out out' : List ℕ) (d : Copied) → most_file ≤ length out → Copies (records_of f) (letters_of f) (trailer_of f).allowance out out' d → Cleans f out out' d
+    copied_is : (out out' : List ℕ) (d : Result ℕ Refusal) → most_file ≤ length out → Copies (records_of f) (letters_of f) (trailer_of f).allowance out out' d → Cleans f out out' d
     unfolding copied_of output_after
     copied_is out out' d room g =
         let q : (copy_refusal (records_of f) (letters_of f) (trailer_of f).allowance (length out)).number ≡ 0 = read_copied f most_cells (length out) z room in
-        let a : d ≡ Written (length (file_copy f)) = g.answers ∙ rw (eq-eqb _ 0 q, copy-file f) refl in
+        let a : d ≡ Ok (length (file_copy f)) = g.answers ∙ answered_none _ _ q ∙ rw (copy-file f) refl in
         let b : out' ≡ file_copy f ++ drop (length (file_copy f)) out = g.output ∙ rw (a, copy-file f) refl in
         let s = copy_small (records_of f) (letters_of f) (trailer_of f).allowance (copy_passed (records_of f) (letters_of f) (trailer_of f).allowance (length out) q).1 in
         written_is z out out' d a b (rw (copy-file f) at s)
+
+  -- ---- of one that it refuses
+  pub clean-refused : (out : List ℕ) (e : Refusal) (y : Result ℕ Refusal) → Err e ≡ answer_of (reading_of f most_cells) → IsErrAnd y (λ d. d ≡ e) → Cleans f out out y
+  unfolding cleaned_of cleaned_after size
+  clean-refused out e y h p =
+      let g = h ∙ read_answer f most_cells in
+      let a = answers_err (length (file_copy f)) why e y (err_passes why (plan_of plan) e g) p in
+      let q : y ≡ Err why = a ∙ answered_some why (length (file_copy f)) (refused_by why (plan_of plan) e g).1 in
+      record { answers = a; output = rw q refl; suffices = rw q (omega arith) }
 
   -- ---- as the code has the reading
   module _ (p : Reading) (e : p ≡ reading_of f most_cells) where
@@ -120,13 +125,6 @@ module _ (f : List ℕ) where
         go : Dec (why.number ≡ 0) → why.number ≡ 0
         go (yes y) = y
         go (no y) = absurd (y (ap (λ (x : Refusal). x.number) (sym (ap (λ (x : Reading). x.refusal) e ∙ refused_reading y)) ∙ z))
-
-    pub clean-refused : ¬ (p.refusal.number ≡ 0) → (out : List ℕ) → Cleans f out out (Refused p.refusal.number p.refusal.cell)
-    clean-refused z out = go (ℕ_discrete why.number 0)
-      where
-        go : Dec (why.number ≡ 0) → Cleans f out out (Refused p.refusal.number p.refusal.cell)
-        go (yes y) = absurd (z (ap (λ (x : Reading). x.refusal.number) (e ∙ passed_reading y) ∙ none-refused))
-        go (no y) = refused-is p.refusal (ap (λ (x : Reading). x.refusal) e ∙ refused_reading y) y out
 
     module _ (z : p.refusal.number ≡ 0) where
       pub clean-long : trailer_size ≤ length f
@@ -148,7 +146,7 @@ module _ (f : List ℕ) where
       pub clean_allowance : p.allowance ≡ (trailer_of f).allowance
       clean_allowance = ap (λ (x : Reading). x.allowance) plan-is ∙ plan_allowance
 
-      pub clean_copied : (letters : List ℕ) (al : ℕ) → letters ≡ take (trailer_of f).begin f → al ≡ p.allowance → (out out' : List ℕ) (d : Copied) → most_file ≤ length out
+      pub clean_copied : (letters : List ℕ) (al : ℕ) → letters ≡ take (trailer_of f).begin f → al ≡ p.allowance → (out out' : List ℕ) (d : Result ℕ Refusal) → most_file ≤ length out
           → Copies (records_in (lettered p)) letters al out out' d → Cleans f out out' d
       clean_copied letters al l a out out' d room g =
           let s : letters ≡ letters_of f = unfold letters_of in l in

@@ -1,5 +1,5 @@
 -- What the loops write is the clean copy; the questions put to columns are those of the records in them; the answer as the code comes to it. Assumes nothing.
-use Rattle.std.specs.Prelude.{◌≡◌, Bool, true, false, ◌&&◌, leb, take, drop}
+use Rattle.std.specs.Prelude.{◌≡◌, Bool, true, false, ◌&&◌, Result, Ok, Err, IsErrAnd, ⊤, leb, take, drop}
 use Rattle.std.proofs.Math.Path.{refl, ap}
 use Rattle.std.proofs.Common.{sym, ◌∙◌}
 use mathlib.Core.List.{List, [], ◌∷◌, ◌++◌, map}
@@ -10,7 +10,6 @@ use Rattle.std.proofs.Math.Dec.{leb→le}
 use Rattle.std.proofs.Math.ListN.{length, get_or, length-append}
 use Rattle.std.proofs.lemmas.List.Edits.{sets-eq}
 use Rattle.std.proofs.Math.Seq.{take-length}
-use borrow.Author.Tests.{eq-eqb, ne_eqb}
 use Rattle.plan.specs.Limits.{between, most_cells, most_label, most_allowance, most_file, first_letter, last_letter}
 use Rattle.plan.specs.Forms.{record_size}
 use Rattle.plan.specs.Lists.{from}
@@ -18,7 +17,7 @@ use Rattle.plan.specs.Records.{bare, cells_of}
 use Rattle.plan.specs.Columns.{table, table_of}
 use Rattle.plan.proofs.Laws.Columns.{length_from}
 use Rattle.plan.proofs.Laws.Form.{sizes, records_short}
-use Rattle.plan.specs.Questions.{asked, at_each, every}
+use Rattle.plan.specs.Questions.{asked, at_each, every, answered, passed}
 use Rattle.plan.specs.Steps.{tree_refusal}
 use Rattle.plan.proofs.Laws.Questions.{both-none, asked_yes, each_none}
 use Rattle.plan.proofs.Laws.Steps.{and_right}
@@ -36,7 +35,7 @@ use Rattle.content.proofs.Laws.Clean.{append_assoc, append-nil, trailer_long, re
 use Rattle.content.proofs.Laws.Asked.{rows_refusal, copy_steps, copy-asks, each_row}
 use Rattle.content.proofs.Laws.Fine.{row-sound}
 use Rattle.content.proofs.Laws.Promised.{copy_passed, copy_small}
-use Rattle.copying.specs.declared.Copied.TheVariants.{Written, Refused}
+use Rattle.plan.proofs.Laws.Answered.{answered_none, answered_some, refused_by, answers_err, passes}
 use Rattle.copying.specs.Copied.{copied_of, output_after, Copies}
 use Rattle.copying_records.specs.Parts.{Put, narrow_to, form_to, text_at, labels_to, sum_to, row_from, records_to, Rows}
 use Rattle.copying.specs.Steps.{Ready, lettered_steps}
@@ -252,30 +251,29 @@ put_front a s b k p l =
     let e : 0 + length s ≤ length a = omega arith in
     (omega (arith, p.place), p.bytes ∙ sets-eq s a 0 e ∙ ap (λ x. s ++ drop x a) z)
 
--- in the words of the records, r being the refusal
-module _ (rs : List Record) (letters : List ℕ) (al : ℕ) (out : List ℕ) (r : Refusal) (e : r ≡ copy_refusal rs letters al (length out)) where
-  refused-is : ¬ (r.number ≡ 0) → Copies rs letters al out out (Refused r.number r.cell)
+module _ (l : Lettered) (letters : List ℕ) (al : ℕ) (out : List ℕ) where
+  abbrev steps : Refusal
+  steps = lettered_steps l letters al (length out)
+
+  abbrev copied : List ℕ
+  copied = copy (records_in l) letters al
+
+  pub copy-refused : (e : Refusal) (y : Result ℕ Refusal) → Err e ≡ passed steps → IsErrAnd y (λ d. d ≡ e) → Copies (records_in l) letters al out out y
   unfolding copied_of output_after
-  refused-is z = record { answers = rw (← e, ne_eqb r.number 0 z) refl; output = refl }
+  copy-refused e y h p =
+      let a = answers_err (length copied) steps e y h p in
+      let q : y ≡ Err steps = a ∙ answered_some steps (length copied) (refused_by steps tt e h).1 in
+      record { answers = a ∙ ap (λ r. answered r (length copied)) (steps_are l letters al (length out)); output = rw q refl }
 
-  written_is : r.number ≡ 0 → (after : List ℕ) (k : ℕ) → k ≡ length (copy rs letters al) → after ≡ copy rs letters al ++ drop (length (copy rs letters al)) out → Copies rs letters al out after (Written k)
-  unfolding copied_of output_after
-  written_is z after k a b = record { answers = rw (← e, eq-eqb r.number 0 z, a) refl; output = rw (a, b) refl }
+  module _ (u : ⊤) (h : Ok u ≡ passed steps) where
+    pub copy_ready : Ready l (length letters) × (al ≤ most_allowance) × (most_file ≤ length out)
+    copy_ready = steps_ready l letters al (length out) (passes steps u h)
 
-module _ (l : Lettered) (letters : List ℕ) (al : ℕ) (out : List ℕ) (r : Refusal) (e : r ≡ lettered_steps l letters al (length out)) where
-  asked_is : r ≡ copy_refusal (records_in l) letters al (length out)
-  asked_is = e ∙ steps_are l letters al (length out)
-
-  pub copy-refused : ¬ (r.number ≡ 0) → Copies (records_in l) letters al out out (Refused r.number r.cell)
-  copy-refused z = refused-is (records_in l) letters al out r asked_is z
-
-  pub copy_ready : r.number ≡ 0 → Ready l (length letters) × (al ≤ most_allowance) × (most_file ≤ length out)
-  copy_ready z = steps_ready l letters al (length out) (ap (λ (x : Refusal). x.number) (sym e) ∙ z)
-
-  pub copy_written : r.number ≡ 0 → (after : List ℕ) (k : ℕ) → Put out 0 (copy (records_in l) letters al) after k → Copies (records_in l) letters al out after (Written k)
-  copy_written z after k p =
-      let q : (copy_refusal (records_in l) letters al (length out)).number ≡ 0 = ap (λ (x : Refusal). x.number) (sym asked_is) ∙ z in
-      let c = copy_passed (records_in l) letters al (length out) q in
-      let m : length (copy (records_in l) letters al) ≤ length out = omega (arith, copy_small (records_in l) letters al c.1, c.0) in
-      let f = put_front out (copy (records_in l) letters al) after k p m in
-      written_is (records_in l) letters al out r asked_is z after k f.0 f.1
+    pub copy_written : (after : List ℕ) (k : ℕ) → Put out 0 copied after k → Copies (records_in l) letters al out after (Ok k)
+    unfolding copied_of output_after
+    copy_written after k p =
+        let q : (copy_refusal (records_in l) letters al (length out)).number ≡ 0 = ap (λ (x : Refusal). x.number) (sym (steps_are l letters al (length out))) ∙ passes steps u h in
+        let c = copy_passed (records_in l) letters al (length out) q in
+        let m : length copied ≤ length out = omega (arith, copy_small (records_in l) letters al c.1, c.0) in
+        let f = put_front out copied after k p m in
+        record { answers = rw f.0 (sym (answered_none _ (length copied) q)); output = rw f.0 f.1 }

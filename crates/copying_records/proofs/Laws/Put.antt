@@ -1,6 +1,6 @@
 -- Texts put one after another, and the parts of the file as the loops make them. Assumes nothing.
 use Rattle.std.specs.Prelude.{◌≡◌, refl, List, [], ◌∷◌, ◌++◌, Bool, true, ◌&&◌, cond, ℕ, zero, suc, ◌+◌, ◌*◌, ◌≤◌, ◌<◌, T, eqb, leb, length, take, drop, get_or, set}
-use Rattle.std.proofs.Common.{sym, ap, ◌∙◌, le_trans, add-one, arith, leb→le, length-append, length-drop, take-suc, get_or-drop, length-take-le}
+use Rattle.std.proofs.Common.{sym, ap, ◌∙◌, le_trans, add-one, arith, leb→le, length-append, length-drop, length-take-le}
 use Rattle.std.proofs.Math.Bool.{false}
 use Rattle.std.proofs.Math.Decide.{ℕ_discrete}
 use Rattle.std.proofs.lemmas.List.Edits.{sets}
@@ -13,6 +13,7 @@ use Rattle.plan.specs.declared.forms.Form.{Form}
 use Rattle.plan.specs.declared.forms.Form.TheVariants.{Old, Wide}
 use Rattle.content.specs.Clean.{record_bytes}
 use Rattle.content.proofs.Laws.Clean.{record_length}
+use Rattle.listing.specs.Put as listed
 use Rattle.copying_records.specs.Parts.{Put, narrow_to, form_to, Holds, text_at, labels_to, sum_to, row_from, records_to, Texts, Rows}
 
 sets_append : (s t l : List ℕ) (i : ℕ) → sets l i (s ++ t) ≡ sets (sets l i s) (i + length s) t
@@ -30,25 +31,9 @@ then {a} {b} {c} {s} {t} {i} {j} {k} p q =
 put-start : (a : List ℕ) (i : ℕ) → Put a i [] a i
 put-start a i = record { bytes = refl; place = omega arith; as_long = refl }
 
-pub put_one : (a : List ℕ) (i b : ℕ) → Put a i (b ∷ []) (set a i b) (i + 1)
-put_one a i b = record { bytes = refl; place = refl; as_long = length-sets a i (b ∷ []) }
-
--- ---- the loop that copies a part, byte by byte
-module _ {a b : List ℕ} (s : List ℕ) {i n : ℕ} (p : Put a i (take n s) b (i + n)) where
-  put-more : n < length s → Put a i (take (n + 1) s) (set b (i + n) (get_or s n 0)) (i + (n + 1))
-  put-more h =
-      let e : take (n + 1) s ≡ take n s ++ (get_or s n 0 ∷ []) = rw add-one (take-suc s n 0 h) in
-      let f : i + (n + 1) ≡ i + n + 1 = omega arith in
-      rw (e, f) (then p (put_one b (i + n) (get_or s n 0)))
-
-pub part-start : (a s : List ℕ) (i : ℕ) → Put a i (take 0 s) a (i + 0)
-part-start a s i = let e : i + 0 ≡ i = omega arith in rw e (put-start a i)
-
-pub part-more : (a b f : List ℕ) (i n start : ℕ) → Put a i (take n (drop start f)) b (i + n) → start + n < length f → Put a i (take (n + 1) (drop start f)) (set b (i + n) (get_or f (start + n) 0)) (i + (n + 1))
-part-more a b f i n start p h = rw (← get_or-drop start f n 0) (put-more (drop start f) p (rw (length-drop start f) (omega arith)))
-
-pub part-all : (a b s : List ℕ) (i n m : ℕ) → Put a i (take n s) b (i + n) → n ≡ m → Put a i (take m s) b (i + n)
-part-all a b s i n m p e = rw (← e) p
+-- what is put as in a listing
+pub put-listed : {a b s : List ℕ} {i j : ℕ} → listed.Put a i s b j → Put a i s b j
+put-listed {a} {b} {s} {i} p = record { bytes = p.bytes; place = p.place; as_long = ap length p.bytes ∙ length-sets a i s }
 
 -- ---- the loop over the labels, after c cells
 pub text-long : (ls ss letters : List ℕ) (c : ℕ) → get_or ss c 0 + get_or ls c 0 ≤ length letters → length (text_at ls ss letters c) ≡ get_or ls c 0

@@ -1,6 +1,5 @@
-use Rattle.copying_records.proofs.Laws.Put.{then}
+use Rattle.copying_records.proofs.Laws.Put.{then, put-listed}
 use Rattle.copying_records.proofs.put_pair.Goals as goal
 
--- src/lib.rt:22:1
 pub returns : goal.returns
-returns c = then c.put-high.ensures c.put.ensures
+returns c = then (put-listed c.put_byte-high.ensures) (put-listed c.put_byte.ensures)

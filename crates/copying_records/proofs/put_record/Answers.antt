@@ -7,7 +7,7 @@ pub put_old-requires : goal.put_old-requires
 put_old-requires c = unfold Holds record_size in rw c.in-Old.is at c.requires
 
 pub put_wide-requires : goal.put_wide-requires
-put_wide-requires c = (c.requires.1, unfold record_size in rw c.in-Wide.is at c.requires.2)
+put_wide-requires c = unfold record_size in rw c.in-Wide.is at c.requires.1
 
 pub returns-in-Old : goal.returns-in-Old
 returns-in-Old c = rw (c.in-Old.is, record_old _) c.put_old.ensures

@@ -7,15 +7,9 @@ use Rattle.std.specs.Float.Ieee.{of_bits, add, mul, lt, to_unsigned, round, sum,
 use Rattle.std.specs.Int.Count.{count_trailing_zeros}
 use Rattle.listing.specs.Printed.{digits, decimal}
 use Rattle.listing.specs.Put.{Put}
-use Rattle.listing.proofs.Laws.Printed.{at_most}
+use Rattle.listing.proofs.Laws.Printed.{twenty}
 use Rattle.listing.proofs.Laws.Put.{then}
 use Rattle.decimals.specs.Fixed.{point, fixed, scaled, thousandths, millimetres}
-
-pub nineteen : {n : ℕ} → 10 ≤ n → n < 2 ^ 64 → length (decimal (n / 10)) ≤ 19
-nineteen {n} l h = at_most 18 (n / 10) (omega arith)
-
-pub twenty : {n : ℕ} → n < 2 ^ 64 → length (decimal n) ≤ 20
-twenty {n} h = at_most 19 n (omega arith)
 
 pub fixed_short : {n : ℕ} → n < 2 ^ 64 → length (fixed n) ≤ 24
 unfolding fixed

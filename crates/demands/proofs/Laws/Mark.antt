@@ -1,5 +1,5 @@
 -- What Mark refuses, and what it answers of the positions that Layout writes. Nothing that a reader must believe stands here. Assumes nothing.
-use Rattle.std.specs.Prelude.{◌≡◌, refl, List, ℕ, ◌≤◌, length, ℤ}
+use Rattle.std.specs.Prelude.{◌≡◌, refl, List, ℕ, ◌≤◌, length, ℤ, Result, Ok}
 use Rattle.std.proofs.Common.{sym, ap, ◌∙◌, inl, inr}
 use Rattle.plan.specs.Limits.{scratch_size}
 use Rattle.plan.specs.Plan.{Table}
@@ -9,22 +9,21 @@ use Rattle.rules.specs.Placement.{placed}
 use Rattle.rules.specs.Verdict.{Breaks}
 use Rattle.layout.specs.Laid.{Lays}
 use Rattle.layout.proofs.Laws.Promised.{promised}
-use Rattle.layout.specs.declared.Laid.TheVariants.{Sheet}
-use Rattle.mark_spec.specs.Marked.{marked_of, mark_scratch_after, Marks}
+use Rattle.mark_spec.specs.Marked.{full_of, marked_of, mark_scratch_after, Marks}
 use Rattle.mark_spec.specs.Promises.{Narrowest, WideBy, IsFull, IsWide, IsBroken, IsRefused, OneOf, first, second, third, fourth}
 use Rattle.mark_spec.proofs.Promised.{one_answer, refused-by, full_marks, full_with, wide_by, broken-by}
 use Rattle.mark_spec.proofs.Laws.Marked.{unrefused}
 use Rattle.mark_spec.specs.declared.Marked.{Marked}
-use Rattle.mark_spec.specs.declared.Marked.TheVariants.{Full}
+use Rattle.demands.specs.Outcomes.{sheet_of}
 use Rattle.demands.proofs.Laws.Between.{none_or_refused}
 
 pub as_check : (t : Table) (ps : List ℤ) (al s : ℕ) → scratch_size ≤ s → refusal mark (mark_given t ps al s) ≡ refusal check (check_given t al ps)
 as_check = unrefused
 
-pub layout-full : (t : Table) (al : ℕ) (s s' : List ℕ) (ps ps' : List ℤ) (w h : ℕ) → Lays t al s s' ps ps' (Sheet w h)
-    → (v v' : List ℕ) (r : Marked) → Marks t ps' al v v' r → scratch_size ≤ length v → r ≡ Full w h
+pub layout-full : (t : Table) (al : ℕ) (s s' : List ℕ) (ps ps' : List ℤ) (w h : ℕ) → Lays t al s s' ps ps' (sheet_of w h)
+    → (v v' : List ℕ) (r : Result Marked Refusal) → Marks t ps' al v v' r → scratch_size ≤ length v → r ≡ Ok (full_of w h)
 layout-full t al s s' ps ps' w h l v v' r g n =
-    let p = promised t al s s' ps ps' w h l in
+    let p = promised t al s s' ps ps' _ l in
     (full_with t ps' al v v' r g (as_check t ps' al (length v) n ∙ p.unrefused) w h).1
     (record { narrowest = record { keeps = p.keeps; none_narrower = λ q k. (p.least q k).wide }; wide = p.wide; deep = p.deep })
 
@@ -33,7 +32,7 @@ module _ (t : Table) (ps : List ℤ) (al : ℕ) (s : List ℕ) where
   abbrev why : Refusal
   why = refusal mark (mark_given t ps al (length s))
 
-  abbrev answered : Marked
+  abbrev answered : Result Marked Refusal
   answered = marked_of t ps al why
 
   call : Marks t ps al s (mark_scratch_after answered s) answered

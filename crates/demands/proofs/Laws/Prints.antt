@@ -1,9 +1,8 @@
 -- What List prints is what Read, Layout and Label give. Nothing that a reader must believe stands here. Assumes nothing.
-use Rattle.std.specs.Prelude.{◌≡◌, ℕ, zero, suc, ◌+◌, ◌≤◌, ◌<◌, leb, ℤ, length, take, drop}
+use Rattle.std.specs.Prelude.{◌≡◌, ℕ, zero, suc, ◌+◌, ◌≤◌, ◌<◌, leb, ℤ, length, take, drop, Result, Ok}
 use Rattle.std.proofs.Math.Path.{refl, sym, ap}
 use Rattle.std.proofs.Common.{◌∙◌, arith}
 use mathlib.Core.List.{List, ◌++◌, map, append-nil}
-use Rattle.std.proofs.Math.Decide.{ℕ_discrete}
 use borrow.Author.Tests.{eq-eqb, ne_eqb, le-leb}
 use Rattle.whole.specs.Whole.{plus}
 use Rattle.plan.specs.Limits.{most_cells}
@@ -12,12 +11,13 @@ use Rattle.plan.specs.Plan.{Table, Is}
 use Rattle.plan.specs.Records.{cells_of}
 use Rattle.plan.specs.Questions.{none, asked, or_else, list, refusal, list_given}
 use Rattle.plan.proofs.Laws.Kept.{asked_true, none_first}
+use Rattle.plan.proofs.Laws.Answered.{refused_by}
 use Rattle.plan.proofs.Laws.Questions.{both-none}
 use Rattle.plan.specs.declared.Record.{Record}
 use Rattle.plan.specs.declared.Refusal.{Refusal}
 use Rattle.rules.specs.Placement.{Placement, placed, Agree, width, rows}
 use Rattle.contours.specs.Sheet.{sheet}
-use Rattle.planfile_spec.specs.declared.Reading.{Reading}
+use Rattle.planfile_spec.specs.Read.{Reading}
 use Rattle.planfile_spec.specs.Format.{trailer_of, entry}
 use Rattle.planfile_spec.specs.Reading.{columns_of, reading_of}
 use Rattle.planfile_spec.specs.FileSteps.{header_refusal, body_refusal, file_refusal}
@@ -25,16 +25,12 @@ use Rattle.planfile_spec.proofs.Laws.File as Law
 use Rattle.planfile_spec.proofs.Laws.Examined.{zero_of, Headed, header_read, same-table}
 use Rattle.layout.specs.Laid.{Lays}
 use Rattle.layout.proofs.Laws.Laid.{sheet-wide, sheet-deep}
-use Rattle.layout.specs.declared.Laid.TheVariants.{Sheet}
 use Rattle.listing.specs.Printed.{Bytes, sheet_line, refused_line, lines_joined}
 use Rattle.printing.specs.Printing.{Lists, read_table, first_line, cell_of, listing_of, text_of, cells_text, Taken}
 use Rattle.printing.proofs.Laws.Taken.{text-plan}
-use Rattle.printing.specs.declared.Listed.{Listed}
-use Rattle.printing.specs.declared.Listed.TheVariants.{Text}
-use Rattle.read_entry.specs.declared.ReadAnswer.TheVariants.{Plan, Refused}
 use Rattle.read_entry.specs.Read.{read_refusal, read_answered, Reads}
 use Rattle.label_entry.specs.Label.{label_of}
-use Rattle.demands.specs.Outcomes.{printed_cell, printed_sheet}
+use Rattle.demands.specs.Outcomes.{sheet_of, plan_of, refusing, printed_cell, printed_sheet}
 use Rattle.demands.proofs.Laws.Layout.{sheet-written}
 use Rattle.demands.proofs.Laws.List as listing
 use Rattle.demands.proofs.Laws.ReadThen.{told, first-records}
@@ -89,7 +85,7 @@ module _ (f : Bytes) where
   unfolding reading_of columns_of
   text-refused r e z = refused-text (columns_of r 0 0 (entry f)) (rw (e, ne_eqb r.number 0 z)) z
 
-module _ (f : Bytes) (t t' : List Record) (n al : ℕ) (g : Reads f t t' (Plan n al)) (s s' : List ℕ) (ps ps' : List ℤ) (w h : ℕ) (l : Lays (cells_of (take n t')) al s s' ps ps' (Sheet w h)) where
+module _ (f : Bytes) (t t' : List Record) (n al : ℕ) (g : Reads f t t' (plan_of n al)) (s s' : List ℕ) (ps ps' : List ℤ) (w h : ℕ) (l : Lays (cells_of (take n t')) al s s' ps ps' (sheet_of w h)) where
   passes : (file_refusal f).number ≡ 0
   passes = (both-none _ (file_refusal f) (zero_of _ _ (Law.read_refusal f (length t)) (told f t t' n al g).0)).1
 
@@ -104,27 +100,20 @@ module _ (f : Bytes) (t t' : List Record) (n al : ℕ) (g : Reads f t t' (Plan n
   text-is =
       sym (text-plan (plan f) f (taken f passes))
       ∙ lines_same (plan f) f (cells_of (take n t')) n al w h (placed ps') (sym (told f t t' n al g).1) (sym (told f t t' n al g).2) cells_are
-      (ap plus (sheet-wide (cells_of (take n t')) al s s' ps ps' w h l)) (ap plus (sheet-deep (cells_of (take n t')) al s s' ps ps' w h l)) long (sheet-written (cells_of (take n t')) al s s' ps ps' w h l)
+      (ap plus (sheet-wide (cells_of (take n t')) al s s' ps ps' _ l)) (ap plus (sheet-deep (cells_of (take n t')) al s s' ps ps' _ l)) long (sheet-written (cells_of (take n t')) al s s' ps ps' w h l)
 
-  pub prints : (out out' : Bytes) (r : Listed) → Lists f out out' r → refusal list (list_given (length out)) ≡ none
-      → (r ≡ Text (length (printed_sheet (cells_of (take n t')) n al w h (placed ps') (label_of f))))
+  pub prints : (out out' : Bytes) (r : Result ℕ Refusal) → Lists f out out' r → refusal list (list_given (length out)) ≡ none
+      → (r ≡ Ok (length (printed_sheet (cells_of (take n t')) n al w h (placed ps') (label_of f))))
       × (out' ≡ printed_sheet (cells_of (take n t')) n al w h (placed ps') (label_of f) ++ drop (length (printed_sheet (cells_of (take n t')) n al w h (placed ps') (label_of f))) out)
   prints out out' r a z = let k = listing.gives f out out' r a z in (rw text-is at k.answers, rw text-is at k.bytes)
 
 -- Read refuses
-refused-is : (f : Bytes) (k c : ℕ) (r : Refusal) → Refused k c ≡ read_answered f r → (¬ (r.number ≡ 0)) × (r.number ≡ k) × (r.cell ≡ c)
+refused-is : (f : Bytes) (k c : ℕ) (r : Refusal) → refusing k c ≡ read_answered f r → (¬ (r.number ≡ 0)) × (r.number ≡ k) × (r.cell ≡ c)
 unfolding read_answered
-refused-is f k c r e = go (ℕ_discrete r.number 0)
-  where
-    same : (m a : ℕ) → Refused k c ≡ Refused m a → (m ≡ k) × (a ≡ c)
-    same m a q = (cc, cc)
+refused-is f k c r e = let (q, n) = refused_by r _ (record { number = k; cell = c }) e in (n, ap (λ (x : Refusal). x.number) (sym q), ap (λ (x : Refusal). x.cell) (sym q))
 
-    go : Dec (r.number ≡ 0) → (¬ (r.number ≡ 0)) × (r.number ≡ k) × (r.cell ≡ c)
-    go (yes z) = let q = rw (eq-eqb r.number 0 z) at e in let w : ◌≡◌ {A = ℕ} 0 1 = cc in absurd (omega arith)
-    go (no z) = let (a, b) = same _ _ (rw (ne_eqb r.number 0 z) at e) in (z, a, b)
-
-pub prints_refusal : (f : Bytes) (t t' : List Record) (k c : ℕ) → Reads f t t' (Refused k c) → most_cells ≤ length t → (out out' : Bytes) (r : Listed) → Lists f out out' r → refusal list (list_given (length out)) ≡ none
-    → (r ≡ Text (length (refused_line k c))) × (out' ≡ refused_line k c ++ drop (length (refused_line k c)) out)
+pub prints_refusal : (f : Bytes) (t t' : List Record) (k c : ℕ) → Reads f t t' (refusing k c) → most_cells ≤ length t → (out out' : Bytes) (r : Result ℕ Refusal) → Lists f out out' r → refusal list (list_given (length out)) ≡ none
+    → (r ≡ Ok (length (refused_line k c))) × (out' ≡ refused_line k c ++ drop (length (refused_line k c)) out)
 prints_refusal f t t' k c g room out out' r a z =
     let (some, ek, ec) = refused-is f k c (file_refusal f) (g.answers ∙ ap (read_answered f) (read-enough f (length t) room)) in
     let e : text_of f ≡ refused_line k c = text-refused f (file_refusal f) (read-most f) some ∙ rw (ek, ec) in

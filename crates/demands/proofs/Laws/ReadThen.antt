@@ -1,14 +1,14 @@
 -- Read's answer, and what Label and Layout say of what it gave. Assumes nothing.
-use Rattle.std.specs.Prelude.{◌≡◌, List, ◌++◌, ℕ, ◌+◌, ◌-◌, ◌*◌, ◌≤◌, ◌<◌, get_or, take, drop}
-use Rattle.std.proofs.Common.{sym, ◌∙◌, arith, eq-eqb, ne_eqb}
+use Rattle.std.specs.Prelude.{◌≡◌, List, ◌++◌, ℕ, ◌+◌, ◌-◌, ◌*◌, ◌≤◌, ◌<◌, get_or, take, drop, Result, Ok, Err}
+use Rattle.std.proofs.Common.{sym, ap, ◌∙◌, arith}
 use Rattle.std.proofs.Math.Nat.{zero-add}
-use Rattle.std.proofs.Math.Decide.{ℕ_discrete}
 use Rattle.std.proofs.Math.ListN.{length, get_or-append}
 use Rattle.std.proofs.Math.Seq.{take-append_seam}
 use Rattle.plan.specs.Limits.{scratch_size}
 use Rattle.plan.proofs.Laws.Columns.{get_or_from}
 use Rattle.plan.specs.Records.{cells_of}
 use Rattle.plan.specs.Questions.{none, layout, refusal, layout_given}
+use Rattle.plan.proofs.Laws.Answered.{not_refused, answered_none, answered_some}
 use Rattle.plan.proofs.Laws.Questions.{both-none}
 use Rattle.plan.specs.declared.Record.{Record}
 use Rattle.plan.specs.declared.Refusal.{Refusal}
@@ -18,37 +18,36 @@ use Rattle.planfile_spec.specs.FileSteps.{file_refusal}
 use Rattle.planfile_spec.proofs.Laws.File as Law
 use Rattle.planfile_spec.proofs.Laws.Examined.{zero_of}
 use Rattle.planfile_spec.proofs.Laws.ReadThen.{file-label, file-layout, part_of_record}
-use Rattle.read_entry.specs.declared.ReadAnswer.{ReadAnswer}
-use Rattle.read_entry.specs.declared.ReadAnswer.TheVariants.{Plan, Refused}
+use Rattle.read_entry.specs.declared.ReadPlan.{ReadPlan}
 use Rattle.read_entry.specs.Read.{read_refusal, read_answered, table_after, Reads}
 use Rattle.label_entry.specs.Label.{label_of}
+use Rattle.demands.specs.Outcomes.{plan_of}
 
 -- ---- the answer
-module _ (f : List ℕ) (t t' : List Record) (r : ReadAnswer) (l : Reads f t t' r) where
+module _ (f : List ℕ) (t t' : List Record) (r : Result ReadPlan Refusal) (l : Reads f t t' r) where
   abbrev why : Refusal
   why = read_refusal f (length t)
 
-  pub gives : why ≡ none → (r ≡ Plan (trailer_of f).count (trailer_of f).allowance) × (t' ≡ records_of f ++ drop (trailer_of f).count t)
+  pub gives : why ≡ none → (r ≡ plan_of (trailer_of f).count (trailer_of f).allowance) × (t' ≡ records_of f ++ drop (trailer_of f).count t)
   unfolding read_answered table_after
-  gives z = let e : r ≡ Plan (trailer_of f).count (trailer_of f).allowance = l.answers ∙ rw z in (e, l.table ∙ rw e)
+  gives z = let e : r ≡ plan_of (trailer_of f).count (trailer_of f).allowance = l.answers ∙ answered_none why _ (ap (λ (x : Refusal). x.number) z) in (e, l.table ∙ rw e)
 
-  pub unchanged : ¬ (why.number ≡ 0) → (r ≡ Refused why.number why.cell) × (t' ≡ t)
+  pub unchanged : ¬ (why.number ≡ 0) → (r ≡ Err why) × (t' ≡ t)
   unfolding read_answered table_after
-  unchanged z = let e : r ≡ Refused why.number why.cell = l.answers ∙ rw (ne_eqb why.number 0 z) in (e, l.table ∙ rw e)
+  unchanged z = let e : r ≡ Err why = l.answers ∙ answered_some why _ z in (e, l.table ∙ rw e)
 
 -- ---- what an answer with a plan says
-accepted : (f : List ℕ) (n al : ℕ) (r : Refusal) → Plan n al ≡ read_answered f r → (r.number ≡ 0) × (n ≡ (trailer_of f).count) × (al ≡ (trailer_of f).allowance)
+in_ok : {x y : ReadPlan} → ◌≡◌ {A = Result ReadPlan Refusal} (Ok x) (Ok y) → x ≡ y
+in_ok e = cc
+
+accepted : (f : List ℕ) (n al : ℕ) (r : Refusal) → plan_of n al ≡ read_answered f r → (r.number ≡ 0) × (n ≡ (trailer_of f).count) × (al ≡ (trailer_of f).allowance)
 unfolding read_answered
-accepted f n al r e = go (ℕ_discrete r.number 0)
-  where
-    same : (m k : ℕ) → Plan n al ≡ Plan m k → (n ≡ m) × (al ≡ k)
-    same m k q = (cc, cc)
+accepted f n al r e =
+    let z = not_refused r _ _ e in
+    let q = in_ok (e ∙ answered_none r _ z) in
+    (z, ap (λ (p : ReadPlan). p.count) q, ap (λ (p : ReadPlan). p.allowance) q)
 
-    go : Dec (r.number ≡ 0) → (r.number ≡ 0) × (n ≡ (trailer_of f).count) × (al ≡ (trailer_of f).allowance)
-    go (yes z) = let (a, b) = same _ _ (rw (eq-eqb r.number 0 z) at e) in (z, a, b)
-    go (no z) = let q = rw (ne_eqb r.number 0 z) at e in let w : ◌≡◌ {A = ℕ} 0 1 = cc in absurd (omega arith)
-
-module _ (f : List ℕ) (t t' : List Record) (n al : ℕ) (l : Reads f t t' (Plan n al)) where
+module _ (f : List ℕ) (t t' : List Record) (n al : ℕ) (l : Reads f t t' (plan_of n al)) where
   pub told : ((read_refusal f (length t)).number ≡ 0) × (n ≡ (trailer_of f).count) × (al ≡ (trailer_of f).allowance)
   told = accepted f n al (read_refusal f (length t)) l.answers
 

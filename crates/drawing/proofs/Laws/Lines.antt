@@ -1,5 +1,5 @@
 -- A line as the code reads it, and what it does to the sketch. Assumes nothing.
-use Rattle.std.specs.Prelude.{◌≡◌, refl, List, Bool, true, false, ◌&&◌, ℕ, ◌+◌, ◌-◌, ◌*◌, ◌≤◌, ◌<◌, eqb, ℤ, pos, ◌-ℤ◌, length, get_or, take, drop, set}
+use Rattle.std.specs.Prelude.{◌≡◌, refl, List, Bool, true, false, ◌&&◌, ℕ, ◌+◌, ◌*◌, ◌≤◌, ◌<◌, eqb, ℤ, pos, length, get_or, drop, set}
 use Rattle.std.proofs.Common.{sym, ap, ◌∙◌, arith, get_or-set_same, get_or-set_other}
 use Rattle.std.proofs.Math.Option.{Option, none, some}
 use Rattle.std.proofs.Math.Decide.{ℕ_discrete, dec_lt}
@@ -9,14 +9,16 @@ use Rattle.whole.specs.Range.{in_range, InRange}
 use Rattle.plan.specs.Limits.{most_cells, farthest}
 use Rattle.listing.specs.Printed.{Bytes, sheet_word}
 use Rattle.drawing_spec.specs.Words.{words, first, others, natural, integer}
-use Rattle.drawing_spec.specs.Said.{hash, Line, passed, unread, gives, wrong, begins, passes, numbered, by_words, line_said, goes, stops, with_cell, step}
+use Rattle.drawing_spec.specs.Said.{hash, Line, passed, unread, gives, wrong, Sketch, begins, passes, numbered, by_words, line_said, goes, stops, with_cell, step}
+use Rattle.drawing_spec.specs.declared.Fault.{Fault}
 use Rattle.drawing_spec.specs.declared.Fault.TheVariants.{NoNumber, NoCell, Twice, Far}
-use Rattle.drawing.specs.Steps.{capped, number_told, near_up, integer_told, line_told, Next, Held, sketch, fault_said, stepped, Steps}
-use Rattle.drawing.proofs.Laws.Numbers.{capped_low, capped_high, up_low, down-near, down-up}
+use Rattle.drawing.specs.Steps.{beyond, capped, number_told, Cut, IntegerTold, NumberedTold, part, CornerTold, LineTold, Next, Held, sketch, stepped, Steps, Turned}
+use Rattle.drawing.proofs.Laws.Numbers.{capped_low, capped_high}
+use Rattle.whole.proofs.Laws.Range.{says_within}
+use Rattle.whole.proofs.Laws.Says.{holds}
+use Rattle.std.specs.Prelude.{Option as Option', Some, None, Result, Ok, Err, IsErrAnd, ⊤}
 use Rattle.drawing.specs.declared.Span.{Span}
-use Rattle.drawing.specs.declared.Number.{Number}
-use Rattle.drawing.specs.declared.Signed.{Signed}
-use Rattle.drawing.specs.declared.Told.{Told}
+use Rattle.drawing.specs.declared.Corner.{Corner}
 
 -- ---- lines that are passed over
 module _ (f : Bool) (w : Bytes) where
@@ -37,85 +39,83 @@ module _ (f : Bool) (w : Bytes) where
   passes-sheet r n h e q = rw (ne_eqb (length w) 0 n, ne_eqb (get_or w 0 0) hash h, e) q
 
 -- ---- three words
-no_way : {A : Type 0} → ◌≡◌ {A = Bool} true false → A
-no_way e = let z : ◌≡◌ {A = ℕ} 0 1 = cc in absurd (omega arith)
-
-pub three-cell : (c : Number) → c.number ≡ false → (o : Option ℕ) (u v : Option ℤ) → c ≡ number_told o → (r : Told) → r ≡ line_told unread → r ≡ line_told (numbered o u v)
+three-cell : (o : Option ℕ) (u v : Option ℤ) → None ≡ number_told o → NumberedTold (numbered o u v) None
 unfolding numbered number_told
-three-cell c n none u v e r q = q
-three-cell c n (some k) u v e r q = no_way (sym (ap (λ (z : Number). z.number) e) ∙ n)
+three-cell none u v e = tt
+three-cell (some k) u v e = cc
 
-pub three-x : (x : Signed) → x.number ≡ false → (o : Option ℕ) (u v : Option ℤ) → x ≡ integer_told u → (r : Told) → r ≡ line_told unread → r ≡ line_told (numbered o u v)
-unfolding numbered integer_told
-three-x x n none none v e r q = q
-three-x x n none (some k) v e r q = q
-three-x x n (some c) none v e r q = q
-three-x x n (some c) (some k) v e r q = no_way (sym (ap (λ (z : Signed). z.number) e) ∙ n)
+three-x : (o : Option ℕ) (u v : Option ℤ) → IntegerTold u None → NumberedTold (numbered o u v) None
+unfolding numbered
+three-x none u v e = tt
+three-x (some c) none v e = tt
+three-x (some c) (some k) v e = absurd e
 
-pub three-y : (y : Signed) → y.number ≡ false → (o : Option ℕ) (u v : Option ℤ) → y ≡ integer_told v → (r : Told) → r ≡ line_told unread → r ≡ line_told (numbered o u v)
-unfolding numbered integer_told
-three-y y n none none none e r q = q
-three-y y n none none (some k) e r q = q
-three-y y n none (some a) none e r q = q
-three-y y n none (some a) (some k) e r q = q
-three-y y n (some c) none none e r q = q
-three-y y n (some c) none (some k) e r q = q
-three-y y n (some c) (some a) none e r q = q
-three-y y n (some c) (some a) (some k) e r q = no_way (sym (ap (λ (z : Signed). z.number) e) ∙ n)
+three-y : (o : Option ℕ) (u v : Option ℤ) → IntegerTold v None → NumberedTold (numbered o u v) None
+unfolding numbered
+three-y none u v e = tt
+three-y (some c) none v e = tt
+three-y (some c) (some a) none e = tt
+three-y (some c) (some a) (some k) e = absurd e
 
-pub three-all : (c : Number) (x y : Signed) → c.number ≡ true → x.number ≡ true → y.number ≡ true → (o : Option ℕ) (u v : Option ℤ) → c ≡ number_told o → x ≡ integer_told u → y ≡ integer_told v
-    → record { kind = 2; cell = c.value; x_near = x.near; x = x.value; y_near = y.near; y = y.value } ≡ line_told (numbered o u v)
-unfolding numbered number_told integer_told line_told
-three-all c x y p q r none u v a b d = no_way (sym p ∙ ap (λ (z : Number). z.number) a)
-three-all c x y p q r (some k) none v a b d = no_way (sym q ∙ ap (λ (z : Signed). z.number) b)
-three-all c x y p q r (some k) (some z) none a b d = no_way (sym r ∙ ap (λ (z : Signed). z.number) d)
-three-all c x y p q r (some k) (some z) (some w) a b d = rw (a, b, d)
-
-pub told-unread : (r : Told) → r ≡ record { kind = 1; cell = 0; x_near = false; x = 0; y_near = false; y = 0 } → r ≡ line_told unread
-unfolding line_told
-told-unread r e = e
-
--- ---- a line
-module _ (line : Bytes) (f : Bool) (k : ℕ) (e : f ≡ eqb k 1) where
-  line-passed : (r : Told) → passes f (first (words line)) ≡ true → r ≡ record { kind = 0; cell = 0; x_near = false; x = 0; y_near = false; y = 0 } → r ≡ line_told (line_said k line)
-  unfolding line_said by_words line_told
-  line-passed r p q = rw (← e, p) q
-
-  line-numbers : (r : Told) → passes f (first (words line)) ≡ false
-      → r ≡ line_told (numbered (natural (first (words line))) (integer (first (others (words line)))) (integer (first (others (others (words line)))))) → r ≡ line_told (line_said k line)
-  unfolding line_said by_words
-  line-numbers r p q = rw (← e, p) q
+three-all : (c : ℕ) (x y : ℤ) (o : Option ℕ) (u v : Option ℤ) → Some c ≡ number_told o → IntegerTold u (Some x) → IntegerTold v (Some y) → NumberedTold (numbered o u v) (Some (record { cell = c; x = x; y = y }))
+unfolding numbered number_told
+three-all c x y none u v a b d = cc
+three-all c x y (some k) none v a b d = absurd b
+three-all c x y (some k) (some z) none a b d = absurd d
+three-all c x y (some k) (some z) (some w) a b d = record { cell = cc; x_cut = b; y_cut = d }
 
 -- the words as the code finds them
-abbrev part : Bytes → Span → Bytes
-part line a = take (a.end - a.start) (drop a.start line)
+module _ (line : Bytes) (a : Span) where
+  pub corner-cell : None ≡ number_told (natural (part line a)) → CornerTold line a None
+  corner-cell e = three-cell _ _ _ e
 
-module _ (line : Bytes) (f : Bool) (k : ℕ) (e : f ≡ eqb k 1) (a : Span) (na : Next line 0 a) where
-  pub line_pass : passes f (part line a) ≡ true → (r : Told) → r ≡ record { kind = 0; cell = 0; x_near = false; x = 0; y_near = false; y = 0 } → r ≡ line_told (line_said k line)
-  line_pass p r q = line-passed line f k e r (ap (passes f) na.word ∙ p) q
+  module _ (b : Span) (nb : Next line a.end b) where
+    x_word : (r : Option' ℤ) → IntegerTold (integer (part line b)) r → IntegerTold (integer (first (words (drop a.end line)))) r
+    x_word r h = rw nb.word h
 
-  module _ (b d : Span) (nb : Next line a.end b) (nd : Next line b.end d) where
-    second : first (others (words line)) ≡ part line b
-    second = ap first na.rest ∙ nb.word
+    pub corner-x : IntegerTold (integer (part line b)) None → CornerTold line a None
+    corner-x e = three-x _ _ _ (x_word None e)
 
-    third : first (others (others (words line))) ≡ part line d
-    third = ap (λ ws. first (others ws)) na.rest ∙ ap first nb.rest ∙ nd.word
+    module _ (d : Span) (nd : Next line b.end d) where
+      y_word : (r : Option' ℤ) → IntegerTold (integer (part line d)) r → IntegerTold (integer (first (others (words (drop a.end line))))) r
+      y_word r h = let q : first (others (words (drop a.end line))) ≡ part line d = ap first nb.rest ∙ nd.word in rw q h
 
-    pub line-three : passes f (part line a) ≡ false → (c : Number) → c ≡ number_told (natural (part line a)) → (x : Signed) → x ≡ integer_told (integer (part line b)) → (y : Signed) → y ≡ integer_told (integer (part line d))
-        → (r : Told) → ((o : Option ℕ) (u v : Option ℤ) → c ≡ number_told o → x ≡ integer_told u → y ≡ integer_told v → r ≡ line_told (numbered o u v)) → r ≡ line_told (line_said k line)
-    line-three p c ec x ex y ey r h =
-        line-numbers line f k e r (ap (passes f) na.word ∙ p)
-        (h _ _ _ (ec ∙ ap (λ (w : Bytes). number_told (natural w)) (sym na.word)) (ex ∙ ap (λ (w : Bytes). integer_told (integer w)) (sym second)) (ey ∙ ap (λ (w : Bytes). integer_told (integer w)) (sym third)))
+      pub corner-y : IntegerTold (integer (part line d)) None → CornerTold line a None
+      corner-y e = three-y _ _ _ (y_word None e)
 
--- every number that a line gives, moved up
-line-near : (l : Line) → ((line_told l).x ≤ farthest + farthest) × ((line_told l).y ≤ farthest + farthest)
-unfolding line_told
-line-near passed = (omega arith, omega arith)
-line-near unread = (omega arith, omega arith)
-line-near (gives c x y) = (up_low x, up_low y)
+      pub corner-all : (c : ℕ) (x y : ℤ) → Some c ≡ number_told (natural (part line a)) → IntegerTold (integer (part line b)) (Some x) → IntegerTold (integer (part line d)) (Some y)
+          → CornerTold line a (Some (record { cell = c; x = x; y = y }))
+      corner-all c x y p q r = three-all c x y _ _ _ p (x_word (Some x) q) (y_word (Some y) r)
 
-pub told-near : (t : Told) (l : Line) → t ≡ line_told l → (t.x ≤ farthest + farthest) × (t.y ≤ farthest + farthest)
-told-near t l e = rw e (line-near l)
+-- ---- a line
+module _ (line : Bytes) (k : ℕ) (a : Span) (na : Next line 0 a) where
+  pub line_pass : passes (eqb k 1) (part line a) ≡ true → LineTold k (line_said k line) (Ok None)
+  unfolding line_said by_words
+  line_pass p = let q : passes (eqb k 1) (first (words line)) ≡ true = ap (passes (eqb k 1)) na.word ∙ p in rw q refl
+
+  line-numbers : passes (eqb k 1) (part line a) ≡ false
+      → line_said k line ≡ numbered (natural (part line a)) (integer (first (words (drop a.end line)))) (integer (first (others (words (drop a.end line)))))
+  unfolding line_said by_words
+  line-numbers p =
+      let q : passes (eqb k 1) (first (words line)) ≡ false = ap (passes (eqb k 1)) na.word ∙ p in
+      rw q (ap (λ (w : Bytes). numbered (natural w) (integer (first (others (words line)))) (integer (first (others (others (words line)))))) na.word
+      ∙ ap (λ (ws : List Bytes). numbered (natural (part line a)) (integer (first ws)) (integer (first (others ws)))) na.rest)
+
+  told-none : (l : Line) → NumberedTold l None → LineTold k l (Err (NoNumber k))
+  told-none passed h = absurd h
+  told-none unread h = refl
+  told-none (gives c x y) h = absurd h
+
+  told-some : (l : Line) (r : Corner) → NumberedTold l (Some r) → LineTold k l (Ok (Some r))
+  told-some passed r h = absurd h
+  told-some unread r h = absurd h
+  told-some (gives c x y) r h = h
+
+  pub line-unread : passes (eqb k 1) (part line a) ≡ false → CornerTold line a None → LineTold k (line_said k line) (Err (NoNumber k))
+  line-unread p h = rw (line-numbers p) (told-none _ h)
+
+  pub line-gives : passes (eqb k 1) (part line a) ≡ false → (r : Corner) → CornerTold line a (Some r) → LineTold k (line_said k line) (Ok (Some r))
+  line-gives p r h = rw (line-numbers p) (told-some _ r h)
 
 -- ---- what a line does to the sketch
 held_set : (ps : List ℤ) (i : ℕ) (z : ℤ) → Held ps → InRange farthest z → Held (set ps i z)
@@ -163,35 +163,6 @@ module _ (n k : ℕ) (g : List ℕ) (ps : List ℤ) (c : ℕ) (x y : ℤ) where
   unfolding step with_cell
   step-near h d e = rw (lt-ltb c n h, eq-eqb (get_or g c 0) 0 d, e)
 
--- the numbers that the code has of a line
-kind-passed : (t : Told) → t ≡ line_told passed → t.kind ≡ 0
-unfolding line_told
-kind-passed t e = ap (λ (z : Told). z.kind) e
-
-kind-unread : (t : Told) → t ≡ line_told unread → t.kind ≡ 1
-unfolding line_told
-kind-unread t e = ap (λ (z : Told). z.kind) e
-
-record Parts (t : Told) (c : ℕ) (x y : ℤ) : Type 0 where
-  kind : t.kind ≡ 2
-  cell : t.cell ≡ capped c
-  x_in : t.x_near ≡ in_range farthest x
-  y_in : t.y_near ≡ in_range farthest y
-  x_is : t.x ≡ near_up x
-  y_is : t.y ≡ near_up y
-
-parts : (t : Told) (c : ℕ) (x y : ℤ) → t ≡ line_told (gives c x y) → Parts t c x y
-unfolding line_told
-parts t c x y e =
-    record {
-      kind = ap (λ (z : Told). z.kind) e;
-      cell = ap (λ (z : Told). z.cell) e;
-      x_in = ap (λ (z : Told). z.x_near) e;
-      y_in = ap (λ (z : Told). z.y_near) e;
-      x_is = ap (λ (z : Told). z.x) e;
-      y_is = ap (λ (z : Told). z.y) e;
-    }
-
 step-passed : (n k : ℕ) (g : List ℕ) (ps : List ℤ) → step n k (sketch g ps) passed ≡ goes (sketch g ps)
 unfolding step
 step-passed n k g ps = refl
@@ -200,81 +171,84 @@ step-unread : (n k : ℕ) (g : List ℕ) (ps : List ℤ) → step n k (sketch g 
 unfolding step
 step-unread n k g ps = refl
 
--- the answer's number
-stepped_0 : (k c : ℕ) (g : List ℕ) (ps : List ℤ) → stepped k 0 c (sketch g ps) ≡ goes (sketch g ps)
+pub stepped_ok : (s : Sketch) (u : ⊤) → stepped s (Ok u) ≡ goes s
 unfolding stepped
-stepped_0 k c g ps = refl
+stepped_ok s u = refl
 
-stepped_1 : (k c : ℕ) (g : List ℕ) (ps : List ℤ) → stepped k 1 c (sketch g ps) ≡ stops (wrong (NoNumber k))
-unfolding stepped fault_said
-stepped_1 k c g ps = refl
+pub stepped-err : (s : Sketch) (f : Fault) → stepped s (Err f) ≡ stops (wrong f)
+unfolding stepped
+stepped-err s f = refl
 
-stepped_2 : (k c : ℕ) (g : List ℕ) (ps : List ℤ) → stepped k 2 c (sketch g ps) ≡ stops (wrong (NoCell k))
-unfolding stepped fault_said
-stepped_2 k c g ps = refl
+-- ---- a corner is noted, or not
+module _ (n k : ℕ) (t : Corner) (g : List ℕ) (ps : List ℤ) (few : n ≤ most_cells) (h : Held ps) where
+  pub steps-beyond : n ≤ t.cell → Steps n k t g ps g ps (Err (NoCell k))
+  steps-beyond l = record { is = λ c x y p. step-beyond n k g ps c x y (cell-large n c t.cell few p.cell l) ∙ sym (stepped-err (sketch g ps) (NoCell k)); held = h }
 
-stepped_3 : (k c : ℕ) (g : List ℕ) (ps : List ℤ) → stepped k 3 c (sketch g ps) ≡ stops (wrong (Twice k c))
-unfolding stepped fault_said
-stepped_3 k c g ps = refl
-
-stepped_4 : (k c : ℕ) (g : List ℕ) (ps : List ℤ) → stepped k 4 c (sketch g ps) ≡ stops (wrong (Far k))
-unfolding stepped fault_said
-stepped_4 k c g ps = refl
-
-module _ (n : ℕ) (t : Told) (g : List ℕ) (ps : List ℤ) (few : n ≤ most_cells) (h : Held ps) where
-  pub steps-passed : t.kind ≡ 0 → Steps n t g ps g ps 0
-  steps-passed z = record { is = go; held = h }
-    where
-      go : (k : ℕ) (l : Line) → t ≡ line_told l → step n k (sketch g ps) l ≡ stepped k 0 t.cell (sketch g ps)
-      go k passed e = step-passed n k g ps ∙ sym (stepped_0 k t.cell g ps)
-      go k unread e = absurd (omega (arith, kind-unread t e))
-      go k (gives c x y) e = absurd (omega (arith, (parts t c x y e).kind))
-
-  pub steps-unread : t.kind ≡ 1 → Steps n t g ps g ps 1
-  steps-unread z = record { is = go; held = h }
-    where
-      go : (k : ℕ) (l : Line) → t ≡ line_told l → step n k (sketch g ps) l ≡ stepped k 1 t.cell (sketch g ps)
-      go k passed e = absurd (omega (arith, kind-passed t e))
-      go k unread e = step-unread n k g ps ∙ sym (stepped_1 k t.cell g ps)
-      go k (gives c x y) e = absurd (omega (arith, (parts t c x y e).kind))
-
-  module _ (a : ¬ (t.kind ≡ 0)) (b : ¬ (t.kind ≡ 1)) where
-    -- a line that gives a cell
-    given_only : (r : ℕ) (g' : List ℕ) (ps' : List ℤ) → Held ps'
-        → ((k c : ℕ) (x y : ℤ) → Parts t c x y → step n k (sketch g ps) (gives c x y) ≡ stepped k r t.cell (sketch g' ps')) → Steps n t g ps g' ps' r
-    given_only r g' ps' h' f = record { is = go; held = h' }
-      where
-        go : (k : ℕ) (l : Line) → t ≡ line_told l → step n k (sketch g ps) l ≡ stepped k r t.cell (sketch g' ps')
-        go k passed e = absurd (a (kind-passed t e))
-        go k unread e = absurd (b (kind-unread t e))
-        go k (gives c x y) e = f k c x y (parts t c x y e)
-
-    pub steps-beyond : n ≤ t.cell → Steps n t g ps g ps 2
-    steps-beyond l = given_only 2 g ps h (λ k c x y p. step-beyond n k g ps c x y (cell-large n c t.cell few p.cell l) ∙ sym (stepped_2 k t.cell g ps))
-
-    module _ (i : t.cell < n) where
-      pub steps_twice : ¬ (get_or g t.cell 0 ≡ 0) → Steps n t g ps g ps 3
-      steps_twice d = given_only 3 g ps h (λ k c x y p.
+  module _ (i : t.cell < n) where
+    pub steps_twice : ¬ (get_or g t.cell 0 ≡ 0) → Steps n k t g ps g ps (Err (Twice k t.cell))
+    steps_twice d = record {
+      is = λ c x y p.
           let e = cell_small n c t.cell few p.cell i in
-          rw e (step_twice n k g ps t.cell x y i d) ∙ sym (stepped_3 k t.cell g ps))
+          rw e (step_twice n k g ps t.cell x y i d) ∙ sym (stepped-err (sketch g ps) (Twice k t.cell));
+      held = h;
+    }
 
-      module _ (d : get_or g t.cell 0 ≡ 0) where
-        pub steps-x : t.x_near ≡ false → Steps n t g ps g ps 4
-        steps-x q = given_only 4 g ps h (λ k c x y p.
+    module _ (d : get_or g t.cell 0 ≡ 0) where
+      steps-far : ((x y : ℤ) → Cut x t.x → Cut y t.y → in_range farthest x && in_range farthest y ≡ false) → Steps n k t g ps g ps (Err (Far k))
+      steps-far q = record {
+        is = λ c x y p.
             let e = cell_small n c t.cell few p.cell i in
-            rw e (step-far n k g ps t.cell x y i d (first_out (in_range farthest x) (in_range farthest y) (sym p.x_in ∙ q))) ∙ sym (stepped_4 k t.cell g ps))
+            rw e (step-far n k g ps t.cell x y i d (q x y p.x_cut p.y_cut)) ∙ sym (stepped-err (sketch g ps) (Far k));
+        held = h;
+      }
 
-        pub steps-y : t.y_near ≡ false → Steps n t g ps g ps 4
-        steps-y q = given_only 4 g ps h (λ k c x y p.
-            let e = cell_small n c t.cell few p.cell i in
-            rw e (step-far n k g ps t.cell x y i d (second_out (in_range farthest x) (in_range farthest y) (sym p.y_in ∙ q))) ∙ sym (stepped_4 k t.cell g ps))
+      -- x and y as the machine reads them back
+      module _ (u v : ℤ) (x_back : InRange beyond t.x → u ≡ t.x) (y_back : InRange beyond t.y → v ≡ t.y) where
+        x_same : (x : ℤ) → Cut x t.x → in_range farthest u ≡ in_range farthest x
+        x_same x a = ap (in_range farthest) (x_back a.small) ∙ a.same
 
-        pub steps-near : t.x_near ≡ true → t.y_near ≡ true → t.x ≤ farthest + farthest → t.y ≤ farthest + farthest → (u v : ℤ) → u ≡ pos t.x -ℤ pos farthest → v ≡ pos t.y -ℤ pos farthest
-            → (g' : List ℕ) (ps' : List ℤ) → g' ≡ set g t.cell 1 → ps' ≡ set (set ps (2 * t.cell) u) (2 * t.cell + 1) v → Steps n t g ps g' ps' 0
-        steps-near q r a b u v eu ev g' ps' f w = given_only 0 g' ps' (rw w (held_corner ps t.cell u v h (down-near t.x u a eu) (down-near t.y v b ev))) (λ k c x y p.
-            let e = cell_small n c t.cell few p.cell i in
-            let m = down-up x u t.x (sym p.x_in ∙ q) p.x_is eu in
-            let o = down-up y v t.y (sym p.y_in ∙ r) p.y_is ev in
-            let z : step n k (sketch g ps) (gives c x y) ≡ goes (sketch g' ps') =
-            rw (f, w, m, o, e) (step-near n k g ps t.cell x y i d (both_in (in_range farthest x) (in_range farthest y) (sym p.x_in ∙ q) (sym p.y_in ∙ r))) in
-            z ∙ sym (stepped_0 k t.cell g' ps'))
+        y_same : (y : ℤ) → Cut y t.y → in_range farthest v ≡ in_range farthest y
+        y_same y b = ap (in_range farthest) (y_back b.small) ∙ b.same
+
+        pub steps-x : in_range farthest u ≡ false → Steps n k t g ps g ps (Err (Far k))
+        steps-x q = steps-far (λ x y a b. first_out (in_range farthest x) (in_range farthest y) (sym (x_same x a) ∙ q))
+
+        pub steps-y : in_range farthest v ≡ false → Steps n k t g ps g ps (Err (Far k))
+        steps-y q = steps-far (λ x y a b. second_out (in_range farthest x) (in_range farthest y) (sym (y_same y b) ∙ q))
+
+        pub steps-near : in_range farthest u ≡ true → in_range farthest v ≡ true → (g' : List ℕ) (ps' : List ℤ) → g' ≡ set g t.cell 1 → ps' ≡ set (set ps (2 * t.cell) u) (2 * t.cell + 1) v
+            → (r : ⊤) → Steps n k t g ps g' ps' (Ok r)
+        steps-near q r g' ps' f w o = record {
+          is = λ c x y p.
+              let e = cell_small n c t.cell few p.cell i in
+              let a : in_range farthest x ≡ true = sym (x_same x p.x_cut) ∙ q in
+              let b : in_range farthest y ≡ true = sym (y_same y p.y_cut) ∙ r in
+              let m : u ≡ x = x_back p.x_cut.small ∙ p.x_cut.near a in
+              let l : v ≡ y = y_back p.y_cut.small ∙ p.y_cut.near b in
+              let z : step n k (sketch g ps) (gives c x y) ≡ goes (sketch g' ps') = rw (f, w, m, l, e) (step-near n k g ps t.cell x y i d (both_in (in_range farthest x) (in_range farthest y) a b)) in
+              z ∙ sym (stepped_ok (sketch g' ps') o);
+          held = rw w (held_corner ps t.cell u v h (holds (says_within farthest u) q) (holds (says_within farthest v) r));
+        }
+
+-- ---- a line is noted, or not
+-- what `?` hands on
+pub that_fault : (y : Result ⊤ Fault) (f : Fault) → IsErrAnd y (λ d. d ≡ f) → y ≡ Err f
+that_fault (Ok u) f p = absurd p
+that_fault (Err d) f p = ap Err p
+
+module _ (n k : ℕ) (line : Bytes) (g : List ℕ) (ps : List ℤ) where
+  pub turned-none : Held ps → (r : Result (Option' Corner) Fault) → LineTold k (line_said k line) r → r ≡ Ok None → (u : ⊤) → Turned n k line g ps g ps (Ok u)
+  turned-none h r t e u = record { is = go (line_said k line) (rw e at t) ∙ sym (stepped_ok (sketch g ps) u); held = h }
+    where
+      go : (l : Line) → LineTold k l (Ok None) → step n k (sketch g ps) l ≡ goes (sketch g ps)
+      go passed q = step-passed n k g ps
+      go unread q = cc
+      go (gives c x y) q = absurd q
+
+  pub turned-fault : Held ps → (f : Fault) → LineTold k (line_said k line) (Err f) → (y : Result ⊤ Fault) → IsErrAnd y (λ d. d ≡ f) → Turned n k line g ps g ps y
+  turned-fault h f t y p = record { is = go (line_said k line) t ∙ ap (stepped (sketch g ps)) (sym (that_fault y f p)); held = h }
+    where
+      go : (l : Line) → LineTold k l (Err f) → step n k (sketch g ps) l ≡ stepped (sketch g ps) (Err f)
+      go passed q = cc
+      go unread q = let e : f ≡ NoNumber k = cc in step-unread n k g ps ∙ ap (λ x. stops (wrong x)) (sym e) ∙ sym (stepped-err (sketch g ps) f)
+      go (gives c x y) q = absurd q

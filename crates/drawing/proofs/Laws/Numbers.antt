@@ -1,5 +1,5 @@
 -- Numbers as the code reads them: one past the bound stands for any that is greater. Assumes nothing.
-use Rattle.std.specs.Prelude.{◌≡◌, [], ◌∷◌, Bool, cond, ℕ, ◌+◌, ◌-◌, ◌*◌, ◌≤◌, ◌<◌, ℤ, ◌-ℤ◌, length, get_or}
+use Rattle.std.specs.Prelude.{◌≡◌, [], ◌∷◌, Bool, ℕ, ◌+◌, ◌-◌, ◌*◌, ◌≤◌, ◌<◌, ℤ, ◌-ℤ◌, length, get_or, Some, None}
 use Rattle.std.proofs.Math.Path.{refl, ap}
 use Rattle.std.proofs.Common.{sym, ◌∙◌, arith, le-leb}
 use Rattle.std.proofs.Math.Bool.{true, false}
@@ -10,18 +10,18 @@ use Rattle.std.proofs.Math.ListN.{take, drop, length-drop}
 use Rattle.std.proofs.Math.Seq.{take_all}
 use Rattle.std.proofs.lemmas.Bool.{lt-leb}
 use Rattle.whole.specs.Range.{in_range, InRange}
-use Rattle.whole.specs.Bias.{bias}
 use Rattle.whole.proofs.Laws.Range.{says_within}
-use Rattle.whole.proofs.Laws.Says.{is_true, is_false, holds}
+use Rattle.whole.proofs.Laws.Says.{is_false, holds}
 use Rattle.whole.proofs.Laws.Whole.{whole, diff}
+use mir.Syntax.{w32}
+use mir.Val.{to_z, of_z}
+use Rattle.whole.proofs.Machine.{back}
 use Rattle.plan.specs.Limits.{farthest}
 use Rattle.listing.specs.Printed.{Bytes}
 use Rattle.drawing_spec.specs.Words.{is_digit, natural_from, natural, with_sign, begins_below, integer}
 use Rattle.drawing_spec.proofs.Laws.Words.{digit_yes, from-digit, natural-some}
-use Rattle.drawing.specs.Steps.{beyond, capped, number_told, near_up, integer_told}
+use Rattle.drawing.specs.Steps.{beyond, capped, number_told, Cut, IntegerTold}
 use Rattle.drawing.proofs.Laws.Spans.{from_place, past_end}
-use Rattle.drawing.specs.declared.Number.{Number}
-use Rattle.drawing.specs.declared.Signed.{Signed}
 
 -- ---- the bound
 pub capped_low : (v : ℕ) → v ≤ farthest → capped v ≡ v
@@ -58,15 +58,15 @@ from_end : (a : ℕ) → natural_from a [] ≡ some a
 unfolding natural_from
 from_end a = refl
 
-told_not : (o : Option ℕ) → o ≡ none → record { number = false; value = 0 } ≡ number_told o
+told_not : (o : Option ℕ) → o ≡ none → None ≡ number_told o
 unfolding number_told
 told_not o e = rw e
 
-told_is : (o : Option ℕ) (a v : ℕ) → o ≡ some v → a ≡ capped v → record { number = true; value = a } ≡ number_told o
+told_is : (o : Option ℕ) (a v : ℕ) → o ≡ some v → a ≡ capped v → Some a ≡ number_told o
 unfolding number_told
 told_is o a v e f = rw (e, f)
 
-pub natural-empty : (w : Bytes) → length w ≡ 0 → record { number = false; value = 0 } ≡ number_told (natural w)
+pub natural-empty : (w : Bytes) → length w ≡ 0 → None ≡ number_told (natural w)
 unfolding natural
 natural-empty [] h = told_not none refl
 natural-empty (b ∷ w) h = absurd (omega arith)
@@ -96,88 +96,50 @@ module _ (w : Bytes) (a i : ℕ) (g : Going w a i) where
         small = omega (arith, q, capped-most (10 * v + d));
       }
 
-  pub going_low : i < length w → get_or w i 0 < 48 → record { number = false; value = 0 } ≡ number_told (natural w)
+  pub going_low : i < length w → get_or w i 0 < 48 → None ≡ number_told (natural w)
   going_low h l = told_not (natural w) (g.same ∙ rw (from_place w i h) (from-other g.so_far _ _ (digit_low _ l)))
 
-  pub going_high : i < length w → 57 < get_or w i 0 → record { number = false; value = 0 } ≡ number_told (natural w)
+  pub going_high : i < length w → 57 < get_or w i 0 → None ≡ number_told (natural w)
   going_high h l = told_not (natural w) (g.same ∙ rw (from_place w i h) (from-other g.so_far _ _ (digit_high _ l)))
 
-  pub going-ends : length w ≤ i → record { number = true; value = a } ≡ number_told (natural w)
+  pub going-ends : length w ≤ i → Some a ≡ number_told (natural w)
   going-ends h = told_is (natural w) a g.so_far (g.same ∙ rw (past_end w i h) (from_end g.so_far)) g.value
 
 -- ---- with its sign
 no_way : {A : Type 0} → ◌≡◌ {A = Bool} true false → A
 no_way e = let z : ◌≡◌ {A = ℕ} 0 1 = cc in absurd (omega arith)
 
-near-told : (z : ℤ) (a : ℕ) → InRange farthest z → a ≡ bias farthest z → record { number = true; near = true; value = a } ≡ integer_told (some z)
-unfolding integer_told near_up
-near-told z a h q = rw (is_true (says_within farthest z) h, q)
-
-far-told : (z : ℤ) → ¬ (InRange farthest z) → record { number = true; near = false; value = 0 } ≡ integer_told (some z)
-unfolding integer_told near_up
-far-told z h = rw (is_false (says_within farthest z) h)
-
 pub zero_near : InRange farthest (pos 0)
 zero_near = record { low = omega whole; high = omega whole }
 
--- a number moved up is at most twice the bound; moved down again it is near, and the number
-pub up_low : (z : ℤ) → near_up z ≤ farthest + farthest
-unfolding near_up
-up_low z = go (in_range farthest z) refl
-  where
-    go : (b : Bool) → in_range farthest z ≡ b → cond b (bias farthest z) 0 ≤ farthest + farthest
-    go true e = let h = holds (says_within farthest z) e in omega (whole, h.low, h.high)
-    go false e = omega arith
+-- a number that is near stands for itself, and a far one for a far one
+cut_near : (z r : ℤ) → InRange beyond r → r ≡ z → Cut z r
+cut_near z r b e = record { small = b; same = ap (in_range farthest) e; near = λ _. e }
 
-pub down-near : (a : ℕ) (z : ℤ) → a ≤ farthest + farthest → z ≡ pos a -ℤ pos farthest → InRange farthest z
-down-near a z h e = rw e (record { low = omega (whole, diff (pos a) (pos farthest)); high = omega (whole, diff (pos a) (pos farthest)) })
+cut-far : (z r : ℤ) → InRange beyond r → ¬ (InRange farthest z) → ¬ (InRange farthest r) → Cut z r
+cut-far z r b h k = record { small = b; same = is_false (says_within farthest r) k ∙ sym (is_false (says_within farthest z) h); near = λ e. absurd (h (holds (says_within farthest z) e)) }
 
-pub down-up : (z w : ℤ) (a : ℕ) → in_range farthest z ≡ true → a ≡ near_up z → w ≡ pos a -ℤ pos farthest → w ≡ z
-unfolding near_up
-down-up z w a e q f =
-    let h = holds (says_within farthest z) e in
-    let b : a ≡ bias farthest z = q ∙ rw e in
-    f ∙ omega (whole, diff (pos a) (pos farthest), h.low, h.high)
+capped_below : (v : ℕ) → InRange beyond (pos 0 -ℤ pos (capped v))
+capped_below v = let m = capped-most v in record { low = omega (whole, diff (pos 0) (pos (capped v)), m); high = omega (whole, diff (pos 0) (pos (capped v)), m) }
 
-module _ (m : Number) where
-  pub signed-none : (below : Bool) → m.number ≡ false → (o : Option ℕ) → m ≡ number_told o → record { number = false; near = false; value = 0 } ≡ integer_told (with_sign o below)
-  unfolding number_told integer_told with_sign
-  signed-none below n none e = refl
-  signed-none below n (some v) e = no_way (sym (ap (λ (x : Number). x.number) e) ∙ n)
+capped_above : (v : ℕ) (r : ℤ) → r ≡ pos (capped v) -ℤ pos 0 → InRange beyond r
+capped_above v r e = let m = capped-most v in record { low = omega (whole, e, diff (pos (capped v)) (pos 0), m); high = omega (whole, e, diff (pos (capped v)) (pos 0), m) }
 
-  pub signed-far : (below : Bool) → farthest < m.value → (o : Option ℕ) → m ≡ number_told o → record { number = true; near = false; value = 0 } ≡ integer_told (with_sign o below)
-  unfolding number_told with_sign
-  signed-far below h none e = let z : m.value ≡ 0 = ap (λ (x : Number). x.value) e in absurd (omega arith)
-  signed-far below h (some v) e = go below (elim (dec_lt farthest v) [ yes l ↦ l | no l ↦ absurd (omega (arith, ap (λ (x : Number). x.value) e, capped_low v (omega arith))) ])
-    where
-      go : (b : Bool) → farthest < v → record { number = true; near = false; value = 0 } ≡ integer_told (with_sign (some v) b)
-      go true l = far-told (pos 0 -ℤ pos v) (λ k. absurd (omega (whole, diff (pos 0) (pos v), k.low)))
-      go false l = far-told (pos v) (λ k. absurd (omega (whole, k.high)))
+cut_below : (v : ℕ) → Cut (pos 0 -ℤ pos v) (pos 0 -ℤ pos (capped v))
+cut_below v = elim (dec_lt farthest v) [
+  | yes l ↦
+      let q = capped_high v l in
+      cut-far _ _ (capped_below v) (λ k. absurd (omega (whole, diff (pos 0) (pos v), k.low))) (λ k. absurd (omega (whole, diff (pos 0) (pos (capped v)), q, k.low)))
+  | no l ↦ cut_near _ _ (capped_below v) (ap (λ n. pos 0 -ℤ pos n) (capped_low v (omega arith)))
+]
 
-  small_value : (v : ℕ) → m ≡ number_told (some v) → m.value ≤ farthest → m.value ≡ v
-  unfolding number_told
-  small_value v e h = elim (dec_lt farthest v) [
-    | yes l ↦ absurd (omega (arith, ap (λ (x : Number). x.value) e, capped_high v l))
-    | no l ↦ ap (λ (x : Number). x.value) e ∙ capped_low v (omega arith)
-  ]
-
-  none_number : m ≡ number_told none → m.number ≡ true → {A : Type 0} → A
-  unfolding number_told
-  none_number e h = no_way (sym h ∙ ap (λ (x : Number). x.number) e)
-
-  pub signed_below : (a : ℕ) → m.number ≡ true → m.value ≤ farthest → a ≡ farthest - m.value → (o : Option ℕ) → m ≡ number_told o → record { number = true; near = true; value = a } ≡ integer_told (with_sign o true)
-  unfolding with_sign
-  signed_below a n h f none e = none_number e n
-  signed_below a n h f (some v) e =
-      let q = small_value v e h in
-      near-told (pos 0 -ℤ pos v) a (record { low = omega (whole, diff (pos 0) (pos v)); high = omega (whole, diff (pos 0) (pos v)) }) (omega (whole, diff (pos 0) (pos v)))
-
-  pub signed_above : (a : ℕ) → m.number ≡ true → m.value ≤ farthest → a ≡ farthest + m.value → (o : Option ℕ) → m ≡ number_told o → record { number = true; near = true; value = a } ≡ integer_told (with_sign o false)
-  unfolding with_sign
-  signed_above a n h f none e = none_number e n
-  signed_above a n h f (some v) e =
-      let q = small_value v e h in
-      near-told (pos v) a (record { low = omega whole; high = omega whole }) (omega whole)
+cut_above : (v : ℕ) (r : ℤ) → r ≡ pos (capped v) -ℤ pos 0 → Cut (pos v) r
+cut_above v r e = elim (dec_lt farthest v) [
+  | yes l ↦
+      let q = capped_high v l in
+      cut-far _ _ (capped_above v r e) (λ k. absurd (omega (whole, k.high))) (λ k. absurd (omega (whole, diff (pos (capped v)) (pos 0), e, q, k.high)))
+  | no l ↦ cut_near _ _ (capped_above v r e) (omega (whole, e, diff (pos (capped v)) (pos 0), capped_low v (omega arith)))
+]
 
 -- ---- a whole number
 pub below-empty : (w : Bytes) → length w ≡ 0 → false ≡ begins_below w
@@ -190,13 +152,63 @@ unfolding begins_below
 below-some [] e = no_way (sym e)
 below-some (b ∷ w) e = omega arith
 
-module _ (w : Bytes) (m : Number) (r : Signed) where
-  pub integer-below : begins_below w ≡ true → m ≡ number_told (natural (take (length w - 1) (drop 1 w))) → ((o : Option ℕ) → m ≡ number_told o → r ≡ integer_told (with_sign o true)) → r ≡ integer_told (integer w)
-  unfolding integer
-  integer-below e q f =
-      let n : take (length w - 1) (drop 1 w) ≡ drop 1 w = take_all (length w - 1) (drop 1 w) (omega (arith, length-drop 1 w)) in
-      f (natural (drop 1 w)) (q ∙ ap (λ (l : Bytes). number_told (natural l)) n) ∙ rw e
+module _ (w : Bytes) where
+  tail-is : begins_below w ≡ true → take (length w - 1) (drop 1 w) ≡ drop 1 w
+  tail-is e = take_all (length w - 1) (drop 1 w) (omega (arith, length-drop 1 w))
 
-  pub integer-above : begins_below w ≡ false → m ≡ number_told (natural w) → ((o : Option ℕ) → m ≡ number_told o → r ≡ integer_told (with_sign o false)) → r ≡ integer_told (integer w)
+  -- no number
+  below-none : (o : Option ℕ) → None ≡ number_told o → IntegerTold (with_sign o true) None
+  unfolding number_told with_sign
+  below-none none e = tt
+  below-none (some v) e = cc
+
+  above-none : (o : Option ℕ) → None ≡ number_told o → IntegerTold (with_sign o false) None
+  unfolding number_told with_sign
+  above-none none e = tt
+  above-none (some v) e = cc
+
+  below-some_of : (o : Option ℕ) (a : ℕ) (r : ℤ) → Some a ≡ number_told o → r ≡ pos 0 -ℤ pos a → IntegerTold (with_sign o true) (Some r)
+  unfolding number_told with_sign
+  below-some_of none a r e f = cc
+  below-some_of (some v) a r e f = let q : a ≡ capped v = cc in rw (f, q) (cut_below v)
+
+  above-some_of : (o : Option ℕ) (a : ℕ) (r : ℤ) → Some a ≡ number_told o → r ≡ pos a -ℤ pos 0 → IntegerTold (with_sign o false) (Some r)
+  unfolding number_told with_sign
+  above-some_of none a r e f = cc
+  above-some_of (some v) a r e f = let q : a ≡ capped v = cc in cut_above v r (f ∙ ap (λ n. pos n -ℤ pos 0) q)
+
+  pub integer-not_below : begins_below w ≡ true → None ≡ number_told (natural (take (length w - 1) (drop 1 w))) → IntegerTold (integer w) None
   unfolding integer
-  integer-above e q f = f (natural w) q ∙ rw e
+  integer-not_below e q = rw e (below-none (natural (drop 1 w)) (q ∙ ap (λ (l : Bytes). number_told (natural l)) (tail-is e)))
+
+  pub integer-below : begins_below w ≡ true → (a : ℕ) (r : ℤ) → Some a ≡ number_told (natural (take (length w - 1) (drop 1 w))) → r ≡ pos 0 -ℤ pos a → IntegerTold (integer w) (Some r)
+  unfolding integer
+  integer-below e a r q f = rw e (below-some_of (natural (drop 1 w)) a r (q ∙ ap (λ (l : Bytes). number_told (natural l)) (tail-is e)) f)
+
+  pub integer-not_above : begins_below w ≡ false → None ≡ number_told (natural w) → IntegerTold (integer w) None
+  unfolding integer
+  integer-not_above e q = rw e (above-none (natural w) q)
+
+  pub integer-above : begins_below w ≡ false → (a : ℕ) (r : ℤ) → Some a ≡ number_told (natural w) → r ≡ pos a -ℤ pos 0 → IntegerTold (integer w) (Some r)
+  unfolding integer
+  integer-above e a r q f = rw e (above-some_of (natural w) a r q f)
+
+-- no number is past the bound by more than one
+small_of : (o : Option ℕ) (a : ℕ) → Some a ≡ number_told o → a ≤ beyond
+unfolding number_told
+small_of none a q = cc
+small_of (some v) a q = let z : a ≡ capped v = cc in omega (arith, capped-most v)
+
+pub told_small : (w : Bytes) (a : ℕ) → Some a ≡ number_told (natural w) → a ≤ beyond
+told_small w a e = small_of (natural w) a e
+
+-- the machine reads the number back from its bits
+told_near : (u : Option ℤ) (r : ℤ) → IntegerTold u (Some r) → InRange beyond r
+told_near none r h = absurd h
+told_near (some z) r h = h.small
+
+pub small_back : (r : ℤ) → InRange beyond r → to_z w32 (of_z w32 r) ≡ r
+small_back r h = back beyond (omega arith) r h
+
+pub read_back : (u : Option ℤ) (r : ℤ) → IntegerTold u (Some r) → to_z w32 (of_z w32 r) ≡ r
+read_back u r h = small_back r (told_near u r h)

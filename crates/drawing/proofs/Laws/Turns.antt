@@ -1,14 +1,13 @@
 -- Line after line. Assumes nothing.
-use Rattle.std.specs.Prelude.{◌≡◌, refl, List, [], ◌∷◌, ℕ, suc, ◌+◌, ◌-◌, ◌≤◌, ◌<◌, ℤ, length, take, drop}
-use Rattle.std.proofs.Common.{sym, ap, ◌∙◌, arith, add-one, eq-eqb, ne_eqb}
+use Rattle.std.specs.Prelude.{◌≡◌, refl, List, [], ◌∷◌, ℕ, suc, ◌+◌, ◌-◌, ◌≤◌, ◌<◌, ℤ, length, take, drop, Result, Ok, Err, IsErrAnd, ⊤}
+use Rattle.std.proofs.Common.{sym, ap, ◌∙◌, arith}
 use Rattle.listing.specs.Printed.{Bytes}
 use Rattle.drawing_spec.specs.Words.{lines}
+use Rattle.drawing_spec.specs.declared.Fault.{Fault}
 use Rattle.drawing_spec.specs.Said.{Said, wrong, Sketch, goes, stops, line_said, step, complete, said_lines}
-use Rattle.drawing.specs.Drawn.{most_text}
-use Rattle.drawing.specs.Steps.{until, feed, line_told, Held, Sized, sketch, fault_said, stepped, Steps, rest_said, Ready, Turned, read_said, Reads}
+use Rattle.drawing.specs.Steps.{until, feed, Held, sketch, Turned, read_said, Reads}
 use Rattle.drawing.proofs.Laws.Spans.{lines_from, lines_none}
-use Rattle.drawing.specs.declared.Told.{Told}
-use Rattle.drawing.specs.declared.State.{State}
+use Rattle.drawing.proofs.Laws.Lines.{stepped_ok, stepped-err, that_fault}
 
 module _ (n k : ℕ) (s : Sketch) (l : Bytes) (ls : List Bytes) where
   pub said_goes : (s' : Sketch) → step n k s (line_said k l) ≡ goes s' → said_lines n k s (l ∷ ls) ≡ said_lines n (suc k) s' ls
@@ -23,74 +22,38 @@ pub said-end : (n k : ℕ) (s : Sketch) → said_lines n k s [] ≡ complete n s
 unfolding said_lines
 said-end n k s = refl
 
-stepped-goes : (k r c : ℕ) (s : Sketch) → r ≡ 0 → stepped k r c s ≡ goes s
-unfolding stepped
-stepped-goes k r c s e = rw (eq-eqb r 0 e)
+-- ---- one line more, number k, from a place on
+module _ (n : ℕ) (text : Bytes) (k at end : ℕ) (g : List ℕ) (ps : List ℤ) (here : at < length text) (ends : end ≡ at + until feed (drop at text)) where
+  abbrev line : Bytes
+  line = take (end - at) (drop at text)
 
-stepped-stops : (k r c : ℕ) (s : Sketch) → ¬ (r ≡ 0) → stepped k r c s ≡ stops (wrong (fault_said r k c))
-unfolding stepped
-stepped-stops k r c s e = rw (ne_eqb r 0 e)
-
-module _ (n : ℕ) (text : Bytes) (s : State) (g : List ℕ) (ps : List ℤ) where
-  rest_goes : s.fault ≡ 0 → rest_said n text s g ps ≡ said_lines n s.line (sketch g ps) (lines (drop s.at text))
-  unfolding rest_said
-  rest_goes e = rw (eq-eqb s.fault 0 e)
-
-  rest-stops : ¬ (s.fault ≡ 0) → rest_said n text s g ps ≡ wrong (fault_said s.fault s.line s.cell)
-  unfolding rest_said
-  rest-stops e = rw (ne_eqb s.fault 0 e)
-
-module _ (n : ℕ) (text : Bytes) (s : State) (g : List ℕ) (ps : List ℤ) (ready : Ready n text s g ps) (here : s.at < length text) (end : ℕ) (ends : end ≡ s.at + until feed (drop s.at text)) (inside : end ≤ length text)
-    (l : Bytes) (le : l ≡ take (end - s.at) (drop s.at text)) (t : Told) (told : t ≡ line_told (line_said s.line l)) (r : ℕ) (g' : List ℕ) (ps' : List ℤ) (st : Steps n t g ps g' ps' r) where
-  pieces : lines (drop s.at text) ≡ l ∷ lines (drop (end + 1) text)
+  pieces : lines (drop at text) ≡ line ∷ lines (drop (end + 1) text)
   pieces =
-      let m : end - s.at ≡ until feed (drop s.at text) = omega arith in
-      let q : l ≡ take (until feed (drop s.at text)) (drop s.at text) = le ∙ ap (λ k. take k (drop s.at text)) m in
-      lines_from text s.at here ∙ rw (← q, ← ends)
+      let m : end - at ≡ until feed (drop at text) = omega arith in
+      let q : line ≡ take (until feed (drop at text)) (drop at text) = ap (λ i. take i (drop at text)) m in
+      lines_from text at here ∙ rw (← q, ← ends)
 
-  before : rest_said n text s g ps ≡ said_lines n s.line (sketch g ps) (l ∷ lines (drop (end + 1) text))
-  before = rest_goes n text s g ps (ready.going here) ∙ ap (said_lines n s.line (sketch g ps)) pieces
+  pub turned_goes : (g' : List ℕ) (ps' : List ℤ) (u : ⊤) → Turned n k line g ps g' ps' (Ok u) → said_lines n k (sketch g ps) (lines (drop at text)) ≡ said_lines n (k + 1) (sketch g' ps') (lines (drop (end + 1) text))
+  turned_goes g' ps' u t =
+      ap (said_lines n k (sketch g ps)) pieces ∙ said_goes n k (sketch g ps) line _ (sketch g' ps') (t.is ∙ stepped_ok (sketch g' ps') u)
+      ∙ (let q : suc k ≡ k + 1 = omega arith in ap (λ m. said_lines n m (sketch g' ps') (lines (drop (end + 1) text))) q)
 
-  stepping : step n s.line (sketch g ps) (line_said s.line l) ≡ stepped s.line r t.cell (sketch g' ps')
-  stepping = st.is s.line (line_said s.line l) told
-
-  pub turned_goes : r ≡ 0 → Turned n text s g ps (record { fault = 0; line = s.line + 1; cell = 0; at = end + 1 }) g' ps'
-  turned_goes z =
-      record {
-        same = rest_goes n text (record { fault = 0; line = s.line + 1; cell = 0; at = end + 1 }) g' ps' refl ∙ rw add-one
-            (sym (before ∙ said_goes n s.line (sketch g ps) l (lines (drop (end + 1) text)) (sketch g' ps') (stepping ∙ stepped-goes s.line r t.cell (sketch g' ps') z)));
-        held = st.held;
-        on = omega arith;
-        going = λ h. refl;
-        counted = omega (arith, ready.counted);
-      }
-
-  pub turned_stops : ¬ (r ≡ 0) → Turned n text s g ps (record { fault = r; line = s.line; cell = t.cell; at = length text }) g' ps'
-  turned_stops z =
-      record {
-        same = rest-stops n text (record { fault = r; line = s.line; cell = t.cell; at = length text }) g' ps' z
-            ∙ sym (before ∙ said-stops n s.line (sketch g ps) l (lines (drop (end + 1) text)) (wrong (fault_said r s.line t.cell)) (stepping ∙ stepped-stops s.line r t.cell (sketch g' ps') z));
-        held = st.held;
-        on = here;
-        going = λ h. absurd (omega arith);
-        counted = omega (arith, ready.counted);
-      }
+  pub turned_stops : (g' : List ℕ) (ps' : List ℤ) (f : Fault) → Turned n k line g ps g' ps' (Err f) → said_lines n k (sketch g ps) (lines (drop at text)) ≡ wrong f
+  turned_stops g' ps' f t = ap (said_lines n k (sketch g ps)) pieces ∙ said-stops n k (sketch g ps) line _ (wrong f) (t.is ∙ stepped-err (sketch g' ps') f)
 
 -- ---- the loop
-module _ (n : ℕ) (text : Bytes) (g : List ℕ) (ps : List ℤ) where
-  pub starts_ready : (s : State) → s ≡ record { fault = 0; line = 1; cell = 0; at = 0 } → Sized n g ps → Held ps → length text ≤ most_text
-      → Ready n text s g ps × (rest_said n text s g ps ≡ said_lines n 1 (sketch g ps) (lines text))
-  starts_ready s e z h l = rw e (record { sized = z; held = h; short = l; going = λ _. refl; counted = omega arith }, rest_goes n text (record { fault = 0; line = 1; cell = 0; at = 0 }) g ps refl)
+read-fault : (n : ℕ) (g : List ℕ) (ps : List ℤ) (f : Fault) → read_said n g ps (Err f) ≡ wrong f
+unfolding read_said
+read-fault n g ps f = refl
 
-  pub turns_ready : (s r : State) (g' : List ℕ) (ps' : List ℤ) → Ready n text s g ps → Turned n text s g ps r g' ps' → length g' ≡ length g → length ps' ≡ length ps → Ready n text r g' ps'
-  turns_ready s r g' ps' d t a b =
-      let z = d.sized in
-      record { sized = record { few = z.few; flags = a ∙ z.flags; room = b ∙ z.room }; held = t.held; short = d.short; going = t.going; counted = t.counted }
+read_all : (n : ℕ) (g : List ℕ) (ps : List ℤ) (u : ⊤) → read_said n g ps (Ok u) ≡ complete n (sketch g ps)
+unfolding read_said
+read_all n g ps u = refl
 
-rest_read : (n : ℕ) (text : Bytes) (s : State) (g : List ℕ) (ps : List ℤ) → length text ≤ s.at → rest_said n text s g ps ≡ read_said n s g ps
-unfolding rest_said read_said
-rest_read n text s g ps h = rw (lines_none text s.at h, said-end n s.line (sketch g ps))
+module _ (n : ℕ) (text : Bytes) (g₀ : List ℕ) (ps₀ : List ℤ) (k at : ℕ) (g : List ℕ) (ps : List ℤ) (same : said_lines n k (sketch g ps) (lines (drop at text)) ≡ said_lines n 1 (sketch g₀ ps₀) (lines text)) where
+  pub reads-stops : (f : Fault) → said_lines n k (sketch g ps) (lines (drop at text)) ≡ wrong f → (g' : List ℕ) (ps' : List ℤ) → Held ps' → (y : Result ⊤ Fault) → IsErrAnd y (λ d. d ≡ f)
+      → Reads n text g₀ ps₀ g' ps' y
+  reads-stops f e g' ps' h y p = record { is = ap (read_said n g' ps') (that_fault y f p) ∙ read-fault n g' ps' f ∙ sym e ∙ same; held = h }
 
-pub reads_all : (n : ℕ) (text : Bytes) (g₀ : List ℕ) (ps₀ : List ℤ) (s : State) (g : List ℕ) (ps : List ℤ) → length text ≤ s.at → rest_said n text s g ps ≡ said_lines n 1 (sketch g₀ ps₀) (lines text) → Ready n text s g ps
-    → Reads n text g₀ ps₀ s g ps
-reads_all n text g₀ ps₀ s g ps h e d = record { is = sym (rest_read n text s g ps h) ∙ e; held = d.held }
+  pub reads_all : length text ≤ at → Held ps → (u : ⊤) → Reads n text g₀ ps₀ g ps (Ok u)
+  reads_all l h u = record { is = read_all n g ps u ∙ sym (said-end n k (sketch g ps)) ∙ ap (said_lines n k (sketch g ps)) (sym (lines_none text at l)) ∙ same; held = h }

@@ -5,18 +5,14 @@ use Rattle.drawing.proofs.Laws.Drawn.{bias_small, apart_is}
 use native.Mathlib.Omega.{arith}
 use Rattle.drawing.proofs.apart.Goals as goal
 
--- src/lib.rt:437:16
 pub raise_at-requires : goal.raise_at-requires
 raise_at-requires c = (c.requires.1, omega arith, c.requires.0 _)
 
--- src/lib.rt:437:47
 pub raise_at-requires-2 : goal.raise_at-requires-2
 raise_at-requires-2 c = (c.requires.2, omega arith, c.requires.0 _)
 
--- src/lib.rt:437:5
 pub difference-requires : goal.difference-requires
 difference-requires c = (omega (arith, bias_small _ _ (c.requires.0 _) c.raise_at.ensures), omega (arith, bias_small _ _ (c.requires.0 _) c.raise_at-2.ensures))
 
--- src/lib.rt:433:1
 pub returns : goal.returns
 returns c = to_z-of_z w32 c.difference.result (record { sfits = c.difference.type_inv }) ∙ apart_is _ _ _ _ _ (c.requires.0 _) (c.requires.0 _) c.raise_at.ensures c.raise_at-2.ensures c.difference.ensures

@@ -2,17 +2,14 @@ use borrow.Author.Tests.{eq-eqb, ne_eqb}
 use Rattle.drawing_spec.specs.Words.{blank}
 use Rattle.drawing.proofs.blank.Goals as goal
 
--- src/lib.rt:98:9
 pub returns-then-b-eq32 : goal.returns-then-b-eq32
 unfolding blank
 returns-then-b-eq32 c = rw (eq-eqb _ 32 c.if-b-eq32.true)
 
--- src/lib.rt:101:9
 pub returns-then-b-eq9 : goal.returns-then-b-eq9
 unfolding blank
 returns-then-b-eq9 c = rw (ne_eqb _ 32 c.if-b-eq32.false, eq-eqb _ 9 c.if-b-eq9.true)
 
--- src/lib.rt:94:1
 pub returns : goal.returns
 unfolding blank
 returns c = rw (ne_eqb _ 32 c.if-b-eq32.false, ne_eqb _ 9 c.if-b-eq9.false)

@@ -3,10 +3,8 @@ use mathlib.Core.Path.{sym}
 use native.Mathlib.Omega.{arith}
 use Rattle.drawing.proofs.grown.Goals as goal
 
--- src/lib.rt:186:9
 pub returns-then-next-gt-FARTHEST : goal.returns-then-next-gt-FARTHEST
 returns-then-next-gt-FARTHEST c = (sym (capped_high _ c.if-next-gt-FARTHEST.true), omega arith)
 
--- src/lib.rt:180:1
 pub returns : goal.returns
 returns c = (sym (capped_low _ c.if-next-gt-FARTHEST.false), omega arith)

@@ -1,6 +1,5 @@
 use Rattle.drawing.proofs.Laws.Spans.{next-is}
 use Rattle.drawing.proofs.next_word.Goals as goal
 
--- src/lib.rt:137:1
 pub returns : goal.returns
 returns c = next-is c.args.line.now c.args.at _ _ c.blanks_end-start.ensures.0 c.word_end-end.ensures.0 c.word_end-end.ensures.1

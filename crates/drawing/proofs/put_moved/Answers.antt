@@ -7,14 +7,11 @@ use mathlib.Core.Path.{◌≡◌, refl, ap, ◌∙◌}
 use native.Mathlib.Omega.{arith}
 use Rattle.drawing.proofs.put_moved.Goals as goal
 
--- src/lib.rt:446:5
 pub loop-c-init : goal.loop-c-init
-loop-c-init c = (omega arith, refl, written_none _ _)
+loop-c-init c = (refl, written_none _ _)
 
--- src/lib.rt:446:5
 pub loop-c-preserved : goal.loop-c-preserved
-loop-c-preserved c = (omega arith, ap length c.put_corner.ensures ∙ simp length-set c.loop-c.invariant.1, c.put_corner.ensures ∙ written-put _ _ _ _ _ _ c.loop-c.invariant.2 (to_z-of_z w32 c.apart.result (record { sfits = c.apart.type_inv }) ∙ c.apart.ensures ∙ moved-x _ _) (to_z-of_z w32 c.apart-in-loop-c.result (record { sfits = c.apart-in-loop-c.type_inv }) ∙ c.apart-in-loop-c.ensures ∙ moved-y _ _) (omega arith))
+loop-c-preserved c = (ap length c.put_corner.ensures ∙ simp length-set c.loop-c.invariant.0, c.put_corner.ensures ∙ written-put _ _ _ _ _ _ c.loop-c.invariant.1 (to_z-of_z w32 c.apart.result (record { sfits = c.apart.type_inv }) ∙ c.apart.ensures ∙ moved-x _ _) (to_z-of_z w32 c.apart-in-loop-c.result (record { sfits = c.apart-in-loop-c.type_inv }) ∙ c.apart-in-loop-c.ensures ∙ moved-y _ _) (omega arith))
 
--- src/lib.rt:441:1
 pub returns : goal.returns
-returns c = let e : c.loop-c.c ≡ c.args.n = omega arith in rw e at c.loop-c.invariant.2
+returns c = let e : c.loop-c.c ≡ c.args.n = omega arith in rw e at c.loop-c.invariant.1

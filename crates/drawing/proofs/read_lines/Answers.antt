@@ -1,32 +1,24 @@
-use Rattle.drawing.proofs.Laws.Turns.{starts_ready, turns_ready, reads_all}
-use mathlib.Core.Path.{refl, ◌∙◌}
+use mathlib.Core.Path.{sym, ◌∙◌}
 use native.Mathlib.Omega.{arith}
+use Rattle.drawing.proofs.Laws.Turns.{turned_goes, turned_stops, reads-stops, reads_all}
 use Rattle.drawing.proofs.read_lines.Goals as goal
 
--- src/lib.rt:411:5
-pub loop-s-init : goal.loop-s-init
-loop-s-init c = let h = starts_ready c.args.n c.args.text.now c.args.given.now c.args.places.now _ refl c.requires.0 c.requires.1 c.requires.2 in (h.0, h.1, refl, refl)
+pub returns-in_err-turn : goal.returns-in_err-turn
+returns-in_err-turn c =
+    let l = c.loop-at in
+    reads-stops c.args.n c.args.text.now _ _ l.k l.at l.given l.places l.invariant.same _
+    (turned_stops c.args.n c.args.text.now l.k l.at _ l.given l.places c.loop-at-test.true c.line_end-end.ensures.0 _ _ _ c.in_err-turn.ensures) _ _ c.turn.ensures.held _ c.from_residual.ensures.1
 
--- src/lib.rt:412:9
-pub turn-s-requires : goal.turn-s-requires
-turn-s-requires c = (c.loop-s.invariant.0, c.loop-s-test.true)
+pub loop-at-preserved : goal.loop-at-preserved
+loop-at-preserved c =
+    let l = c.loop-at in
+    record {
+      counted = omega (arith, l.invariant.counted, c.line_end-end.ensures);
+      same = sym (turned_goes c.args.n c.args.text.now l.k l.at _ l.given l.places c.loop-at-test.true c.line_end-end.ensures.0 _ _ _ c.in_ok-turn.ensures) ∙ l.invariant.same;
+      held = c.turn.ensures.held;
+    }
 
--- src/lib.rt:411:5
-pub loop-s-smaller : goal.loop-s-smaller
-loop-s-smaller c = omega (arith, c.turn-s.ensures.on, c.loop-s-test.true)
-
--- src/lib.rt:411:5
-pub loop-s-preserved : goal.loop-s-preserved
-loop-s-preserved c = (turns_ready c.args.n c.args.text.now c.loop-s.given c.loop-s.places c.loop-s.s _ _ _ c.loop-s.invariant.0 c.turn-s.ensures (omega (arith, c.turn-s.auto)) (omega (arith, c.turn-s.auto)), c.turn-s.ensures.same ∙ c.loop-s.invariant.1, omega (arith, c.turn-s.auto, c.loop-s.invariant.2), omega (arith, c.turn-s.auto, c.loop-s.invariant.3))
-
--- src/lib.rt:401:1
-pub shape_of-given : goal.shape_of-given
-shape_of-given c = c.loop-s.invariant.2
-
--- src/lib.rt:401:1
-pub shape_of-places : goal.shape_of-places
-shape_of-places c = c.loop-s.invariant.3
-
--- src/lib.rt:401:1
 pub returns : goal.returns
-returns c = reads_all c.args.n c.args.text.now c.args.given.now c.args.places.now c.loop-s.s c.loop-s.given c.loop-s.places c.loop-s-test.false c.loop-s.invariant.1 c.loop-s.invariant.0
+returns c =
+    let l = c.loop-at in
+    reads_all c.args.n c.args.text.now _ _ l.k l.at l.given l.places l.invariant.same c.loop-at-test.false l.invariant.held _

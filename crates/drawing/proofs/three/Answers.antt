@@ -1,19 +1,17 @@
-use borrow.Author.Tests.{not-true, not-false}
-use Rattle.drawing.proofs.Laws.Lines.{three-cell, three-x, three-y, three-all, told-unread}
+use Rattle.drawing.proofs.Laws.Numbers.{read_back}
+use Rattle.drawing.proofs.Laws.Lines.{corner-cell, corner-x, corner-y, corner-all}
 use Rattle.drawing.proofs.three.Goals as goal
 
--- src/lib.rt:297:9
-pub returns-then-not-c : goal.returns-then-not-c
-returns-then-not-c c = λ o u v a b d. three-cell _ (not-true _ c.if-not-c.true) o u v a _ (told-unread _ c.no_cell.ensures)
+pub returns-in_err-cell : goal.returns-in_err-cell
+returns-in_err-cell c = rw c.from_residual.ensures (corner-cell c.args.line.now c.args.first c.in_err-cell.ensures)
 
--- src/lib.rt:300:9
-pub returns-then-not-x : goal.returns-then-not-x
-returns-then-not-x c = λ o u v a b d. three-x _ (not-true _ c.if-not-x.true) o u v b _ (told-unread _ c.no_cell-then-not-x.ensures)
+pub returns-in_err-x : goal.returns-in_err-x
+returns-in_err-x c = rw c.from_residual-in_err-x.ensures (corner-x _ _ _ c.next_word-second.ensures c.in_err-x.ensures)
 
--- src/lib.rt:303:9
-pub returns-then-not-y : goal.returns-then-not-y
-returns-then-not-y c = λ o u v a b d. three-y _ (not-true _ c.if-not-y.true) o u v d _ (told-unread _ c.no_cell-then-not-y.ensures)
+pub returns-in_err-y : goal.returns-in_err-y
+returns-in_err-y c = rw c.from_residual-in_err-y.ensures (corner-y _ _ _ c.next_word-second.ensures _ c.next_word-third.ensures c.in_err-y.ensures)
 
--- src/lib.rt:293:1
 pub returns : goal.returns
-returns c = three-all c.args.c c.args.x c.args.y (not-false _ c.if-not-c.false) (not-false _ c.if-not-x.false) (not-false _ c.if-not-y.false)
+returns c =
+    rw (read_back _ c.in_ok-x.x c.in_ok-x.ensures, read_back _ c.in_ok-y.y c.in_ok-y.ensures)
+    (corner-all _ _ _ c.next_word-second.ensures _ c.next_word-third.ensures _ _ _ c.in_ok-cell.ensures c.in_ok-x.ensures c.in_ok-y.ensures)

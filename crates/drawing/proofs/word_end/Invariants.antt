@@ -1,12 +1,9 @@
 use Rattle.drawing_spec.specs.Words.{blank}
 use Rattle.drawing.specs.Steps.{until}
-use lib.ListN.{length, drop}
-use Prim.Native.Nat.{◌+◌, ◌-◌, ◌≤◌}
+use lib.ListN.{drop}
+use Prim.Native.Nat.{◌+◌}
 use mathlib.Core.Path.{◌≡◌}
 use Rattle.drawing.proofs.word_end.Given as goal
 
 abbrev pub invariant-loop-i : goal.invariant-loop-i
-invariant-loop-i l = (l.i ≤ length l.line) × (l.at + until blank (drop l.at l.line) ≡ l.i + until blank (drop l.i l.line))
-
-abbrev pub decreases-loop-i : goal.decreases-loop-i
-decreases-loop-i l = length l.line - l.i
+invariant-loop-i l = l.at + until blank (drop l.at l.line) ≡ l.i + until blank (drop l.i l.line)

@@ -24,7 +24,7 @@ use Rattle.contours.proofs.Laws.Sheet.{sheet_s1}
 use Rattle.least.proofs.Laws.Columns.{sheet-inside}
 use Rattle.positions.specs.Written.{corners, written}
 use Rattle.positions.proofs.Laws.Written.{written_none, written-put, written_agree}
-use Rattle.planfile_spec.specs.declared.Reading.{Reading}
+use Rattle.planfile_spec.specs.Read.{Reading}
 use Rattle.listing.specs.Printed.{Bytes, sheet_word, decimal, signed, sheet_line, label_field, cell_line, lines_joined}
 use Rattle.printing.specs.Printing.{label_bytes, read_table, ours, first_line, cell_of, text_of, cells_text, Taken}
 use Rattle.printing.proofs.Laws.Taken.{passes, count-is, taken_few, fit, text-plan}

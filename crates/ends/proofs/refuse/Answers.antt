@@ -1,30 +1,35 @@
-use Rattle.plan.proofs.Laws.Tables.{length-is, count_few}
-use Rattle.plan.specs.Steps.{near_refusal}
-use Rattle.plan.proofs.Laws.Fit.{lent_fit}
-use Rattle.plan.proofs.Laws.Calls.{ends-refusal}
-use Rattle.plan.proofs.Laws.Questions.{stops, goes_on}
-use Rattle.plan.specs.Questions.{asked}
-use Rattle.plan.specs.Columns.{table_of}
-use Rattle.plan.specs.declared.Refusal.{Refusal}
-use lib.Dec.{ltb}
+use mathlib.Core.Path.{◌∙◌, sym, ap}
 use mathlib.Core.Bool.{Bool, ◌&&◌}
 use Prim.Native.Nat.{ℕ}
 use native.Mathlib.Omega.{arith}
-use mathlib.Core.Path.{◌∙◌, sym, ap}
+use lib.Dec.{ltb}
+use Rattle.plan.specs.Columns.{table_of}
+use Rattle.plan.specs.Questions.{asked, passed}
+use Rattle.plan.specs.Steps.{near_refusal}
+use Rattle.plan.proofs.Laws.Answered.{err_stops, ok_goes_on, passes}
+use Rattle.plan.proofs.Laws.Calls.{ends-refusal}
+use Rattle.plan.proofs.Laws.Fit.{lent_fit}
+use Rattle.plan.proofs.Laws.Tables.{length-is, count_few}
 use Rattle.ends.proofs.refuse.Goals as goal
 
-pub returns-then-lent-ne0 : goal.returns-then-lent-ne0
-returns-then-lent-ne0 c =
-    stops _ _ _ (c.lent_refusal-lent.ensures _) c.if-lent-ne0.true ∙ sym (ends-refusal (table_of c.args.t) c.args.positions.now c.args.cell)
+pub returns-in_err-lent_refusal : goal.returns-in_err-lent_refusal
+returns-in_err-lent_refusal c =
+    err_stops _ _ _ _ c.in_err-lent_refusal.ensures c.from_residual.ensures.1 _ ∙ ap passed (sym (ends-refusal (table_of c.args.t.now) c.args.positions.now c.args.cell))
 
-pub near_refusal-near-requires : goal.near_refusal-near-requires
-near_refusal-near-requires c =
-    let h = (lent_fit _ _ (ap (λ (x : Refusal). x.number) (sym (c.lent_refusal-lent.ensures _)) ∙ c.if-lent-ne0.false)) in (count_few c.args.t h.fit, omega (arith, h.room, length-is c.args.t))
+pub near_refusal-requires : goal.near_refusal-requires
+near_refusal-requires c =
+    let h = lent_fit _ _ (passes _ _ c.in_ok-lent_refusal.ensures) in
+    (count_few c.args.t.now h.fit, omega (arith, h.room, length-is c.args.t.now))
 
-pub returns-then-near-ne0 : goal.returns-then-near-ne0
-returns-then-near-ne0 c =
-    goes_on _ _ _ _ (c.lent_refusal-lent.ensures _) c.if-lent-ne0.false (stops _ _ _ (c.near_refusal-near.ensures ∙ ap (near_refusal _) (sym (length-is c.args.t))) c.if-near-ne0.true) ∙ sym (ends-refusal (table_of c.args.t) c.args.positions.now c.args.cell)
+pub returns-in_err-near_refusal : goal.returns-in_err-near_refusal
+returns-in_err-near_refusal c =
+    ok_goes_on _ _ c.in_ok-lent_refusal.ensures _ _ _
+    (err_stops _ _ _ _ (c.in_err-near_refusal.ensures ∙ ap (λ n. passed (near_refusal c.args.positions.now n)) (sym (length-is c.args.t.now))) c.from_residual-in_err-near_refusal.ensures.1 _)
+    ∙ ap passed (sym (ends-refusal (table_of c.args.t.now) c.args.positions.now c.args.cell))
 
 pub returns : goal.returns
 returns c =
-    goes_on _ _ _ _ (c.lent_refusal-lent.ensures _) c.if-lent-ne0.false (goes_on _ _ _ _ (c.near_refusal-near.ensures ∙ ap (near_refusal _) (sym (length-is c.args.t))) c.if-near-ne0.false (c.asked.ensures ∙ ap (λ (b : Bool). asked 16 b 0) c.named.ensures ∙ ap (λ (n : ℕ). asked 16 (ltb c.args.cell n && ltb 0 c.args.cell) 0) (sym (length-is c.args.t)))) ∙ sym (ends-refusal (table_of c.args.t) c.args.positions.now c.args.cell)
+    ok_goes_on _ _ c.in_ok-lent_refusal.ensures _ _ _
+    (ok_goes_on _ _ (c.in_ok-near_refusal.ensures ∙ ap (λ n. passed (near_refusal c.args.positions.now n)) (sym (length-is c.args.t.now))) _ _ _
+    (c.asked.ensures.numbered (omega arith) ∙ ap (λ (b : Bool). passed (asked 16 b 0)) c.named.ensures ∙ ap (λ (n : ℕ). passed (asked 16 (ltb c.args.cell n && ltb 0 c.args.cell) 0)) (sym (length-is c.args.t.now))))
+    ∙ ap passed (sym (ends-refusal (table_of c.args.t.now) c.args.positions.now c.args.cell))

@@ -7,7 +7,7 @@ use Rattle.plan.specs.declared.Record.{Record}
 use Rattle.planfile_spec.specs.Format.{trailer_of, entry, records_of}
 use Rattle.planfile_spec.specs.Reading.{columns_of}
 use Rattle.planfile_spec.proofs.Laws.Examined.{column-at}
-use Rattle.planfile_spec.specs.declared.Reading.{Reading}
+use Rattle.planfile_spec.specs.Read.{Reading}
 use Rattle.records.specs.Together.{record_in, filled}
 use Rattle.records.proofs.Laws.Together.{filled-all}
 

@@ -15,10 +15,10 @@ use Rattle.finishing_asks.specs.Asks.{start_no}
 pub zero_of : {r s : Refusal} → r ≡ s → r.number ≡ 0 → s.number ≡ 0
 zero_of e z = ap (λ (x : Refusal). x.number) (sym e) ∙ z
 
-module _ (t : Table) (al : ℕ) (xs ms : List ℕ) {r : Refusal} (e : r ≡ start_no t al (length xs) (length ms)) where
-  pub start-asks : r.number ≡ 0 → Fit t × (scratch_size ≤ length xs) × (second_size ≤ length ms)
+module _ (t : Table) (al : ℕ) (xs ms : List ℕ) where
+  pub start-asks : (start_no t al (length xs) (length ms)).number ≡ 0 → Fit t × (scratch_size ≤ length xs) × (second_size ≤ length ms)
   start-asks z =
-      let y = zero_of (e ∙ start-refusal t al (length xs) (length ms)) z in
+      let y = zero_of (start-refusal t al (length xs) (length ms)) z in
       let (two, rest) = both-none (asked 1 (leb second_size (length ms)) 0) _ y in
       let (one, left) = both-none (asked 1 (leb scratch_size (length xs)) 0) _ rest in
       (counted_fit t (both-none (counted_refusal t) _ left).0, leb→le scratch_size (length xs) (asked_yes 0 _ 0 one), leb→le second_size (length ms) (asked_yes 0 _ 0 two))

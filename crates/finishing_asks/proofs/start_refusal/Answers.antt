@@ -1,21 +1,32 @@
-use Rattle.plan.proofs.Laws.Calls as calls
-use mathlib.Core.Path.{sym, ◌∙◌}
+use mathlib.Core.Path.{sym, ap, ◌∙◌}
+use native.Mathlib.Omega.{arith}
 use Rattle.plan.specs.Columns.{table_of}
-use Rattle.plan.proofs.Laws.Questions.{stops, goes_on}
+use Rattle.plan.specs.Questions.{passed}
+use Rattle.plan.proofs.Laws.Answered.{err_stops, ok_goes_on}
+use Rattle.plan.proofs.Laws.Calls as calls
 use Rattle.finishing_asks.proofs.start_refusal.Goals as goal
 
-pub returns-then-room-ne0 : goal.returns-then-room-ne0
-returns-then-room-ne0 c =
-    stops _ _ _ c.asked-room.ensures c.if-room-ne0.true ∙ sym (calls.start-refusal (table_of c.args.t) c.args.allowance c.args.scratch c.args.second)
+pub returns-in_err-asked : goal.returns-in_err-asked
+returns-in_err-asked c =
+    err_stops _ _ _ _ (c.in_err-asked.ensures.numbered (omega arith)) c.from_residual.ensures.1 _
+    ∙ ap passed (sym (calls.start-refusal (table_of c.args.t.now) c.args.allowance c.args.scratch c.args.second))
 
-pub returns-then-long-ne0 : goal.returns-then-long-ne0
-returns-then-long-ne0 c =
-    goes_on _ _ _ _ c.asked-room.ensures c.if-room-ne0.false (stops _ _ _ c.asked-long.ensures c.if-long-ne0.true) ∙ sym (calls.start-refusal (table_of c.args.t) c.args.allowance c.args.scratch c.args.second)
+pub returns-in_err-asked-2 : goal.returns-in_err-asked-2
+returns-in_err-asked-2 c =
+    ok_goes_on _ _ (c.in_ok-asked.ensures.numbered (omega arith)) _ _ _
+    (err_stops _ _ _ _ (c.in_err-asked-2.ensures.numbered (omega arith)) c.from_residual-in_err-asked-2.ensures.1 _)
+    ∙ ap passed (sym (calls.start-refusal (table_of c.args.t.now) c.args.allowance c.args.scratch c.args.second))
 
-pub returns-then-lent-ne0 : goal.returns-then-lent-ne0
-returns-then-lent-ne0 c =
-    goes_on _ _ _ _ c.asked-room.ensures c.if-room-ne0.false (goes_on _ _ _ _ c.asked-long.ensures c.if-long-ne0.false (stops _ _ _ (c.counted_refusal-lent.ensures _) c.if-lent-ne0.true)) ∙ sym (calls.start-refusal (table_of c.args.t) c.args.allowance c.args.scratch c.args.second)
+pub returns-in_err-counted_refusal : goal.returns-in_err-counted_refusal
+returns-in_err-counted_refusal c =
+    ok_goes_on _ _ (c.in_ok-asked.ensures.numbered (omega arith)) _ _ _
+    (ok_goes_on _ _ (c.in_ok-asked-2.ensures.numbered (omega arith)) _ _ _
+    (err_stops _ _ _ _ c.in_err-counted_refusal.ensures c.from_residual-in_err-counted_refusal.ensures.1 _))
+    ∙ ap passed (sym (calls.start-refusal (table_of c.args.t.now) c.args.allowance c.args.scratch c.args.second))
 
 pub returns : goal.returns
 returns c =
-    goes_on _ _ _ _ c.asked-room.ensures c.if-room-ne0.false (goes_on _ _ _ _ c.asked-long.ensures c.if-long-ne0.false (goes_on _ _ _ _ (c.counted_refusal-lent.ensures _) c.if-lent-ne0.false c.allowance_refusal.ensures)) ∙ sym (calls.start-refusal (table_of c.args.t) c.args.allowance c.args.scratch c.args.second)
+    ok_goes_on _ _ (c.in_ok-asked.ensures.numbered (omega arith)) _ _ _
+    (ok_goes_on _ _ (c.in_ok-asked-2.ensures.numbered (omega arith)) _ _ _
+    (ok_goes_on _ _ c.in_ok-counted_refusal.ensures _ _ _ c.allowance_refusal.ensures))
+    ∙ ap passed (sym (calls.start-refusal (table_of c.args.t.now) c.args.allowance c.args.scratch c.args.second))

@@ -1,13 +1,17 @@
-use Rattle.plan.proofs.Laws.Calls as calls
-use mathlib.Core.Path.{sym, ◌∙◌}
+use mathlib.Core.Path.{sym, ap, ◌∙◌}
+use native.Mathlib.Omega.{arith}
 use Rattle.plan.specs.Columns.{table_of}
-use Rattle.plan.proofs.Laws.Questions.{stops, goes_on}
+use Rattle.plan.specs.Questions.{passed}
+use Rattle.plan.proofs.Laws.Answered.{err_stops, ok_goes_on}
+use Rattle.plan.proofs.Laws.Calls as calls
 use Rattle.finishing_asks.proofs.step_refusal.Goals as goal
 
-pub returns-then-room-ne0 : goal.returns-then-room-ne0
-returns-then-room-ne0 c =
-    stops _ _ _ c.asked-room.ensures c.if-room-ne0.true ∙ sym (calls.step-refusal (table_of c.args.t) c.args.allowance c.args.scratch c.args.second c.args.positions)
+pub returns-in_err-asked : goal.returns-in_err-asked
+returns-in_err-asked c =
+    err_stops _ _ _ _ (c.in_err-asked.ensures.numbered (omega arith)) c.from_residual.ensures.1 _
+    ∙ ap passed (sym (calls.step-refusal (table_of c.args.t.now) c.args.allowance c.args.scratch c.args.second c.args.positions))
 
 pub returns : goal.returns
 returns c =
-    goes_on _ _ _ _ c.asked-room.ensures c.if-room-ne0.false c.layout_refusal.ensures ∙ sym (calls.step-refusal (table_of c.args.t) c.args.allowance c.args.scratch c.args.second c.args.positions)
+    ok_goes_on _ _ (c.in_ok-asked.ensures.numbered (omega arith)) _ _ _ c.layout_refusal.ensures
+    ∙ ap passed (sym (calls.step-refusal (table_of c.args.t.now) c.args.allowance c.args.scratch c.args.second c.args.positions))

@@ -1,5 +1,5 @@
 -- One step over columns. Nothing that a reader must believe stands here. Assumes nothing.
-use Rattle.std.specs.Prelude.{◌≡◌, refl, ◌≢◌, ◌⊎◌, Bool, true, false, ℕ, zero, suc, ◌≤◌, ◌<◌, length, get_or}
+use Rattle.std.specs.Prelude.{◌≡◌, refl, ◌≢◌, ◌⊎◌, Bool, true, false, Some, None, ℕ, zero, suc, ◌≤◌, ◌<◌, length, get_or}
 use Rattle.std.proofs.Common.{◌∙◌, sym, inl, inr, arith}
 use Rattle.std.proofs.Math.Path.{ap, subst}
 use mathlib.Core.List.{List}
@@ -30,7 +30,7 @@ use Rattle.finishing_order.specs.Order.{nth}
 use Rattle.finishing_order.proofs.Laws.Order.{nth_is, nth_in}
 use Rattle.finishing_guard.specs.Guard.{Guards, advanced, Static, Finished}
 use Rattle.finishing_cell.specs.Taking.{up_of, Took}
-use Rattle.finishing_guard.proofs.Laws.Guard.{set_guard, closing_guard, ending_guard}
+use Rattle.finishing_guard.proofs.Laws.Guard.{bool_apart, set_guard, closing_guard, ending_guard}
 
 pub up_root : (ps : List ℕ) (c : ℕ) → c ≡ 0 → up_of ps c ≡ 0
 unfolding up_of
@@ -183,12 +183,26 @@ module _ (t : Columns) (fit : Fit (table_of t)) (long : Long t) (tops levels ls 
             let a' : At (children tab f) i (suc p) = subst (λ (x : ℕ). At (children tab x) i (suc p)) (sym fe) (subst (λ (z : ℕ). At (children tab (parent tab c)) i z) (sym q) a) in
             subst (λ (v : ℕ). closed b v f (suc p) m ≡ finishes tab al (suc p) m) (sym lv_is) (closes tab b suits (λ m. Unit {0}) f i (suc p) m (omega (arith, f-is, is)) a')
 
-    pub took : (n : Memory) (r : Bool) → Finished b lv f c (memory_of xs ms) n r → Took tab al k (memory_of xs ms) n r c
-    took n r h = record { cell_is = cell; small = is; on = λ e. go r h e; no = h.no; clear = λ e. rw e (ended tab b suits).scratch }
-      where
-        go : (r : Bool) → Finished b lv f c (memory_of xs ms) n r → memory_of xs ms ≡ made tab al k → (r ≡ true) × (n ≡ worked tab al (suc k))
-        go false h e = absurd (h.fires refl (guard_made e))
-        go true h e = (refl, h.yes refl ∙ ap (advanced b lv f c) (out e) ∙ advanced-is (worked tab al k) ∙ ap (λ (x : ℕ). finishes tab al x (worked tab al k)) cell ∙ sym (one_more tab b suits k k_in))
-          where
-            out : memory_of xs ms ≡ made tab al k → memory_of (set xs count_at 0) ms ≡ worked tab al k
-            out e = taken_out tab fit.sound al k xs ms e
+    -- where the scratches are those after k steps, it is finished,
+    lets : (n : Memory) (r : Bool) → Finished b lv f c (memory_of xs ms) n r → memory_of xs ms ≡ made tab al k → (r ≡ true) × (n ≡ worked tab al (suc k))
+    lets n false h e = absurd (h.fires refl (guard_made e))
+    lets n true h e =
+        let out : memory_of (set xs count_at 0) ms ≡ worked tab al k = taken_out tab fit.sound al k xs ms e in
+        (refl, h.yes refl ∙ ap (advanced b lv f c) out ∙ advanced-is (worked tab al k) ∙ ap (λ (x : ℕ). finishes tab al x (worked tab al k)) cell ∙ sym (one_more tab b suits k k_in))
+
+    -- and told; else none is
+    pub took-yes : (n : Memory) {r : Bool} → r ≡ true → Finished b lv f c (memory_of xs ms) n r → Took tab al k (memory_of xs ms) n (Some c)
+    took-yes n {r} q h = record {
+      told = λ d e. let same : c ≡ d = cc in (sym same ∙ cell, omega (arith, same, is));
+      on = λ e. (ap Some cell, (lets n r h e).1);
+      no = λ e. cc;
+      clear = λ e. rw e (ended tab b suits).scratch;
+    }
+
+    pub took-no : (n : Memory) {r : Bool} → r ≡ false → Finished b lv f c (memory_of xs ms) n r → Took tab al k (memory_of xs ms) n None
+    took-no n {r} q h = record {
+      told = λ d e. cc;
+      on = λ e. absurd (bool_apart (sym (lets n r h e).0 ∙ q));
+      no = λ _. h.no q;
+      clear = λ e. rw e (ended tab b suits).scratch;
+    }

@@ -1,5 +1,5 @@
 use Rattle.finishing_cell.proofs.Laws.Taking.{up_root, up-child}
-use mathlib.Core.Path.{sym, ◌∙◌}
+use mathlib.Core.Path.{sym}
 use native.Mathlib.Omega.{arith}
 use Rattle.finishing_cell.proofs.above.Goals as goal
 
@@ -7,4 +7,4 @@ pub returns-then-c-eq0 : goal.returns-then-c-eq0
 returns-then-c-eq0 c = sym (up_root c.args.parents.now c.args.c c.if-c-eq0.true)
 
 pub returns : goal.returns
-returns c = c.parent_of.ensures ∙ sym (up-child c.args.parents.now c.args.c (omega (arith, c.if-c-eq0.false)))
+returns c = rw c.from.ensures (sym (up-child c.args.parents.now c.args.c (omega (arith, c.if-c-eq0.false))))

@@ -1,11 +1,11 @@
 use native.Mathlib.Omega.{arith}
-use Rattle.walk.specs.Machine.{Chart, chart}
+use Rattle.walk.specs.Machine.{Chart, chart_of}
 use Rattle.finishing_guard.proofs.Laws.Guard.{root_needs, finished-child, finished_root}
 use Rattle.finishing_cell.proofs.finish.Goals as goal
 use Rattle.finishing_cell.proofs.finish.Goals.{Start}
 
 abbrev board : Start → Chart
-board s = let a = s.args in chart a.links.now a.widths.now a.depths.now a.tops.now a.allowance
+board s = chart_of s.args.b.now
 
 pub finish_last-requires : goal.finish_last-requires
 finish_last-requires c =

@@ -1,7 +1,7 @@
 -- The guard gives all that the walk's functions ask, on any content of the scratches; and it holds wherever the walk is. Assumes nothing.
-use Rattle.std.specs.Prelude.{◌≡◌, refl, ◌≢◌, List, Bool, true, false, ℕ, zero, suc, ◌+◌, ◌-◌, ◌*◌, ◌≤◌, ◌<◌, max, T, leb, length, get_or, set, take, drop}
+use Rattle.std.specs.Prelude.{◌≡◌, refl, ◌≢◌, List, Bool, true, false, ℕ, zero, suc, ◌+◌, ◌-◌, ◌*◌, ◌≤◌, ◌<◌, ◌↔◌, T, leb, length, set, take, drop, slice_index, EachIndex, IsTrue}
 use Rattle.std.proofs.Common.{◌∙◌, ap, sym, subst, arith, leb-true, leb-false, length-set, drop-set-lt}
-use Rattle.std.proofs.Math.Decide.{ℕ_discrete, dec_lt}
+use Rattle.std.proofs.Math.Decide.{dec_lt}
 use Rattle.plan.specs.Limits.{scratch_size, second_size, last_row, farthest}
 use Rattle.rows.specs.Rows.{row_size, Low, box_to, max_to}
 use Rattle.rows.proofs.Laws.Rows.{box_to-length}
@@ -12,7 +12,7 @@ use Rattle.folding.proofs.Laws.Lists.{get_past}
 use Rattle.walk.specs.Machine.{Chart, wide, deep, top, stretch, closed, root_closed, Closing, Ending, Rooting}
 use Rattle.walk.proofs.Laws.Stretch.{stretch-length}
 use Rattle.finishing_guard.specs.Guard.{count_at}
-use Rattle.finishing_guard.specs.Guard.{OwnRows, Guarded, Guards, Tells, Greatest, Static, Tried, Finished}
+use Rattle.finishing_guard.specs.Guard.{OwnRows, Guarded, Guards, Tells, Static, Tried, Finished}
 
 -- ---- answers
 pub bool_apart : true ≡ false → ⊥
@@ -24,31 +24,11 @@ tells_no n = record { yes = λ e. absurd (bool_apart (sym e)); no = λ e. n }
 pub tells_le : {P : Type 0} (a b : ℕ) → (a ≤ b → P) → (P → a ≤ b) → Tells (leb a b) P
 tells_le a b f g = record { yes = λ e. f (leb-true a b e); no = λ e p. omega (arith, leb-false a b e, g p) }
 
--- ---- the greatest of the first i numbers
-pub record Upto (xs : List ℕ) (g i : ℕ) : Type 0 where
-  pub most : (j : ℕ) → j < i → get_or xs j 0 ≤ g
-  pub least : (b : ℕ) → ((j : ℕ) → get_or xs j 0 ≤ b) → g ≤ b
-
-pub upto-none : (xs : List ℕ) → Upto xs 0 0
-upto-none xs = record { most = λ j l. absurd (omega arith); least = λ b h. omega arith }
-
-pub upto-more : (xs : List ℕ) (g i h : ℕ) → Upto xs g i → h ≡ max g (get_or xs i 0) → Upto xs h (i + 1)
-upto-more xs g i h u e = record {
-  most = λ j l. elim (ℕ_discrete j i) [ yes q ↦ rw q (omega arith) | no ne ↦ omega (arith, u.most j (omega arith)) ];
-  least = λ b k. omega (arith, u.least b k, k i);
+pub tells_low : {P : Type 0} (xs : List ℕ) {r : Bool} → (IsTrue r ↔ EachIndex xs (λ k. slice_index xs k ≤ farthest)) → (Low xs → P) → (P → Low xs) → Tells r P
+tells_low xs h f g = record {
+  yes = λ e. f (λ i. elim (dec_lt i (length xs)) [ yes q ↦ h.0 e i q | no ge ↦ rw (get_past xs i (omega arith)) (omega arith) ]);
+  no = λ e p. bool_apart (sym (h.1 (λ i q. g p i)) ∙ e);
 }
-
-pub upto_all : (xs : List ℕ) (g i : ℕ) → length xs ≤ i → Upto xs g i → Greatest xs g
-upto_all xs g i l u = record {
-  most = λ j. elim (dec_lt j i) [ yes q ↦ u.most j q | no ge ↦ rw (get_past xs j (omega arith)) (omega arith) ];
-  least = u.least;
-}
-
-pub low_yes : (xs : List ℕ) (g : ℕ) → Greatest xs g → g ≤ farthest → Low xs
-low_yes xs g h l i = omega (arith, h.most i)
-
-pub low_no : (xs : List ℕ) (g : ℕ) → Greatest xs g → Low xs → g ≤ farthest
-low_no xs g h k = h.least farthest k
 
 -- ---- it gives all that the walk's functions ask: of a cell below the root
 module _ (b : Chart) (level f c : ℕ) (xs ms : List ℕ) (s : Static b level f c xs ms) (f≢c : f ≢ c) (g : Guarded xs ms c f (deep b c) (top b c)) where

@@ -7,18 +7,12 @@ use Rattle.finishing_guard.specs.Guard.{OwnRows, uncounted}
 use Rattle.finishing_guard.proofs.Laws.Guard.{root_ready, root_found, tried_yes, tried_no}
 use Rattle.finishing_guard.proofs.finish_last.Goals as goal
 
-pub number-d-requires : goal.number-d-requires
-number-d-requires c = c.requires.1
-
 pub guarded_own-requires : goal.guarded_own-requires
 guarded_own-requires c =
-    (omega (arith, c.requires.3), omega (arith, c.requires.4, c.number-d.ensures))
+    (omega (arith, c.requires.3), omega (arith, c.requires.4, c.from-d.ensures))
 
 pub bounds-rows-63 : goal.bounds-rows-63
 bounds-rows-63 c = omega (arith, c.requires.2)
-
-pub width_of-requires : goal.width_of-requires
-width_of-requires c = c.requires.0
 
 pub finish_root-requires : goal.finish_root-requires
 finish_root-requires c =
@@ -29,7 +23,7 @@ shape_of-rows-then-guarded_own c = c.finish_root.auto.rows ∙ length-set {A = �
 
 pub returns-then-guarded_own : goal.returns-then-guarded_own
 returns-then-guarded_own c =
-    tried_yes (c.finish_root.ensures ∙ root_found (uncounted (memory_of c.args.rows.now c.args.marks.now)) c.number-d.ensures c.width_of.ensures)
+    tried_yes (c.finish_root.ensures ∙ root_found (uncounted (memory_of c.args.rows.now c.args.marks.now)) c.from-d.ensures c.from.ensures)
 
 pub returns : goal.returns
-returns c = tried_no (λ g. c.guarded_own.ensures.no c.if-guarded_own.false (subst (λ (d : ℕ). OwnRows c.args.marks.now 0 d 0) (sym c.number-d.ensures) g))
+returns c = tried_no (λ g. c.guarded_own.ensures.no c.if-guarded_own.false (subst (λ (d : ℕ). OwnRows c.args.marks.now 0 d 0) (sym c.from-d.ensures) g))

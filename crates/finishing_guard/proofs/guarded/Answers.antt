@@ -1,7 +1,7 @@
 use mathlib.Core.Path.{sym, subst}
 use native.Mathlib.Omega.{arith}
 use Rattle.rows.specs.Rows.{Low}
-use Rattle.finishing_guard.proofs.Laws.Guard.{tells_no, tells_le, low_yes, low_no, part-stretch}
+use Rattle.finishing_guard.proofs.Laws.Guard.{tells_no, tells_low, part-stretch}
 use Rattle.finishing_guard.proofs.guarded.Goals as goal
 
 pub guarded_own-requires : goal.guarded_own-requires
@@ -37,18 +37,21 @@ pub offset_bounds-scratch-start : goal.offset_bounds-scratch-start
 offset_bounds-scratch-start c =
     omega (arith, c.requires.0, c.requires.3, c.joined_rows.ensures, (c.guarded_own.ensures.yes c.if-not-guarded_own.false).fit, (c.guarded_parent.ensures.yes c.if-not-guarded_parent.false).fit)
 
-pub slice_bounds-greatest-count : goal.slice_bounds-greatest-count
-slice_bounds-greatest-count c =
+pub slice_bounds-all_low-count : goal.slice_bounds-all_low-count
+slice_bounds-all_low-count c =
     omega (arith, c.requires.0, c.requires.3, c.joined_rows.ensures, (c.guarded_own.ensures.yes c.if-not-guarded_own.false).fit, (c.guarded_parent.ensures.yes c.if-not-guarded_parent.false).fit)
 
-pub slice_bounds-greatest-start : goal.slice_bounds-greatest-start
-slice_bounds-greatest-start c =
+pub slice_bounds-all_low-start : goal.slice_bounds-all_low-start
+slice_bounds-all_low-start c =
     omega (arith, c.requires.0, c.requires.3, c.joined_rows.ensures, (c.guarded_own.ensures.yes c.if-not-guarded_own.false).fit, (c.guarded_parent.ensures.yes c.if-not-guarded_parent.false).fit)
 
-pub slice_bounds-greatest-end : goal.slice_bounds-greatest-end
-slice_bounds-greatest-end c =
+pub slice_bounds-all_low-end : goal.slice_bounds-all_low-end
+slice_bounds-all_low-end c =
     omega (arith, c.requires.0, c.requires.3, c.joined_rows.ensures, (c.guarded_own.ensures.yes c.if-not-guarded_own.false).fit, (c.guarded_parent.ensures.yes c.if-not-guarded_parent.false).fit)
 
 pub returns : goal.returns
 returns c =
-    tells_le c.greatest.result 262143 (λ l. record { own = (c.guarded_own.ensures.yes c.if-not-guarded_own.false); theirs = (c.guarded_parent.ensures.yes c.if-not-guarded_parent.false); low = subst Low (part-stretch c.args.scratch.now c.args.y c.joined_rows.result _ c.joined_rows.ensures) (low_yes _ _ c.greatest.ensures l) }) (λ g. low_no _ _ c.greatest.ensures (subst Low (sym (part-stretch c.args.scratch.now c.args.y c.joined_rows.result _ c.joined_rows.ensures)) g.low))
+    let e = part-stretch c.args.scratch.now c.args.y c.joined_rows.result _ c.joined_rows.ensures in
+    tells_low _ c.all_low.ensures
+    (λ l. record { own = c.guarded_own.ensures.yes c.if-not-guarded_own.false; theirs = c.guarded_parent.ensures.yes c.if-not-guarded_parent.false; low = subst Low e l })
+    (λ g. subst Low (sym e) g.low)

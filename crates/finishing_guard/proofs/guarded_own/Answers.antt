@@ -20,4 +20,4 @@ mark_of-requires-3 c = (c.requires.0, omega arith)
 
 pub returns : goal.returns
 returns c =
-    tells_le (c.args.y + (c.args.d + 1 + c.wide32.result)) 256 (λ l. record { behind = omega (arith, c.mark_of.ensures, c.mark_of-2.ensures, c.if-mark_of.false); fit = omega (arith, c.mark_of-3.ensures, c.wide32.ensures, l) }) (λ g. omega (arith, g.fit, c.mark_of-3.ensures, c.wide32.ensures))
+    tells_le (c.args.y + (c.args.d + 1 + c.mark_of-3.result)) 256 (λ l. record { behind = omega (arith, c.mark_of.ensures, c.mark_of-2.ensures, c.if-mark_of.false); fit = omega (arith, c.mark_of-3.ensures, l) }) (λ g. omega (arith, g.fit, c.mark_of-3.ensures))

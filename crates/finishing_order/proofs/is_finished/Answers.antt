@@ -10,8 +10,8 @@ links_of-links-requires c = (c).requires
 
 pub seek-s-requires : goal.seek-s-requires
 seek-s-requires c =
-    (let g = seeking c.args.t c.requires _ c.links_of-links.ensures in (g.0, g.1, omega (arith, c.fewer.ensures)))
+    (let g = seeking c.args.t.now c.requires _ c.links_of-links.ensures in (g.0, g.1, omega (arith, c.min.ensures)))
 
 pub returns : goal.returns
 returns c =
-    c.seek-s.ensures.1 ∙ ap (λ (k : ℕ). met c.links_of-links.result c.args.t.parent c.args.x k) c.fewer.ensures ∙ met-here c.args.t c.requires _ c.links_of-links.ensures c.args.k c.args.x
+    c.seek-s.ensures.1 ∙ ap (λ (k : ℕ). met c.links_of-links.result c.args.t.now.parent c.args.x k) c.min.ensures ∙ met-here c.args.t.now c.requires _ c.links_of-links.ensures c.args.k c.args.x

@@ -1,7 +1,7 @@
 use native.Mathlib.Omega.{arith}
-use Rattle.plan.specs.Columns.{table_of}
+use Rattle.plan.proofs.Laws.Answered.{answers_err, answers_ok}
 use Rattle.plan.proofs.Laws.Tables.{length-is}
-use Rattle.finishing_reach.proofs.Laws.Reaching.{read_yes, read_no}
+use Rattle.finishing_reach.specs.Reading.{read}
 use Rattle.finishing_reach.proofs.reading.Goals as goal
 
 pub count_of-requires : goal.count_of-requires
@@ -10,22 +10,19 @@ count_of-requires c = c.requires.1
 pub is_finished-requires : goal.is_finished-requires
 is_finished-requires c = c.requires.0
 
+pub asked-requires : goal.asked-requires
+asked-requires c = omega (arith, c.requires.3, c.requires.0.not_too_many, length-is c.args.t.now)
+
 pub mark_of-requires : goal.mark_of-requires
-mark_of-requires c =
-    (omega (arith, c.requires.2, c.requires.3, c.requires.0.not_too_many, length-is c.args.t), omega arith)
+mark_of-requires c = (omega (arith, c.requires.2, c.requires.3, c.requires.0.not_too_many, length-is c.args.t.now), omega arith)
 
-pub mark_of-requires-then-is_finished : goal.mark_of-requires-then-is_finished
-mark_of-requires-then-is_finished c =
-    (omega (arith, c.requires.2, c.requires.3, c.requires.0.not_too_many, length-is c.args.t), omega arith)
+pub mark_of-requires-2 : goal.mark_of-requires-2
+mark_of-requires-2 c = (omega (arith, c.requires.2, c.requires.3, c.requires.0.not_too_many, length-is c.args.t.now), omega arith)
 
-pub returns-then-is_finished : goal.returns-then-is_finished
-returns-then-is_finished c =
-    read_yes (table_of c.args.t) c.args.scratch.now c.args.second.now c.args.c c.is_finished.ensures c.if-is_finished.true c.count_of.ensures c.mark_of.ensures c.mark_of-then-is_finished.ensures
-
-pub overflow_cast-result : goal.overflow_cast-result
-overflow_cast-result c =
-    omega (arith, c.requires.3, c.requires.0.not_too_many, length-is c.args.t)
+pub returns-in_err-asked : goal.returns-in_err-asked
+unfolding read
+returns-in_err-asked c = answers_err _ _ _ _ (rw (c.is_finished.ensures, c.count_of.ensures) at c.in_err-asked.ensures.numbered (omega arith)) c.from_residual.ensures.1
 
 pub returns : goal.returns
-returns c =
-    read_no (table_of c.args.t) c.args.scratch.now c.args.second.now c.args.c c.is_finished.ensures c.if-is_finished.false c.count_of.ensures
+unfolding read
+returns c = rw (c.mark_of.ensures, c.mark_of-2.ensures) (answers_ok _ _ (rw (c.is_finished.ensures, c.count_of.ensures) at c.in_ok-asked.ensures.numbered (omega arith)) _)

@@ -1,5 +1,5 @@
 -- A step, on scratches that hold anything, and on those that a sheet being made has left. Nothing that a reader must believe stands here. Assumes nothing.
-use Rattle.std.specs.Prelude.{◌≡◌, refl, ◌≢◌, List, ◌++◌, Bool, cond, get_or, take, drop, replicate, eqb, leb, ℤ}
+use Rattle.std.specs.Prelude.{◌≡◌, refl, ◌≢◌, List, ◌++◌, Bool, cond, get_or, take, drop, replicate, eqb, leb, ℤ, Option, Some, None, Result, Ok, Err, IsErrAnd}
 use Rattle.std.proofs.Common.{◌∙◌, ap, sym, subst, arith, add-one, length-set, take-append-drop, leb→le}
 use Rattle.std.proofs.Math.Bool.{true, false}
 use Prim.Native.Nat.{ℕ, suc, ◌+◌, ◌*◌, ◌≤◌, ◌<◌}
@@ -11,8 +11,9 @@ use borrow.Author.Tests.{lt-ltb, le-ltb, ne_eqb, eqb-true}
 use Rattle.plan.specs.Limits.{scratch_size, second_size}
 use Rattle.plan.specs.Plan.{Table}
 use Rattle.plan.specs.Fit.{Fit}
-use Rattle.plan.specs.Questions.{asked}
+use Rattle.plan.specs.Questions.{asked, passed}
 use Rattle.plan.proofs.Laws.Questions.{both-none, asked_yes}
+use Rattle.plan.proofs.Laws.Answered.{refused_by, answers_err, answered_some}
 use Rattle.plan.proofs.Laws.Calls.{step-refusal}
 use Rattle.plan.specs.declared.Refusal.{Refusal}
 use Rattle.contours.specs.Sheet.{sheet}
@@ -21,6 +22,7 @@ use Rattle.links.proofs.Laws.Linked.{zeros_get}
 use Rattle.positions.specs.Written.{written}
 use Rattle.joining.specs.Joining.{Memory, memory_of}
 use Rattle.layout.proofs.Laws.Laid.{nothing}
+use Rattle.finishing_order.specs.Postorder.{postorder}
 use Rattle.finishing_cell.specs.Made.{work, worked, cleared, made}
 use Rattle.finishing_guard.specs.Guard.{count_at}
 use Rattle.finishing_asks.specs.Asks.{step_no}
@@ -31,9 +33,6 @@ use Rattle.finishing_step.specs.Advancing.{Concluded, Advances}
 use Rattle.finishing_cell.proofs.Laws.Final as final
 use Rattle.finishing_cell.proofs.Laws.Final.{worked-long, count-read}
 use Rattle.finishing_guard.proofs.Laws.Guard.{bool_apart}
-use Rattle.finishing_step.specs.declared.Stepped.{Stepped}
-use Rattle.finishing_step.specs.declared.Stepped.TheVariants.{Cell, Done}
-use Rattle.finishing_step.specs.declared.Stepped.TheVariants as stepped
 
 -- ---- the end of a step
 pub concluded_yes : {t : Table} {al : ℕ} {z : Bool} {xs ys : List ℕ} {ps qs : List ℤ} → z ≡ true → ys ≡ replicate scratch_size 0 → qs ≡ written ps (sheet t al) (length t) → Concluded t al z xs ys ps qs
@@ -51,48 +50,34 @@ made_none t al =
     ap (λ (z : List ℕ). memory_of z (replicate second_size 0)) z
 
 -- ---- a step on scratches of 16,384 and 1,024 numbers
-cell_not_done : (c : ℕ) → Cell c ≡ Done → ⊥
-cell_not_done c e = let n : ◌≡◌ {A = ℕ} 0 1 = cc in omega arith
-
-cell_not_no : (c i j : ℕ) → Cell c ≡ stepped.Refused i j → ⊥
-cell_not_no c i j e = let n : ◌≡◌ {A = ℕ} 0 1 = cc in omega arith
-
-done_not_no : (i j : ℕ) → Done ≡ stepped.Refused i j → ⊥
-done_not_no i j e = let n : ◌≡◌ {A = ℕ} 0 1 = cc in omega arith
-
-no_not_done : (i j : ℕ) → stepped.Refused i j ≡ Done → ⊥
-no_not_done i j e = let n : ◌≡◌ {A = ℕ} 0 1 = cc in omega arith
-
 module _ (t : Table) (fit : Fit t) (al : ℕ) (xs ms : List ℕ) (ps : List ℤ) (k : ℕ) (ek : k ≡ get_or xs count_at 0) where
   -- the number of steps that is read is the true one
   same : (j : ℕ) → memory_of xs ms ≡ made t al j → j ≡ k
   same j e = sym (ek ∙ ap (λ (m : Memory). get_or m.rows count_at 0) e ∙ count-read t fit.sound al j)
 
-  pub step-over : length t ≤ k → Advances t al (memory_of xs ms) (memory_of xs ms) ps ps Done
+  pub step-over : length t ≤ k → Advances t al (memory_of xs ms) (memory_of xs ms) ps ps None
   unfolding stepped_at finished_after positions_after
   step-over l = record {
     answers = λ j le e. let past : ltb j (length t) ≡ false = le-ltb j (length t) (omega (arith, same j e)) in rw past;
     memory = λ j le e. let past : ltb j (length t) ≡ false = le-ltb j (length t) (omega (arith, same j e)) in rw past e;
     positions = λ j le e. let ne : suc j ≢ length t = omega (arith, same j e) in rw (ne_eqb (suc j) (length t) ne);
-    says = done_not_no;
     idle = λ e. (refl, refl);
   }
 
-  module _ (l : k < length t) (n : Memory) (c : ℕ) where
-    pub step_tampered : (r : Bool) → r ≡ false → Took t al k (memory_of xs ms) n r c → Advances t al (memory_of xs ms) n ps ps Done
-    step_tampered r q h =
-        let never : (j : ℕ) → memory_of xs ms ≡ made t al j → ⊥ = (λ j e. bool_apart (sym (h.on (e ∙ ap (made t al) (same j e))).0 ∙ q)) in
-        record { answers = λ j le e. absurd (never j e); memory = λ j le e. absurd (never j e); positions = λ j le e. absurd (never j e); says = done_not_no; idle = λ e. (h.no q, refl) }
+  module _ (l : k < length t) (n : Memory) where
+    pub step_tampered : {r : Option ℕ} → r ≡ None → Took t al k (memory_of xs ms) n r → Advances t al (memory_of xs ms) n ps ps None
+    step_tampered {r} q h =
+        let never : (j : ℕ) → memory_of xs ms ≡ made t al j → ⊥ = (λ j e. let w : None ≡ Some (get_or (postorder t) k 0) = sym q ∙ (h.on (e ∙ ap (made t al) (same j e))).0 in cc) in
+        record { answers = λ j le e. absurd (never j e); memory = λ j le e. absurd (never j e); positions = λ j le e. absurd (never j e); idle = λ e. (h.no q, refl) }
 
-    pub step-done : (r : Bool) → Took t al k (memory_of xs ms) n r c → (z : Bool) → z ≡ eqb (k + 1) (length t) → (ys zs : List ℕ) (qs : List ℤ) → Concluded t al z n.rows ys ps qs → zs ≡ set ys count_at (k + 1)
-        → Advances t al (memory_of xs ms) (memory_of zs n.marks) ps qs (Cell c)
+    pub step-done : {r : Option ℕ} {c : ℕ} → r ≡ Some c → Took t al k (memory_of xs ms) n r → (z : Bool) → z ≡ eqb (k + 1) (length t) → (ys zs : List ℕ) (qs : List ℤ) → Concluded t al z n.rows ys ps qs → zs ≡ set ys count_at (k + 1)
+        → Advances t al (memory_of xs ms) (memory_of zs n.marks) ps qs (Some c)
     unfolding stepped_at finished_after positions_after made
-    step-done r h z ez ys zs qs d es = record {
-      answers = λ j le e. rw (same j e, there) (ap Cell h.cell_is);
+    step-done {r} {c} q h z ez ys zs qs d es = record {
+      answers = λ j le e. rw (same j e, there) (ap Some (h.told c q).0);
       memory = λ j le e. let w = taken j e in rw (same j e, there) (λ i. memory_of ((es ∙ (λ i. set (rows_are z ez d w i) count_at (one i))) i) (w i).marks);
       positions = λ j le e. rw (same j e) (rw one at (put z ez d));
-      says = cell_not_no c;
-      idle = λ e. absurd (cell_not_done c e);
+      idle = λ e. cc;
     }
       where
         there : ltb k (length t) ≡ true
@@ -126,35 +111,44 @@ held t al k xs ms h =
     let em : take second_size ms ≡ (made t al k).marks = ap (take second_size) h.second ∙ take_front second_size (made t al k).marks (drop second_size ms) (made-long t al k).marks in
     (λ i. memory_of (ex i) (em i))
 
--- ---- the call: the refusal r of the questions, then the rest
-module _ (t : Table) (al : ℕ) (xs ms : List ℕ) (ps : List ℤ) {r : Refusal} (e : r ≡ step_no t al (length xs) (length ms) (length ps)) where
-  pub step-refused : ¬ (r.number ≡ 0) → Steps t al xs xs ms ms ps ps (stepped.Refused r.number r.cell)
-  step-refused z = record {
-    refuses = λ _. ((λ i. stepped.Refused (e i).number (e i).cell), record { scratch = refl; second = refl; positions = refl });
-    steps = λ y. absurd (z (zero_of (sym e) y));
-    says = λ y. absurd (z (zero_of (sym e) y));
-    idle = λ q. absurd (no_not_done r.number r.cell q);
+-- ---- the call: the questions, then the rest
+module _ (t : Table) (al : ℕ) (xs ms : List ℕ) (ps : List ℤ) where
+  abbrev no : Refusal
+  no = step_no t al (length xs) (length ms) (length ps)
+
+  pub step-stopped : ¬ (no.number ≡ 0) → Steps t al xs xs ms ms ps ps (Err no)
+  step-stopped z = record {
+    refuses = λ _. (refl, record { scratch = refl; second = refl; positions = refl });
+    steps = λ y. absurd (z y);
+    says = λ y. absurd (z y);
+    idle = λ q. cc;
   }
 
-  pub step-asks : r.number ≡ 0 → Fit t × (scratch_size ≤ length xs) × (second_size ≤ length ms) × (2 * length t ≤ length ps)
+  pub step-refused : (e : Refusal) (y : Result (Option ℕ) Refusal) → Err e ≡ passed no → IsErrAnd y (λ d. d ≡ e) → Steps t al xs xs ms ms ps ps y
+  step-refused e y h p =
+      let z = (refused_by no tt e h).1 in
+      let q : y ≡ Err no = answers_err None no e y h p ∙ answered_some no None z in
+      rw q (step-stopped z)
+
+  pub step-asks : no.number ≡ 0 → Fit t × (scratch_size ≤ length xs) × (second_size ≤ length ms) × (2 * length t ≤ length ps)
   step-asks z =
-      let y = zero_of (e ∙ step-refusal t al (length xs) (length ms) (length ps)) z in
+      let y = zero_of (step-refusal t al (length xs) (length ms) (length ps)) z in
       let (two, rest) = both-none (asked 1 (leb second_size (length ms)) 0) _ y in
       let a = (layout-asks t al (length xs) (length ps)).0 (nothing t al (length xs) (length ps) rest) in
       (a.table.fit, a.scratch, leb→le second_size (length ms) (asked_yes 0 _ 0 two), a.positions)
 
-  pub step-taken : r.number ≡ 0 → {a : Stepped} {ys ns : List ℕ} {qs : List ℤ} → Advances t al (memory_of (take scratch_size xs) (take second_size ms)) (memory_of ys ns) ps qs a
-      → Steps t al xs (ys ++ drop scratch_size xs) ms (ns ++ drop second_size ms) ps qs a
+  pub step-taken : no.number ≡ 0 → {a : Option ℕ} {ys ns : List ℕ} {qs : List ℤ} → Advances t al (memory_of (take scratch_size xs) (take second_size ms)) (memory_of ys ns) ps qs a
+      → Steps t al xs (ys ++ drop scratch_size xs) ms (ns ++ drop second_size ms) ps qs (Ok a)
   step-taken z {ys = ys} {ns = ns} d = record {
-    refuses = λ y. absurd (y (zero_of e z));
+    refuses = λ y. absurd (y z);
     steps = λ _ k h. let m = held t al k xs ms h in record {
-      answers = d.answers k h.few m;
+      answers = ap Ok (d.answers k h.few m);
       scratch = ap (λ (m : Memory). m.rows ++ drop scratch_size xs) (d.memory k h.few m);
       second = ap (λ (m : Memory). m.marks ++ drop second_size ms) (d.memory k h.few m);
       positions = d.positions k h.few m;
     };
-    says = λ _. d.says;
-    idle = λ q. let (g, p) = d.idle q in record {
+    says = λ _ e q. cc;
+    idle = λ q. let (g, p) = d.idle cc in record {
       scratch = ap (λ (m : Memory). m.rows ++ drop scratch_size xs) g ∙ take-append-drop scratch_size xs;
       second = ap (λ (m : Memory). m.marks ++ drop second_size ms) g ∙ take-append-drop second_size ms;
       positions = p;

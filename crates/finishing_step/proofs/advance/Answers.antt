@@ -12,19 +12,20 @@ count_of-k-requires c = omega (arith, c.requires.0.scratch)
 
 pub returns-then-n-k : goal.returns-then-n-k
 returns-then-n-k c =
-    step-over (table_of c.args.t) c.requires.0.fit c.args.allowance c.args.scratch.now c.args.marks.now c.args.positions.now _ c.count_of-k.ensures (omega (arith, c.if-n-k.true, length-is c.args.t))
+    step-over (table_of c.args.t.now) c.requires.0.fit c.args.allowance c.args.scratch.now c.args.marks.now c.args.positions.now _ c.count_of-k.ensures (omega (arith, c.if-n-k.true, length-is c.args.t.now))
 
-pub take-s-requires : goal.take-s-requires
-take-s-requires c = (c.requires.0, omega (arith, c.if-n-k.false))
+pub take-requires : goal.take-requires
+take-requires c = (c.requires.0, omega (arith, c.if-n-k.false))
+
+pub returns-in_err-c : goal.returns-in_err-c
+returns-in_err-c c =
+    rw c.from_residual.ensures
+    (step_tampered (table_of c.args.t.now) c.requires.0.fit c.args.allowance c.args.scratch.now c.args.marks.now c.args.positions.now _ c.count_of-k.ensures (omega (arith, c.if-n-k.false, length-is c.args.t.now)) _ c.in_err-c.was c.take.ensures)
 
 pub overflow_cast-k : goal.overflow_cast-k
 overflow_cast-k c =
-    omega (arith, c.if-n-k.false, c.requires.0.fit.not_too_many, length-is c.args.t)
-
-pub returns-then-done : goal.returns-then-done
-returns-then-done c =
-    step-done (table_of c.args.t) c.requires.0.fit c.args.allowance c.args.scratch.now c.args.marks.now c.args.positions.now _ c.count_of-k.ensures (omega (arith, c.if-n-k.false, length-is c.args.t)) _ _ _ c.take-s.ensures _ (ap (λ (n : ℕ). eqb (c.count_of-k.result + 1) n) (sym (length-is c.args.t))) _ _ _ c.conclude.ensures c.put_count.ensures
+    omega (arith, c.if-n-k.false, c.requires.0.fit.not_too_many, length-is c.args.t.now)
 
 pub returns : goal.returns
 returns c =
-    step_tampered (table_of c.args.t) c.requires.0.fit c.args.allowance c.args.scratch.now c.args.marks.now c.args.positions.now _ c.count_of-k.ensures (omega (arith, c.if-n-k.false, length-is c.args.t)) _ _ _ c.if-done.false c.take-s.ensures
+    step-done (table_of c.args.t.now) c.requires.0.fit c.args.allowance c.args.scratch.now c.args.marks.now c.args.positions.now _ c.count_of-k.ensures (omega (arith, c.if-n-k.false, length-is c.args.t.now)) _ c.in_ok-c.was c.take.ensures _ (ap (λ (n : ℕ). eqb (c.count_of-k.result + 1) n) (sym (length-is c.args.t.now))) _ _ _ c.conclude.ensures c.put_count.ensures

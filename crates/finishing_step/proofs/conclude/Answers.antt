@@ -4,5 +4,5 @@ use Rattle.finishing_step.proofs.conclude.Goals as goal
 pub returns-then-last : goal.returns-then-last
 returns-then-last c = concluded_yes c.if-last.true c.draw.ensures.scratch c.draw.ensures.positions
 
-pub returns : goal.returns
-returns c = concluded_no c.if-last.false
+pub returns-else-last : goal.returns-else-last
+returns-else-last c = concluded_no c.if-last.false

@@ -1,19 +1,20 @@
 -- From the questions and the halving to the answer: for the code. Nothing that a reader must believe stands here. Assumes nothing.
-use Rattle.std.specs.Prelude.{◌≡◌, List, ◌++◌, Bool, true, false, cond, ℕ, zero, suc, ◌+◌, ◌-◌, ◌*◌, ◌/◌, ◌^◌, ◌≤◌, ◌<◌, length, leb, pos}
+use Rattle.std.specs.Prelude.{◌≡◌, List, ◌++◌, Bool, true, false, cond, ℕ, zero, suc, ◌+◌, ◌-◌, ◌*◌, ◌/◌, ◌^◌, ◌≤◌, ◌<◌, length, leb, pos, Option, Some, None, Result, Ok, Err, IsErrAnd, ⊤}
 use Rattle.std.proofs.Math.Path.{refl}
 use Rattle.std.proofs.Common.{◌∙◌, ap, sym, arith, pow-suc, pow_pos, leb→le}
 use Rattle.std.proofs.Math.ListN.{drop, replicate}
 use Rattle.std.proofs.Math.Dec.{T}
 use Rattle.std.specs.Int.Signed.{le_z}
-use borrow.Author.Tests.{eq-eqb, ne_eqb, lt-leb}
+use borrow.Author.Tests.{lt-leb}
 use Rattle.whole.proofs.Laws.Whole.{not_le}
 use Rattle.whole.proofs.Laws.Says.{says_le_z}
 use Rattle.plan.specs.Limits.{most_allowance, scratch_size}
 use Rattle.plan.specs.Plan.{Table}
 use Rattle.plan.specs.Fit.{Fit}
 use Rattle.plan.proofs.Laws.Fit.{counted_fit}
-use Rattle.plan.specs.Questions.{frame, refusal, frame_given, asked, or_else}
+use Rattle.plan.specs.Questions.{frame, refusal, frame_given, asked, or_else, answered, passed}
 use Rattle.plan.proofs.Laws.Questions.{both-none, asked_yes}
+use Rattle.plan.proofs.Laws.Answered.{refused_by, answered_some, answers_err, answers_ok, passes}
 use Rattle.plan.specs.Steps.{counted_refusal}
 use Rattle.plan.proofs.Laws.Calls.{frame-refusal}
 use Rattle.plan.specs.declared.Refusal.{Refusal}
@@ -23,29 +24,38 @@ use Rattle.least.specs.Frame.{Found, nowhere, found, fits, least_allowance}
 use Rattle.least.proofs.Laws.Frame.{Halved, halved_start, halved_fits, halved_wide, halved_done, nowhere-wide}
 use Rattle.plan.specs.declared.Columns.{Columns}
 use Rattle.layout.specs.Laid.{Placeable}
-use Rattle.fitting.specs.declared.Fitted.{Fitted}
-use Rattle.fitting.specs.declared.Fitted.TheVariants.{Allowance, None, Refused}
 use Rattle.fitting.specs.Fitted.{told, fitted_of, frame_scratch_after, Frames}
 
--- ---- the entry: the refusal r of the questions, then the search
-module _ (t : Table) (f : ℕ) (s : List ℕ) {r : Refusal} (e : r ≡ refusal frame (frame_given t f (length s))) where
-  pub refused : ¬ (r.number ≡ 0) → Frames t f s s (Refused r.number r.cell)
-  unfolding fitted_of frame_scratch_after
-  refused z = record { answers = rw (← e, ne_eqb r.number 0 z); scratch = refl }
+-- ---- the entry: the questions, whose refusal is `why`, then the search
+module _ (t : Table) (f : ℕ) (s : List ℕ) where
+  abbrev pub why : Refusal
+  why = refusal frame (frame_given t f (length s))
 
-  pub asks : r.number ≡ 0 → Fit t × (scratch_size ≤ length s)
+  pub refused : (e : Refusal) (y : Result (Option ℕ) Refusal) → Err e ≡ passed why → IsErrAnd y (λ d. d ≡ e) → Frames t f s s y
+  unfolding fitted_of frame_scratch_after
+  refused e y h p =
+      let q = refused_by why tt e h in
+      let g : y ≡ answered why _ = answers_err _ why e y h p in
+      let k : y ≡ Err why = g ∙ answered_some why _ q.1 in
+      record { answers = g; scratch = rw k }
+
+  pub asks : why.number ≡ 0 → Fit t × (scratch_size ≤ length s)
   asks z =
-      let y : (or_else (asked 1 (leb scratch_size (length s)) 0) (or_else (counted_refusal t) (asked 19 (leb 1 f) 0))).number ≡ 0 = ap (λ (x : Refusal). x.number) (sym (e ∙ frame-refusal t f (length s))) ∙ z in
+      let y : (or_else (asked 1 (leb scratch_size (length s)) 0) (or_else (counted_refusal t) (asked 19 (leb 1 f) 0))).number ≡ 0 = ap (λ (x : Refusal). x.number) (sym (frame-refusal t f (length s))) ∙ z in
       let (one, rest) = both-none (asked 1 (leb scratch_size (length s)) 0) _ y in
       (counted_fit t (both-none (counted_refusal t) _ rest).0, leb→le scratch_size (length s) (asked_yes 0 _ 0 one))
 
-  pub done : r.number ≡ 0 → (s' : List ℕ) (a : Fitted) → a ≡ told (least_allowance t f) → s' ≡ replicate scratch_size 0 → Frames t f s (s' ++ drop scratch_size s) a
-  unfolding fitted_of
-  done z s' a q y = record { answers = q ∙ rw (← e, eq-eqb r.number 0 z); scratch = rw (q, y) (after (least_allowance t f)) }
-    where
-      after : (x : Found) → replicate scratch_size 0 ++ drop scratch_size s ≡ frame_scratch_after (told x) s
-      after nowhere = unfold frame_scratch_after told in refl
-      after (found b) = unfold frame_scratch_after told in refl
+  module _ (u : ⊤) (h : Ok u ≡ passed why) where
+    pub unrefused : Fit t × (scratch_size ≤ length s)
+    unrefused = asks (passes why u h)
+
+    pub done : (s' : List ℕ) (a : Option ℕ) → a ≡ told (least_allowance t f) → s' ≡ replicate scratch_size 0 → Frames t f s (s' ++ drop scratch_size s) (Ok a)
+    unfolding fitted_of
+    done s' a q y = record { answers = ap Ok q ∙ answers_ok why u h _; scratch = rw (q, y) (after (least_allowance t f)) }
+      where
+        after : (x : Found) → replicate scratch_size 0 ++ drop scratch_size s ≡ frame_scratch_after (Ok (told x)) s
+        after nowhere = unfold frame_scratch_after told in refl
+        after (found b) = unfold frame_scratch_after told in refl
 
 -- ---- one sheet: its width w against the frame
 pub measured : (t : Table) (f al w : ℕ) → pos w ≡ width t (sheet t al) → leb w f ≡ fits t f al
@@ -161,10 +171,10 @@ pub upper_half : (v : Bool) (a b : ℕ) → v ≡ false → b ≡ cond v a b
 upper_half v a b e = rw e
 
 -- ---- the answer for a table that no question refuses
-pub passes : (v : Bool) → v ≡ true → T v
-passes v e = rw e tt
+pub holds : (v : Bool) → v ≡ true → T v
+holds v e = rw e tt
 
-pub told-found : (x : Found) (a : ℕ) → x ≡ found a → Allowance a ≡ told x
+pub told-found : (x : Found) (a : ℕ) → x ≡ found a → Some a ≡ told x
 unfolding told
 told-found x a e = rw e refl
 

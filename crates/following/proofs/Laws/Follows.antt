@@ -1,19 +1,20 @@
 -- The loop: the machine from its start to the drill's end; and the list. For the code. Assumes nothing.
-use Rattle.std.specs.Prelude.{◌≡◌, Bool, true, false, ◌&&◌, length, get_or, take, drop, eqb, ltb}
+use Rattle.std.specs.Prelude.{◌≡◌, Bool, true, false, ◌&&◌, length, get_or, take, drop, ltb}
 use Rattle.std.proofs.Math.Path.{refl}
-use Rattle.std.proofs.Common.{◌∙◌, ap, sym, arith, take-append-drop, length-drop, ext_get_or, get_or-drop, length-take-le, ltb-true, ltb-false, eqb-true}
+use Rattle.std.proofs.Common.{◌∙◌, ap, sym, arith, take-append-drop, length-drop, ext_get_or, get_or-drop, length-take-le, ltb-true, ltb-false}
 use mathlib.Core.List.{List, [], ◌∷◌, ◌++◌}
-use Prim.Native.Nat.{ℕ, zero, suc, ◌+◌, ◌-◌, ◌≤◌, ◌<◌}
+use Prim.Native.Nat.{ℕ, suc, ◌+◌, ◌-◌, ◌≤◌, ◌<◌}
 use Rattle.plan.specs.Limits.{most_cells, most_level, most_steps}
 use Rattle.plan.specs.Plan.{Table, Is, kind, level}
 use Rattle.plan.specs.Fit.{Fit}
 use Rattle.links.specs.Links.{Links}
 use Rattle.following.specs.declared.Drilled.{Drilled}
-use Rattle.following.specs.declared.Drilled.TheVariants.{Full}
+use Rattle.following_cell.specs.declared.Halt.{Halt}
+use Rattle.following_cell.specs.declared.Halt.TheVariants.{Going, Spent, Wrong, Full}
 use Rattle.moves.specs.Drill.{finished, Drill, in_order, HasEnded, doing, drill_of}
 use Rattle.moves.proofs.Laws.Drill.{order_ended}
 use Rattle.following.specs.Drilled.{told_as, drill_told}
-use Rattle.following_turn.specs.Machine.{Frame, Chain, frames, frames_of, top, below, State, outcome_of, so_far, state_of, Beyond, enter, step}
+use Rattle.following_turn.specs.Machine.{Frame, Chain, frames, frames_of, top, below, State, outcome_of, goes, so_far, state_of, Beyond, enter, step}
 use Rattle.following_turn.proofs.Laws.Machine.{frames-length, frames-top}
 use Rattle.following_cell.specs.Opening.{Cell}
 use Rattle.following_turn.specs.Needed.{Entering, Turning, Wrote}
@@ -39,13 +40,13 @@ module _ (t : Table) (ls ks bs : List ℕ) where
   start_entering h xs l =
       record { cell = cell h 0 h.fit.some_cell; kinds = omega (arith, h.long); room = omega arith; long = l; few = omega arith }
 
-  pub goes-start : Reads t ls ks → (c : Chain) → c.count ≡ 0 → (xs : List ℕ) {st : State} → st ≡ enter ls ks bs 0 (frames c) (so_far 0 0 0 xs) → Goes t ls ks bs st
+  pub goes-start : Reads t ls ks → (c : Chain) → c.count ≡ 0 → (xs : List ℕ) {st : State} → st ≡ enter ls ks bs 0 (frames c) (so_far Going 0 0 xs) → Goes t ls ks bs st
   unfolding outcome_of drill_of in_order level frames_of
   goes-start h c z xs e =
       rw (e, z)
       (record { reads = h; keeps = keeps_enter t h.fit ls ks bs h.links h.kind_of (drill_of t bs) 0 h.fit.some_cell [] [] 0 [] refl refl refl })
 
-  module _ (c : Chain) (u r : ℕ) (xs : List ℕ) (some : 0 < c.count) (g : Goes t ls ks bs (state_of c 0 u r xs)) where
+  module _ (c : Chain) (u r : ℕ) (xs : List ℕ) (some : 0 < c.count) (g : Goes t ls ks bs (state_of c Going u r xs)) where
     abbrev h : Reads t ls ks
     h = g.reads
 
@@ -71,25 +72,25 @@ module _ (t : Table) (ls ks bs : List ℕ) where
           few = few;
         }
 
-    pub goes_turn : {st : State} → st ≡ step ls ks bs (state_of c 0 u r xs) → Goes t ls ks bs st
+    pub goes_turn : {st : State} → st ≡ step ls ks bs (state_of c Going u r xs) → Goes t ls ks bs st
     unfolding outcome_of
     goes_turn e =
         rw (e, stack_is)
         (record { reads = h; keeps = keeps_step t h.fit ls ks bs h.links h.kind_of (drill_of t bs) (top c) (below c) u (take r xs) kept })
 
-    pub goes_less : {st : State} → st ≡ step ls ks bs (state_of c 0 u r xs) → weight bs st < weight bs (state_of c 0 u r xs)
+    pub goes_less : {st : State} → st ≡ step ls ks bs (state_of c Going u r xs) → weight bs st < weight bs (state_of c Going u r xs)
     unfolding outcome_of
     goes_less e = rw (e, stack_is) (step_less t h.fit ls ks bs h.links h.kind_of (drill_of t bs) (top c) (below c) u (take r xs) kept)
 
-  ended_halt : (halt : ℕ) → 0 < halt → HasEnded (outcome_of halt)
+  ended_halt : (halt : Halt) → goes halt ≡ false → HasEnded (outcome_of halt)
   unfolding outcome_of
-  ended_halt zero l = absurd (omega arith)
-  ended_halt (suc zero) l = tt
-  ended_halt (suc (suc zero)) l = tt
-  ended_halt (suc (suc (suc k))) l = tt
+  ended_halt Going e = cc
+  ended_halt Spent e = tt
+  ended_halt Wrong e = tt
+  ended_halt Full e = tt
 
-  pub goes_end : (c : Chain) (halt u r : ℕ) (xs : List ℕ) → Goes t ls ks bs (state_of c halt u r xs) → (eqb halt 0 && ltb 0 c.count) ≡ false → so_far halt u r xs ≡ drill_of t bs
-  goes_end c halt u r xs g e = go halt refl
+  pub goes_end : (c : Chain) (halt : Halt) (u r : ℕ) (xs : List ℕ) → Goes t ls ks bs (state_of c halt u r xs) → (goes halt && ltb 0 c.count) ≡ false → so_far halt u r xs ≡ drill_of t bs
+  goes_end c halt u r xs g e = go (goes halt) refl
     where
       nothing_left : c.count ≡ 0 → so_far halt u r xs ≡ drill_of t bs
       nothing_left z = on (frames c) (frames-length c.cells c.nexts c.times c.count ∙ z) g.keeps
@@ -98,20 +99,22 @@ module _ (t : Table) (ls ks bs : List ℕ) where
           on [] z k = unfold in_order in (ap (λ (l : List ℕ). in_order (doing t bs) l (so_far halt u r xs)) (sym k.pends) ∙ k.same)
           on (f ∷ fs) z k = absurd (omega arith)
 
-      none : (n : ℕ) → (eqb 0 0 && ltb 0 n) ≡ false → n ≡ 0
+      none : (n : ℕ) → (true && ltb 0 n) ≡ false → n ≡ 0
       none n q = omega (arith, ltb-false 0 n q)
 
-      go : (n : ℕ) → halt ≡ n → so_far halt u r xs ≡ drill_of t bs
-      go zero q = nothing_left (none c.count (rw q at e))
-      go (suc n) q = sym (order_ended t bs (suc most_level) g.keeps.cells (so_far halt u r xs) (ended_halt halt (omega arith))) ∙ g.keeps.same
+      go : (b : Bool) → goes halt ≡ b → so_far halt u r xs ≡ drill_of t bs
+      go true q = nothing_left (none c.count (rw q at e))
+      go false q = sym (order_ended t bs (suc most_level) g.keeps.cells (so_far halt u r xs) (ended_halt halt q)) ∙ g.keeps.same
 
 -- what the loop's test tells
-pub goes-both : (b : Bool) (halt n : ℕ) → b ≡ (eqb halt 0 && ltb 0 n) → b ≡ true → (halt ≡ 0) × (0 < n)
-goes-both b halt n e q = go (eqb halt 0) refl (sym e ∙ q)
+pub goes-both : (b : Bool) (halt : Halt) (n : ℕ) → b ≡ (goes halt && ltb 0 n) → b ≡ true → (halt ≡ Going) × (0 < n)
+goes-both b halt n e q = go halt (sym e ∙ q)
   where
-    go : (x : Bool) → eqb halt 0 ≡ x → (x && ltb 0 n) ≡ true → (halt ≡ 0) × (0 < n)
-    go true z w = (eqb-true halt 0 z, ltb-true 0 n w)
-    go false z w = let y : ◌≡◌ {A = ℕ} 0 1 = cc in absurd (omega arith)
+    go : (h : Halt) → (goes h && ltb 0 n) ≡ true → (h ≡ Going) × (0 < n)
+    go Going w = (refl, ltb-true 0 n w)
+    go Spent w = cc
+    go Wrong w = cc
+    go Full w = cc
 
 pub wrote_more : {o a b : ℕ} {xs ys zs : List ℕ} → Wrote o a xs ys → Wrote a b ys zs → Wrote o b xs zs
 wrote_more {o} {a} {b} w v = record { more = omega (arith, w.more, v.more); few = v.few; beyond = λ i l. v.beyond i l ∙ w.beyond i (omega (arith, v.more)) }
@@ -123,7 +126,7 @@ told_drills d r xs ys es el l beyond =
     let tail : drop r ys ≡ drop r xs = ext_get_or 0 (drop r ys) (drop r xs) (simp length-drop (omega arith)) (λ i q. get_or-drop r ys i 0 ∙ beyond (r + i) (omega arith) ∙ sym (get_or-drop r xs i 0)) in
     sym (take-append-drop r ys) ∙ rw (es, tail, n)
 
-pub told-list : {d : Drill} (halt u r : ℕ) {xs ys : List ℕ} {a : Drilled} → so_far halt u r ys ≡ d → length ys ≡ length xs → most_steps ≤ length xs → Wrote 0 r xs ys → a ≡ told_as (outcome_of halt) u r
+pub told-list : {d : Drill} (halt : Halt) (u r : ℕ) {xs ys : List ℕ} {a : Drilled} → so_far halt u r ys ≡ d → length ys ≡ length xs → most_steps ≤ length xs → Wrote 0 r xs ys → a ≡ told_as (outcome_of halt) u r
     → (a ≡ drill_told d) × (ys ≡ d.steps ++ drop (length d.steps) xs)
 unfolding drill_told
 told-list {d} halt u r {xs} {ys} e el long w ea =
@@ -131,10 +134,3 @@ told-list {d} halt u r {xs} {ys} e el long w ea =
       ea ∙ rw (← e) (rw n),
       told_drills d r xs ys (ap (λ (x : Drill). x.steps) e) el (omega (arith, w.few)) w.beyond,
     )
-
-pub told-full : (halt u r : ℕ) → (halt ≡ 0 → ⊥) → (halt ≡ 1 → ⊥) → (halt ≡ 2 → ⊥) → Full u r ≡ told_as (outcome_of halt) u r
-unfolding outcome_of
-told-full zero u r a b c = absurd (a refl)
-told-full (suc zero) u r a b c = absurd (b refl)
-told-full (suc (suc zero)) u r a b c = absurd (c refl)
-told-full (suc (suc (suc n))) u r a b c = refl

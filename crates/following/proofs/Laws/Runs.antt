@@ -23,6 +23,7 @@ use Rattle.plan.specs.Kinds.{allows}
 use Rattle.plan.specs.Fit.{Fit}
 use Rattle.links.specs.Links.{Links, link}
 use Rattle.following_cell.specs.declared.Opened.{Opened}
+use Rattle.following_cell.specs.declared.Halt.TheVariants.{Going, Spent, Wrong}
 use Rattle.following_cell.specs.declared.Todo.{Todo}
 use Rattle.moves.specs.Drill.{Outcome, finished, spent, wrong, full, Drill, ended, recorded, taken, in_order, times, chosen, waited, by_kind, does, doing}
 use Rattle.moves.proofs.Laws.Drill.{doing-is, in_order-append, no_kind, no-kind-more, run-children, repeat_children, wait_children}
@@ -39,11 +40,11 @@ module _ (f : ℕ → Drill → Drill) where
 
 -- ---- what a byte makes of a repeat, a choice, a wait
 module _ (ls : List ℕ) (s v : ℕ) where
-  repeat_none : answered ls s 3 0 v ≡ nothing 0 v
+  repeat_none : answered ls s 3 0 v ≡ nothing Going v
   unfolding answered repeated
   repeat_none = refl
 
-  repeat_some : (b : ℕ) → answered ls s 3 (suc b) v ≡ record { next = link ls s 0; times = suc b; halt = 0; used = v }
+  repeat_some : (b : ℕ) → answered ls s 3 (suc b) v ≡ record { next = link ls s 0; times = suc b; halt = Going; used = v }
   unfolding answered repeated
   repeat_some b = rw (ne_eqb (suc b) 0 (λ q. omega arith), repeated)
 
@@ -51,11 +52,11 @@ module _ (ls : List ℕ) (s v : ℕ) where
   unfolding answered picked
   pick_some b n e l = ap (λ (x : ℕ). picked x v) e ∙ rw (ne_eqb n 0 (λ q. omega arith), picked)
 
-  pick_none : (b : ℕ) → hops ls (link ls s 0) b ≡ 0 → answered ls s 4 b v ≡ nothing 2 v
+  pick_none : (b : ℕ) → hops ls (link ls s 0) b ≡ 0 → answered ls s 4 b v ≡ nothing Wrong v
   unfolding answered picked
   pick_none b e = rw (e, picked)
 
-  wait_none : answered ls s 5 0 v ≡ nothing 0 v
+  wait_none : answered ls s 5 0 v ≡ nothing Going v
   unfolding answered waiting
   wait_none = refl
 
@@ -63,7 +64,7 @@ module _ (ls : List ℕ) (s v : ℕ) where
   unfolding answered waiting
   wait_one = refl
 
-  wait_wrong : (b : ℕ) → answered ls s 5 (suc (suc b)) v ≡ nothing 2 v
+  wait_wrong : (b : ℕ) → answered ls s 5 (suc (suc b)) v ≡ nothing Wrong v
   unfolding answered waiting
   wait_wrong b = rw (ne_eqb (suc (suc b)) 0 (λ q. omega arith), ne_eqb (suc (suc b)) 1 (λ q. omega arith), waiting)
 
@@ -215,7 +216,7 @@ module _ (t : Table) (fit : Fit t) (ls ks bs : List ℕ) (links : Links t ls) (k
     byte_cost wrong l = omega arith
     byte_cost full l = omega arith
 
-    opened-none : (k : ℕ) → (k ≡ 2 → ⊥) → length bs ≤ u → opened ls bs s k u ≡ nothing 1 u
+    opened-none : (k : ℕ) → (k ≡ 2 → ⊥) → length bs ≤ u → opened ls bs s k u ≡ nothing Spent u
     unfolding opened
     opened-none k z l = rw (ne_eqb k 2 z, le-ltb u (length bs) l, opened)
 
@@ -238,7 +239,7 @@ module _ (t : Table) (fit : Fit t) (ls ks bs : List ℕ) (links : Links t ls) (k
     module _ (k : ℕ) (e : get_or ks s 0 ≡ k) (z : (k ≡ 1 → ⊥) × (k ≡ 2 → ⊥)) (f : ℕ → Drill → Drill) (ef : by_kind bs F k s cs d ≡ taken bs f d) where
       none_opens : length bs ≤ u → Opens s fs d (enter ls ks bs s fs d)
       unfolding in_order outcome_of
-      none_opens l = opens k (nothing 1 u) e z.0 (opened-none k z.1 l) [] refl (sym (ef ∙ taken_none f l)) (inl (spent_cost l))
+      none_opens l = opens k (nothing Spent u) e z.0 (opened-none k z.1 l) [] refl (sym (ef ∙ taken_none f l)) (inl (spent_cost l))
 
       some_opens : u < length bs → (o : Opened) (c : Outcome) → answered ls s k a (suc u) ≡ o → made o ≡ ended c d' → (todo : List ℕ) → Does s o.next o.times todo → in_order F todo (ended c d') ≡ f a d'
           → Opens s fs d (enter ls ks bs s fs d)
@@ -258,10 +259,10 @@ module _ (t : Table) (fit : Fit t) (ls ks bs : List ℕ) (links : Links t ls) (k
 
         go : u < length bs → (b : ℕ) → a ≡ b → Opens s fs d (enter ls ks bs s fs d)
         go l zero q =
-            some_opens 3 e ((λ q. omega arith), λ q. omega arith) f refl l (nothing 0 (suc u)) finished (ap (λ (x : ℕ). answered ls s 3 x (suc u)) q ∙ repeat_none ls s (suc u)) refl [] refl
+            some_opens 3 e ((λ q. omega arith), λ q. omega arith) f refl l (nothing Going (suc u)) finished (ap (λ (x : ℕ). answered ls s 3 x (suc u)) q ∙ repeat_none ls s (suc u)) refl [] refl
             (sym (ap (λ (x : ℕ). times x (in_order F cs) d') q))
         go l (suc b) q =
-            some_opens 3 e ((λ q. omega arith), λ q. omega arith) f refl l (record { next = link ls s 0; times = suc b; halt = 0; used = suc u }) finished
+            some_opens 3 e ((λ q. omega arith), λ q. omega arith) f refl l (record { next = link ls s 0; times = suc b; halt = Going; used = suc u }) finished
             (ap (λ (x : ℕ). answered ls s 3 x (suc u)) q ∙ repeat_some ls s (suc u) b) refl (replicate (suc b) (get_or cs 0 0))
             (rw (links.first s is) (again_does s (get_or cs 0 0) (λ q. omega arith) (at_get_or cs 0 0 (omega arith)) b))
             (sym (ap (λ (x : ℕ). times x (in_order F cs) d') q ∙ ap (λ (x : List ℕ). times (suc b) (in_order F x) d') (children-one s one) ∙ times_order F (suc b) (get_or cs 0 0) d'))
@@ -280,7 +281,7 @@ module _ (t : Table) (fit : Fit t) (ls ks bs : List ℕ) (links : Links t ls) (k
             (pick_some ls s (suc u) a (get_or cs a 0) child-is (child-read t s a _ b).low) refl (get_or cs a 0 ∷ [])
             (once-does s (get_or cs a 0) a (λ q. omega arith) b) (rw (lt-ltb a (length cs) p, chosen))
         go l (no p) =
-            some_opens 4 e ((λ q. omega arith), λ q. omega arith) (chosen F cs) refl l (nothing 2 (suc u)) wrong
+            some_opens 4 e ((λ q. omega arith), λ q. omega arith) (chosen F cs) refl l (nothing Wrong (suc u)) wrong
             (pick_none ls s (suc u) a (child-is ∙ get_or-eq_default cs 0 {n = a} (omega arith))) refl [] refl (rw (le-ltb a (length cs) (omega arith), chosen))
 
     wait_does : (l : List ℕ) → l ≡ cs → length l ≤ 1 → (get_or ks s 0 ≡ 2 → ⊥) → Does s (get_or l 0 0) 1 l
@@ -294,13 +295,13 @@ module _ (t : Table) (fit : Fit t) (ls ks bs : List ℕ) (links : Links t ls) (k
       where
         go : u < length bs → (b : ℕ) → a ≡ b → Opens s fs d (enter ls ks bs s fs d)
         go l zero q =
-            some_opens 5 e ((λ q. omega arith), λ q. omega arith) (waited F cs) refl l (nothing 0 (suc u)) finished (ap (λ (x : ℕ). answered ls s 5 x (suc u)) q ∙ wait_none ls s (suc u)) refl [] refl
+            some_opens 5 e ((λ q. omega arith), λ q. omega arith) (waited F cs) refl l (nothing Going (suc u)) finished (ap (λ (x : ℕ). answered ls s 5 x (suc u)) q ∙ wait_none ls s (suc u)) refl [] refl
             (sym (ap (λ (x : ℕ). waited F cs x d') q))
         go l (suc zero) q =
             some_opens 5 e ((λ q. omega arith), λ q. omega arith) (waited F cs) refl l (once (link ls s 0) (suc u)) finished (ap (λ (x : ℕ). answered ls s 5 x (suc u)) q ∙ wait_one ls s (suc u)) refl cs
             (rw (links.first s is) (wait_does cs refl few (λ q. omega arith))) (sym (ap (λ (x : ℕ). waited F cs x d') q))
         go l (suc (suc b)) q =
-            some_opens 5 e ((λ q. omega arith), λ q. omega arith) (waited F cs) refl l (nothing 2 (suc u)) wrong (ap (λ (x : ℕ). answered ls s 5 x (suc u)) q ∙ wait_wrong ls s (suc u) b) refl [] refl
+            some_opens 5 e ((λ q. omega arith), λ q. omega arith) (waited F cs) refl l (nothing Wrong (suc u)) wrong (ap (λ (x : ℕ). answered ls s 5 x (suc u)) q ∙ wait_wrong ls s (suc u) b) refl [] refl
             (sym (ap (λ (x : ℕ). waited F cs x d') q))
 
     -- whatever its kind

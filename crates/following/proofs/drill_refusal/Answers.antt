@@ -1,20 +1,21 @@
-use Rattle.std.proofs.Common.{sym, ◌∙◌}
+use Rattle.std.proofs.Common.{sym, ap, ◌∙◌, arith}
 use Rattle.plan.specs.Columns.{table_of}
-use Rattle.plan.proofs.Laws.Questions.{stops, goes_on}
+use Rattle.plan.specs.Questions.{passed}
+use Rattle.plan.proofs.Laws.Answered.{err_stops, ok_goes_on}
 use Rattle.plan.proofs.Laws.Calls as calls
 use Rattle.following.proofs.drill_refusal.Goals as goal
 
-pub returns-then-long-ne0 : goal.returns-then-long-ne0
-returns-then-long-ne0 c =
+pub returns-in_err-asked : goal.returns-in_err-asked
+returns-in_err-asked c =
     let a = c.args in
-    stops _ _ _ c.asked-long.ensures c.if-long-ne0.true ∙ sym (calls.drill-refusal (table_of a.t) a.answers a.list)
+    err_stops _ _ _ _ (c.in_err-asked.ensures.numbered (omega arith)) c.from_residual.ensures.1 _ ∙ ap passed (sym (calls.drill-refusal (table_of a.t.now) a.answers a.list))
 
-pub returns-then-lent-ne0 : goal.returns-then-lent-ne0
-returns-then-lent-ne0 c =
+pub returns-in_err-counted_refusal : goal.returns-in_err-counted_refusal
+returns-in_err-counted_refusal c =
     let a = c.args in
-    goes_on _ _ _ _ c.asked-long.ensures c.if-long-ne0.false (stops _ _ _ (c.counted_refusal-lent.ensures _) c.if-lent-ne0.true) ∙ sym (calls.drill-refusal (table_of a.t) a.answers a.list)
+    ok_goes_on _ _ (c.in_ok-asked.ensures.numbered (omega arith)) _ _ _ (err_stops _ _ _ _ c.in_err-counted_refusal.ensures c.from_residual-in_err-counted_refusal.ensures.1 _) ∙ ap passed (sym (calls.drill-refusal (table_of a.t.now) a.answers a.list))
 
 pub returns : goal.returns
 returns c =
     let a = c.args in
-    goes_on _ _ _ _ c.asked-long.ensures c.if-long-ne0.false (goes_on _ _ _ _ (c.counted_refusal-lent.ensures _) c.if-lent-ne0.false c.asked.ensures) ∙ sym (calls.drill-refusal (table_of a.t) a.answers a.list)
+    ok_goes_on _ _ (c.in_ok-asked.ensures.numbered (omega arith)) _ _ _ (ok_goes_on _ _ c.in_ok-counted_refusal.ensures _ _ _ (c.asked-2.ensures.numbered (omega arith))) ∙ ap passed (sym (calls.drill-refusal (table_of a.t.now) a.answers a.list))

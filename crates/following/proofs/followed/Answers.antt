@@ -14,11 +14,11 @@ given : (t : Columns) (ls : List ℕ) → Fit (table_of t) → Links (table_of t
 given t ls f l k =
     record { fit = f; links = l; kind_of = λ c i. sym (kind-is t c (omega (arith, length-is t))); long = omega arith }
 
-pub loop-t-init : goal.loop-t-init
-loop-t-init c =
-    let k : length c.args.t.kind ≡ 256 = search rules in
+pub loop-path-init : goal.loop-path-init
+loop-path-init c =
+    let k : length c.args.t.now.kind ≡ 256 = search rules in
     let e = c.entered-at.ensures in (
-      goes-start (table_of c.args.t) _ _ c.args.answers.now (given c.args.t _ c.requires.0 c.requires.1 k) (chain _ _ _ 0) refl c.args.list.now e.list_after,
+      goes-start (table_of c.args.t.now) _ _ c.args.answers.now (given c.args.t.now _ c.requires.0 c.requires.1 k) (chain _ 0) refl c.args.list.now e.list_after,
       wrote_none _ _ e.wrote.0.few,
       omega (arith, c.entered-at.auto.list, c.requires.2),
       refl,
@@ -28,23 +28,23 @@ loop-t-init c =
 pub turn-at-requires : goal.turn-at-requires
 turn-at-requires c =
     let a = c.args in
-    let l = c.loop-t in
-    let g = goes-both c.goes_on.result l.at.halt l.at.count c.goes_on.ensures c.loop-t-test.true in
-    (goes_turning (table_of a.t) _ _ a.answers.now (chain l.cells l.nexts l.times l.at.count) l.at.used l.at.records l.list g.1 (rw g.0 at l.invariant.0) l.invariant.1.few l.invariant.2, l.invariant.4)
+    let l = c.loop-path in
+    let g = goes-both c.goes_on.result l.at.halt l.at.count c.goes_on.ensures c.loop-path-test.true in
+    (goes_turning (table_of a.t.now) _ _ a.answers.now (chain l.path l.at.count) l.at.used l.at.records l.list g.1 (rw g.0 at l.invariant.0) l.invariant.1.few l.invariant.2, l.invariant.4)
 
-pub loop-t-smaller : goal.loop-t-smaller
-loop-t-smaller c =
+pub loop-path-smaller : goal.loop-path-smaller
+loop-path-smaller c =
     let a = c.args in
-    let l = c.loop-t in
-    let g = goes-both c.goes_on.result l.at.halt l.at.count c.goes_on.ensures c.loop-t-test.true in
-    rw g.0 (goes_less (table_of a.t) a.links.now a.t.kind a.answers.now (chain l.cells l.nexts l.times l.at.count) l.at.used l.at.records l.list g.1 (rw g.0 at l.invariant.0) c.turn-at.ensures.list_after)
+    let l = c.loop-path in
+    let g = goes-both c.goes_on.result l.at.halt l.at.count c.goes_on.ensures c.loop-path-test.true in
+    rw g.0 (goes_less (table_of a.t.now) a.links.now a.t.now.kind a.answers.now (chain l.path l.at.count) l.at.used l.at.records l.list g.1 (rw g.0 at l.invariant.0) c.turn-at.ensures.list_after)
 
-pub loop-t-preserved : goal.loop-t-preserved
-loop-t-preserved c =
+pub loop-path-preserved : goal.loop-path-preserved
+loop-path-preserved c =
     let a = c.args in
-    let l = c.loop-t in
-    let g = goes-both c.goes_on.result l.at.halt l.at.count c.goes_on.ensures c.loop-t-test.true in (
-      goes_turn (table_of a.t) a.links.now a.t.kind a.answers.now (chain l.cells l.nexts l.times l.at.count) l.at.used l.at.records l.list g.1 (rw g.0 at l.invariant.0) c.turn-at.ensures.list_after,
+    let l = c.loop-path in
+    let g = goes-both c.goes_on.result l.at.halt l.at.count c.goes_on.ensures c.loop-path-test.true in (
+      goes_turn (table_of a.t.now) a.links.now a.t.now.kind a.answers.now (chain l.path l.at.count) l.at.used l.at.records l.list g.1 (rw g.0 at l.invariant.0) c.turn-at.ensures.list_after,
       wrote_more l.invariant.1 c.turn-at.ensures.wrote.0,
       omega (arith, c.turn-at.auto.list, l.invariant.2),
       c.turn-at.auto.list ∙ l.invariant.3,
@@ -54,7 +54,7 @@ loop-t-preserved c =
 pub returns : goal.returns
 returns c =
     let a = c.args in
-    let l = c.loop-t in (
-      goes_end (table_of a.t) a.links.now a.t.kind a.answers.now (chain l.cells l.nexts l.times l.at.count) l.at.halt l.at.used l.at.records l.list l.invariant.0 (sym c.goes_on.ensures ∙ c.loop-t-test.false),
+    let l = c.loop-path in (
+      goes_end (table_of a.t.now) a.links.now a.t.now.kind a.answers.now (chain l.path l.at.count) l.at.halt l.at.used l.at.records l.list l.invariant.0 (sym c.goes_on.ensures ∙ c.loop-path-test.false),
       wrote_more c.entered-at.ensures.wrote.0 l.invariant.1,
     )

@@ -9,12 +9,12 @@ use lib.ListN.{length}
 use mathlib.Core.Path.{◌≡◌}
 use Rattle.following.proofs.followed.Given as goal
 
-abbrev pub invariant-loop-t : goal.invariant-loop-t
-invariant-loop-t l = Goes (table_of l.t) l.links l.t.kind l.answers (state_of (chain l.cells l.nexts l.times l.at.count) l.at.halt l.at.used l.at.records l.list)
+abbrev pub invariant-loop-path : goal.invariant-loop-path
+invariant-loop-path l = Goes (table_of l.t) l.links l.t.kind l.answers (state_of (chain l.path l.at.count) l.at.halt l.at.used l.at.records l.list)
     × Wrote l.initial.at.records l.at.records l.initial.list l.list
     × (most_steps ≤ length l.list)
     × (length l.list ≡ length l.initial.list)
-    × Arrays l.cells l.nexts l.times
+    × Arrays l.path
 
-abbrev pub decreases-loop-t : goal.decreases-loop-t
-decreases-loop-t l = weight l.answers (state_of (chain l.cells l.nexts l.times l.at.count) l.at.halt l.at.used l.at.records l.list)
+abbrev pub decreases-loop-path : goal.decreases-loop-path
+decreases-loop-path l = weight l.answers (state_of (chain l.path l.at.count) l.at.halt l.at.used l.at.records l.list)

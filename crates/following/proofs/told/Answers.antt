@@ -1,18 +1,18 @@
-use Rattle.following.proofs.Laws.Follows.{told-full}
 use Rattle.following_turn.specs.Machine.{outcome_of}
 use Rattle.following.proofs.told.Goals as goal
 
-pub returns-in-0 : goal.returns-in-0
+pub returns-in-Going : goal.returns-in-Going
 unfolding outcome_of
-returns-in-0 c = rw c.in-0.is
+returns-in-Going c = rw c.in-Going.is
 
-pub returns-in-1 : goal.returns-in-1
+pub returns-in-Spent : goal.returns-in-Spent
 unfolding outcome_of
-returns-in-1 c = rw c.in-1.is
+returns-in-Spent c = rw c.in-Spent.is
 
-pub returns-in-2 : goal.returns-in-2
+pub returns-in-Wrong : goal.returns-in-Wrong
 unfolding outcome_of
-returns-in-2 c = rw c.in-2.is
+returns-in-Wrong c = rw c.in-Wrong.is
 
-pub returns-in_default : goal.returns-in_default
-returns-in_default c = let r = c.in_default.in_default-own.rest in told-full _ _ _ r.0.0.1 r.0.1 r.1
+pub returns-in-Full : goal.returns-in-Full
+unfolding outcome_of
+returns-in-Full c = rw c.in-Full.is

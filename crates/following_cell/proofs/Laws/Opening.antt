@@ -4,6 +4,7 @@ use Rattle.std.proofs.Common.{◌∙◌}
 use borrow.Author.Tests.{eq-eqb, ne_eqb, lt-ltb, le-ltb}
 use Rattle.links.specs.Links.{link}
 use Rattle.following_cell.specs.declared.Opened.{Opened}
+use Rattle.following_cell.specs.declared.Halt.TheVariants.{Spent}
 use Rattle.following_cell.specs.Opening.{nothing, once, hops, repeated, picked, waiting, answered, opened}
 
 module _ (ls : List ℕ) (s kind a used : ℕ) {r : Opened} where
@@ -28,6 +29,6 @@ module _ (ls bs : List ℕ) (s kind used : ℕ) where
   unfolding opened
   opened-byte z l ea er = er ∙ rw (ea, ne_eqb kind 2 z, lt-ltb used (length bs) l, opened)
 
-  pub opened_spent : (kind ≡ 2 → ⊥) → length bs ≤ used → nothing 1 used ≡ opened ls bs s kind used
+  pub opened_spent : (kind ≡ 2 → ⊥) → length bs ≤ used → nothing Spent used ≡ opened ls bs s kind used
   unfolding opened
   opened_spent z l = rw (ne_eqb kind 2 z, le-ltb used (length bs) l, opened)

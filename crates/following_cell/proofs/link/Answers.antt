@@ -1,4 +1,4 @@
 use Rattle.following_cell.proofs.link.Goals as goal
 
 pub returns : goal.returns
-returns c = rw c.wide16.ensures
+returns c = rw c.from.ensures

@@ -10,6 +10,7 @@ use Rattle.std.proofs.Math.Seq.{take-suc-set, get_or-set_same, get_or-set_other}
 use Rattle.std.proofs.Math.Dec.{ltb}
 use borrow.Author.Tests.{eq-eqb, ne_eqb, lt-ltb, le-ltb}
 use Rattle.following_cell.specs.declared.Opened.{Opened}
+use Rattle.following_cell.specs.declared.Halt.TheVariants.{Going, Full}
 use Rattle.plan.specs.Limits.{most_steps}
 use Rattle.moves.specs.Drill.{Drill, recorded}
 use Rattle.following_cell.specs.Opening.{after, opened}
@@ -58,13 +59,13 @@ module _ (s used records : ℕ) (xs : List ℕ) (long : most_steps ≤ length xs
   steps-length : records ≤ most_steps → length (take records xs) ≡ records
   steps-length l = length-take-le records xs (omega arith)
 
-  pub record_one : records < most_steps → so_far 0 used (records + 1) (set xs records s) ≡ recorded s (so_far 0 used records xs)
+  pub record_one : records < most_steps → so_far Going used (records + 1) (set xs records s) ≡ recorded s (so_far Going used records xs)
   unfolding recorded outcome_of
   record_one l =
       let lt : ltb (length (take records xs)) most_steps ≡ true = lt-ltb (length (take records xs)) most_steps (omega (arith, steps-length (omega arith))) in
       rw (add-one, take-suc-set xs records s (omega arith), lt, recorded)
 
-  pub record_full : most_steps ≤ records → records ≤ most_steps → so_far 3 used records xs ≡ recorded s (so_far 0 used records xs)
+  pub record_full : most_steps ≤ records → records ≤ most_steps → so_far Full used records xs ≡ recorded s (so_far Going used records xs)
   unfolding recorded outcome_of
   record_full l m =
       let lt : ltb (length (take records xs)) most_steps ≡ false = le-ltb (length (take records xs)) most_steps (omega (arith, steps-length m)) in
@@ -75,13 +76,13 @@ module _ (s used records : ℕ) (xs : List ℕ) (long : most_steps ≤ length xs
 
 -- ---- a cell is opened
 module _ (ls ks bs : List ℕ) (s : ℕ) (fs : List Frame) (used records : ℕ) (xs : List ℕ) {kind : ℕ} (ek : kind ≡ get_or ks s 0) where
-  pub enter_step : {gs : List Frame} {d : Drill} → kind ≡ 1 → gs ≡ frame s 0 0 ∷ fs → d ≡ recorded s (so_far 0 used records xs) → record { stack = gs; drill = d } ≡ enter ls ks bs s fs (so_far 0 used records xs)
+  pub enter_step : {gs : List Frame} {d : Drill} → kind ≡ 1 → gs ≡ frame s 0 0 ∷ fs → d ≡ recorded s (so_far Going used records xs) → record { stack = gs; drill = d } ≡ enter ls ks bs s fs (so_far Going used records xs)
   unfolding enter
   enter_step e eg ed =
       let e1 : get_or ks s 0 ≡ 1 = sym ek ∙ e in
       rw (eg, ed, eq-eqb _ 1 e1, enter)
 
-  pub enter-other : {gs : List Frame} (o : Opened) → (kind ≡ 1 → ⊥) → o ≡ opened ls bs s kind used → gs ≡ frame s o.next o.times ∷ fs → record { stack = gs; drill = so_far o.halt o.used records xs } ≡ enter ls ks bs s fs (so_far 0 used records xs)
+  pub enter-other : {gs : List Frame} (o : Opened) → (kind ≡ 1 → ⊥) → o ≡ opened ls bs s kind used → gs ≡ frame s o.next o.times ∷ fs → record { stack = gs; drill = so_far o.halt o.used records xs } ≡ enter ls ks bs s fs (so_far Going used records xs)
   unfolding enter
   enter-other o z eo eg =
       let e1 : get_or ks s 0 ≡ 1 → ⊥ = λ e. z (ek ∙ e) in
@@ -107,14 +108,14 @@ module _ (ls ks bs : List ℕ) (c : Chain) (some : 0 < c.count) (d : Drill) wher
       go zero l = absurd (omega arith)
       go (suc n) l = refl
 
-pub pass_is : (ls ks : List ℕ) (c : Chain) {k : ℕ} {ns ts : List ℕ} → 0 < c.count → c.count - 1 < length c.nexts → c.count - 1 < length c.times → k ≡ get_or ks (top c).cell 0
-    → ns ≡ set c.nexts (c.count - 1) (after ls k (top c).next (top c).times).next → ts ≡ set c.times (c.count - 1) (after ls k (top c).next (top c).times).times
-    → frames_of c.cells ns ts c.count ≡ passed ls ks (top c) ∷ below c
+pub pass_is : (ls ks : List ℕ) (c : Chain) {k : ℕ} {cs ns ts : List ℕ} → 0 < c.count → c.count - 1 < length c.nexts → c.count - 1 < length c.times → k ≡ get_or ks (top c).cell 0
+    → cs ≡ c.cells → ns ≡ set c.nexts (c.count - 1) (after ls k (top c).next (top c).times).next → ts ≡ set c.times (c.count - 1) (after ls k (top c).next (top c).times).times
+    → frames_of cs ns ts c.count ≡ passed ls ks (top c) ∷ below c
 unfolding passed
-pass_is ls ks c {k} some a b ek en et =
+pass_is ls ks c {k} some a b ek ec en et =
     let e : c.count ≡ c.count - 1 + 1 = omega arith in
     let t = after ls k (top c).next (top c).times in
-    rw (en, et)
+    rw (ec, en, et)
     (ap (frames_of c.cells (set c.nexts (c.count - 1) t.next) (set c.times (c.count - 1) t.times)) e
     ∙ frames_pass c.cells c.nexts c.times (c.count - 1) t.next t.times a b
     ∙ rw ek)

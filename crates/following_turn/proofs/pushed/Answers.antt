@@ -6,4 +6,4 @@ pub returns-clause-count_after : goal.returns-clause-count_after
 returns-clause-count_after c =
     let a = c.args in
     let h = c.requires.1 in
-    frames_push a.cells.now a.nexts.now a.times.now a.count a.s a.next a.often (omega (arith, c.requires.0, h.cells_long)) (omega (arith, c.requires.0, h.nexts_long)) (omega (arith, c.requires.0, h.times_long))
+    frames_push a.path.now.cells a.path.now.nexts a.path.now.times a.count a.s a.next a.often (omega (arith, c.requires.0, h.cells_long)) (omega (arith, c.requires.0, h.nexts_long)) (omega (arith, c.requires.0, h.times_long))

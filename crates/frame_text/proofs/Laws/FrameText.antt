@@ -1,5 +1,5 @@
 -- The line from its parts, and the answers case by case: for the code. Nothing that a reader must believe stands here. Assumes nothing.
-use Rattle.std.specs.Prelude.{◌≡◌, refl, List, [], ◌∷◌, ℕ, ◌*◌, ◌≤◌, ℤ, length}
+use Rattle.std.specs.Prelude.{◌≡◌, refl, List, [], ◌∷◌, ℕ, ◌*◌, ◌≤◌, ℤ, length, Option, Some, None, Result, Ok, Err}
 use Rattle.std.proofs.Common.{ap, ◌∙◌, arith}
 use borrow.Author.Tests.{eq-eqb, ne_eqb}
 use Rattle.plan.specs.Limits.{most_cells, most_allowance, scratch_size}
@@ -7,17 +7,18 @@ use Rattle.plan.specs.Plan.{Table}
 use Rattle.plan.specs.Columns.{table_of}
 use Rattle.plan.specs.Fit.{Fit}
 use Rattle.plan.specs.Questions.{refusal, frame, frame_given}
-use Rattle.layout.specs.declared.Measures.{Measures}
+use Rattle.plan.specs.declared.Measures.{Measures}
+use Rattle.plan.specs.declared.Refusal.{Refusal}
 use Rattle.layout.specs.Laid.{Drawable, Drawn}
-use Rattle.planfile_spec.specs.declared.Reading.{Reading}
+use Rattle.planfile_spec.specs.Read.{Reading, answer_of}
+use Rattle.planfile_spec.proofs.Laws.Answer.{read_refused}
 use Rattle.planfile_spec.specs.Reading.{reading_of}
 use Rattle.listing.specs.Printed.{space, line_feed, line, decimal, refused_line}
 use Rattle.listing.specs.Put.{Put}
 use Rattle.listing.proofs.Laws.Put.{then}
+use Rattle.printing.specs.Printing.{Taken}
 use Rattle.printing.proofs.Laws.Taken.{taken_drawable}
 use Rattle.fitting.specs.Fitted.{fitted_of, Frames}
-use Rattle.fitting.specs.declared.Fitted.{Fitted}
-use Rattle.fitting.specs.declared.Fitted.TheVariants.{Allowance, None, Refused}
 use Rattle.frame_text.specs.FrameText.{sheet_fields, allowance_line, none_line, measures_of, fitted_line, answer_line, frame_text}
 
 -- ---- the lines, from their parts: ` width `, ` rows `, `allowance ` and `none`
@@ -43,35 +44,38 @@ unfolding measures_of
 drawn_measures t al d = d.answers
 
 -- ---- the answers
-module _ (t : Table) {r : Fitted} {a b : List ℕ} {n : ℕ} where
-  pub tell_allowance : {al : ℕ} (m : Measures) → r ≡ Allowance al → m ≡ measures_of t al → Put a 0 (allowance_line al m.width m.rows) b n → Put a 0 (fitted_line t r) b n
+module _ (t : Table) {r : Result (Option ℕ) Refusal} {a b : List ℕ} {n : ℕ} where
+  pub tell_allowance : {al : ℕ} {x : Option ℕ} (m : Measures) → r ≡ Ok x → x ≡ Some al → m ≡ measures_of t al → Put a 0 (allowance_line al m.width m.rows) b n → Put a 0 (fitted_line t r) b n
   unfolding fitted_line
-  tell_allowance m e q u = rw e (rw q at u)
+  tell_allowance m e o q u = rw (e, o) (rw q at u)
 
-  pub tell_none : (m : Measures) → r ≡ None → m ≡ measures_of t most_allowance → Put a 0 (none_line m.width m.rows) b n → Put a 0 (fitted_line t r) b n
+  pub tell_none : {x : Option ℕ} (m : Measures) → r ≡ Ok x → x ≡ None → m ≡ measures_of t most_allowance → Put a 0 (none_line m.width m.rows) b n → Put a 0 (fitted_line t r) b n
   unfolding fitted_line
-  tell_none m e q u = rw e (rw q at u)
+  tell_none m e o q u = rw (e, o) (rw q at u)
 
-  pub tell_refused : {k c : ℕ} → r ≡ Refused k c → Put a 0 (refused_line k c) b n → Put a 0 (fitted_line t r) b n
+  pub tell_refused : {x : Refusal} → r ≡ Err x → Put a 0 (refused_line x.number x.cell) b n → Put a 0 (fitted_line t r) b n
   unfolding fitted_line
   tell_refused e u = rw e u
 
-pub answered : (t : Table) (f : ℕ) {s s' : List ℕ} {r : Fitted} {a b : List ℕ} {n : ℕ} → Frames t f s s' r → length s ≡ scratch_size → Put a 0 (fitted_line t r) b n → Put a 0 (answer_line t f) b n
+pub answered : (t : Table) (f : ℕ) {s s' : List ℕ} {r : Result (Option ℕ) Refusal} {a b : List ℕ} {n : ℕ} → Frames t f s s' r → length s ≡ scratch_size → Put a 0 (fitted_line t r) b n → Put a 0 (answer_line t f) b n
 unfolding answer_line
 answered t f {s = s} {r = r} g e u =
     let q : r ≡ fitted_of t f (refusal frame (frame_given t f scratch_size)) = g.answers ∙ ap (λ (k : ℕ). fitted_of t f (refusal frame (frame_given t f k))) e in
     rw (← q) u
 
 -- ---- the file, as Read gives it
-module _ (p : Reading) (f : List ℕ) (e : p ≡ reading_of f most_cells) where
-  pub file_fit : p.refusal.number ≡ 0 → Fit (table_of p.columns)
-  file_fit z = (taken_drawable p f (record { is = e; passes = z }) scratch_size (2 * most_cells) refl (omega arith)).fit
+module _ (p : Reading) (f : List ℕ) (h : Taken p f) where
+  pub file_fit : Fit (table_of p.columns)
+  file_fit = (taken_drawable p f h scratch_size (2 * most_cells) refl (omega arith)).fit
 
-  module _ (squares : ℕ) {a b : List ℕ} {n : ℕ} where
-    pub file-refused : ¬ (p.refusal.number ≡ 0) → Put a 0 (refused_line p.refusal.number p.refusal.cell) b n → Put a 0 (frame_text f squares) b n
-    unfolding frame_text
-    file-refused z u = rw (← e, ne_eqb p.refusal.number 0 z) u
+  pub file-answered : (squares : ℕ) {a b : List ℕ} {n : ℕ} → Put a 0 (answer_line (table_of p.columns) squares) b n → Put a 0 (frame_text f squares) b n
+  unfolding frame_text
+  file-answered squares u = let e = h.is in rw (← e, eq-eqb p.refusal.number 0 h.passes) u
 
-    pub file-answered : p.refusal.number ≡ 0 → Put a 0 (answer_line (table_of p.columns) squares) b n → Put a 0 (frame_text f squares) b n
-    unfolding frame_text
-    file-answered z u = rw (← e, eq-eqb p.refusal.number 0 z) u
+pub file-refused : (f : List ℕ) (x : Refusal) → Err x ≡ answer_of (reading_of f most_cells) → (squares : ℕ) {a b : List ℕ} {n : ℕ} → Put a 0 (refused_line x.number x.cell) b n → Put a 0 (frame_text f squares) b n
+unfolding frame_text
+file-refused f x e squares u =
+    let p = reading_of f most_cells in
+    let (q, z) = read_refused f most_cells x e in
+    let m : ¬ (p.refusal.number ≡ 0) = rw q at z in
+    rw (ne_eqb p.refusal.number 0 m) (rw q at u)

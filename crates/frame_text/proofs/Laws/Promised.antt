@@ -1,5 +1,5 @@
 -- What `frame` prints of a file that Read accepts: the proofs. Assumes nothing.
-use Rattle.std.specs.Prelude.{◌≡◌, refl, ℕ, ◌*◌, ◌≤◌, leb, pos, ◌<ℤ◌}
+use Rattle.std.specs.Prelude.{◌≡◌, refl, ℕ, ◌*◌, ◌≤◌, leb, pos, ◌<ℤ◌, Ok}
 use Rattle.std.proofs.Common.{sym, ◌∙◌, arith, eq-eqb, ne_eqb}
 use Rattle.std.proofs.Math.Path.{ap}
 use Rattle.std.proofs.Math.ListN.{length}
@@ -9,6 +9,7 @@ use Rattle.plan.specs.Plan.{Table}
 use Rattle.plan.specs.Columns.{table_of}
 use Rattle.plan.specs.Fit.{Fit}
 use Rattle.plan.specs.Questions.{refusal, frame, frame_given, none, asked}
+use Rattle.plan.proofs.Laws.Answered.{answered_none}
 use Rattle.plan.proofs.Laws.Questions.{first-none, both-none}
 use Rattle.plan.proofs.Laws.Kept.{asked_true}
 use Rattle.plan.specs.Steps.{table_refusal, counted_refusal, lent_refusal}
@@ -18,7 +19,7 @@ use Rattle.rules.specs.Placement.{width}
 use Rattle.contours.specs.Sheet.{sheet}
 use Rattle.least.specs.Frame.{least_allowance, Least}
 use Rattle.least.proofs.Laws.Frame.{found-least, nowhere-wide}
-use Rattle.planfile_spec.specs.declared.Reading.{Reading}
+use Rattle.planfile_spec.specs.Read.{Reading}
 use Rattle.planfile_spec.specs.Reading.{reading_of}
 use Rattle.listing.specs.Printed.{Bytes, refused_line}
 use Rattle.printing.specs.Printing.{Taken}
@@ -68,7 +69,7 @@ module _ (f : Bytes) (z : (reading_of f most_cells).refusal.number ≡ 0) (n : �
   is-answer = rw (eq-eqb p.refusal.number 0 z)
 
   fit : Fit t
-  fit = file_fit p f refl z
+  fit = file_fit p f taken
 
   module _ (some : 1 ≤ n) where
     passes : (refusal frame (frame_given t n scratch_size)).number ≡ 0
@@ -76,9 +77,9 @@ module _ (f : Bytes) (z : (reading_of f most_cells).refusal.number ≡ 0) (n : �
         let e : asked 19 (leb 1 n) 0 ≡ none = rw (is_true (says_le 1 n) some) (asked_true 18 0) in
         ap (λ (x : Refusal). x.number) (asks ∙ e)
 
-    is-told : frame_text f n ≡ fitted_line t (told (least_allowance t n))
+    is-told : frame_text f n ≡ fitted_line t (Ok (told (least_allowance t n)))
     unfolding answer_line fitted_of
-    is-told = is-answer ∙ rw (eq-eqb (refusal frame (frame_given t n scratch_size)).number 0 passes)
+    is-told = is-answer ∙ ap (fitted_line t) (answered_none _ _ passes)
 
     pub least-text : (a : ℕ) → Least t n a → frame_text f n ≡ allowance_line a (measures_of t a).width (measures_of t a).rows
     unfolding told fitted_line

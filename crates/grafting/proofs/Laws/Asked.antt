@@ -1,16 +1,16 @@
 -- The questions of a join as the code puts them to columns, and the answer. Assumes nothing.
-use Rattle.std.specs.Prelude.{◌≡◌, refl, ℕ, ◌+◌, ◌-◌, ◌≤◌, ◌<◌, leb, ltb}
+use Rattle.std.specs.Prelude.{◌≡◌, refl, Result, Ok, Err, IsErrAnd, ⊤, ℕ, ◌+◌, ◌-◌, ◌≤◌, ◌<◌, leb, ltb}
 use Rattle.std.proofs.Common.{sym, ap, ◌∙◌, arith, ltb→lt}
 use Rattle.std.proofs.Math.Decide.{dec_lt}
-use borrow.Author.Tests.{eq-eqb, ne_eqb}
 use Rattle.plan.specs.Limits.{between, most_cells, most_depth}
 use Rattle.plan.specs.Plan.{Sound}
 use Rattle.plan.specs.Columns.{table_of}
 use Rattle.plan.proofs.Laws.Tables.{length-is, parent_is}
 use Rattle.plan.specs.Trees.{Lower, Flat}
 use Rattle.plan.proofs.Laws.Trees.{lower-sound}
-use Rattle.plan.specs.Questions.{asked, or_else}
-use Rattle.plan.proofs.Laws.Questions.{asked_yes, both-none, stops, goes_on}
+use Rattle.plan.specs.Questions.{asked, or_else, answered, passed}
+use Rattle.plan.proofs.Laws.Questions.{asked_yes, both-none}
+use Rattle.plan.proofs.Laws.Answered.{passes, answers_err, err_stops, answers_ok, ok_goes_on}
 use Rattle.plan.proofs.Laws.Kept.{or_assoc}
 use Rattle.plan.specs.Steps.{cells_refusal, tree_refusal}
 use Rattle.plan.proofs.Laws.Steps.{counted-read, cells-lower, cells-flat}
@@ -22,7 +22,7 @@ use Rattle.graft.specs.Joined.{joined}
 use Rattle.graft.specs.Sequence.{join_refusal, part_refusal}
 use Rattle.graft.proofs.Laws.Joined.{length-joined, joined-sound}
 use Rattle.graft.proofs.Laws.Sequence.{join-puts}
-use Rattle.grafting.specs.Grafted.{picked, grafted, Graftable, ready_refusal, refused, accepted, graft_of}
+use Rattle.grafting.specs.Grafted.{picked, grafted, Graftable, ready_refusal, accepted, graft_of}
 use Rattle.grafting.proofs.Laws.Grafted.{picked_first, picked-second, grafted-count, grafted-table}
 
 -- ---- what 4 and 6 to 8 establish
@@ -113,23 +113,33 @@ module _ (t u : Columns) (c : ℕ) where
   unfolding ready_refusal
   all-questions room = join-puts room (table_of t) (table_of u) c ∙ rw (length-joined (table_of t) (table_of u) c) (simp or_assoc)
 
-module _ (t u : Lettered) (c room : ℕ) (r : Refusal) (e : r ≡ ready_refusal room (table_of t.columns) (table_of u.columns) c) where
-  answer-refused : (s : Refusal) → s ≡ join_refusal room (table_of t.columns) (table_of u.columns) c → ¬ (s.number ≡ 0) → refused s ≡ graft_of room t u c
+module _ (t u : Lettered) (c room : ℕ) where
+  abbrev why : Refusal
+  why = ready_refusal room (table_of t.columns) (table_of u.columns) c
+
+  abbrev made : Lettered
+  made = accepted t u (grafted t.columns u.columns c)
+
+  answer-is : (y : Result Lettered Refusal) → y ≡ answered (or_else why (tree_refusal (joined (table_of t.columns) (table_of u.columns) c))) made → y ≡ graft_of room t u c
   unfolding graft_of
-  answer-refused s q z = rw (← q, ne_eqb s.number 0 z)
+  answer-is y e = e ∙ ap (λ (r : Refusal). answered r made) (sym (all-questions t.columns u.columns c room))
 
-  pub stopped : ¬ (r.number ≡ 0) → refused r ≡ graft_of room t u c
-  stopped z = answer-refused r (stops r _ _ e z ∙ sym (all-questions t.columns u.columns c room)) z
+  pub stopped : (e : Refusal) (y : Result Lettered Refusal) → Err e ≡ passed why → IsErrAnd y (λ d. d ≡ e) → y ≡ graft_of room t u c
+  stopped e y h p = answer-is y (err_stops made why e y h p _)
 
-  module _ (z : r.number ≡ 0) (x : Columns) (g : x ≡ grafted t.columns u.columns c) (s : Refusal) (q : s ≡ tree_refusal (table_of x)) where
-    went_on : s ≡ join_refusal room (table_of t.columns) (table_of u.columns) c
-    went_on =
-        goes_on r _ _ s e z (q ∙ ap (λ (y : Columns). tree_refusal (table_of y)) g ∙ ap tree_refusal (is-joined t.columns u.columns c (ready_read t.columns u.columns c room r e z)))
-        ∙ sym (all-questions t.columns u.columns c room)
+  module _ (w : ⊤) (h : Ok w ≡ passed why) where
+    pub ready-passed : Ready t.columns u.columns c
+    ready-passed = ready_read t.columns u.columns c room why refl (passes why w h)
 
-    pub stopped-later : ¬ (s.number ≡ 0) → refused s ≡ graft_of room t u c
-    stopped-later y = answer-refused s went_on y
+    module _ (x : Columns) (g : x ≡ grafted t.columns u.columns c) where
+      tree-is : tree_refusal (table_of x) ≡ tree_refusal (joined (table_of t.columns) (table_of u.columns) c)
+      tree-is = ap (λ (y : Columns). tree_refusal (table_of y)) g ∙ ap tree_refusal (is-joined t.columns u.columns c ready-passed)
 
-    pub joins : s.number ≡ 0 → accepted t u x ≡ graft_of room t u c
-    unfolding graft_of
-    joins y = rw (g, ← went_on, eq-eqb s.number 0 y)
+      went_on : (y : Result Lettered Refusal) → y ≡ answered (tree_refusal (table_of x)) made → y ≡ graft_of room t u c
+      went_on y e = answer-is y (ok_goes_on why w h made _ y (e ∙ ap (λ (r : Refusal). answered r made) tree-is))
+
+      pub stopped-later : (e : Refusal) (y : Result Lettered Refusal) → Err e ≡ passed (tree_refusal (table_of x)) → IsErrAnd y (λ d. d ≡ e) → y ≡ graft_of room t u c
+      stopped-later e y q p = went_on y (answers_err made (tree_refusal (table_of x)) e y q p)
+
+      pub joins : (v : ⊤) → Ok v ≡ passed (tree_refusal (table_of x)) → (l : Lettered) → l ≡ accepted t u x → Ok l ≡ graft_of room t u c
+      joins v q l e = went_on (Ok l) (ap Ok (e ∙ ap (accepted t u) g) ∙ answers_ok (tree_refusal (table_of x)) v q made)

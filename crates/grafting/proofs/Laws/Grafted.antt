@@ -10,29 +10,33 @@ use Rattle.plan.specs.Limits.{most_cells}
 use Rattle.plan.specs.Plan.{Cell, Table, blank, parent, kind, box_width, box_depth, rank}
 use Rattle.plan.specs.Columns.{table_of}
 use Rattle.plan.proofs.Laws.Tables.{length-is, parent_is, kind-is, width_is, depth_is, rank_is}
-use Rattle.plan.specs.Questions.{none}
 use Rattle.plan.specs.declared.Columns.{Columns}
 use Rattle.plan.specs.declared.Lettered.{Lettered}
-use Rattle.plan.specs.declared.Refusal.{Refusal}
-use Rattle.planfile_spec.specs.declared.Reading.{Reading}
 use Rattle.planfile_spec.specs.Reading.{column}
-use Rattle.planfile_spec.specs.FileSteps.{blank_reading}
 use Rattle.planfile_spec.proofs.Laws.Examined.{column-at}
 use Rattle.graft.specs.Joined.{joined}
 use Rattle.graft.proofs.Laws.Joined.{length-joined, first-parent, first_kind, first_width, first_depth, first-rank, root_parent, second-parent, second-kind, second-width, second_depth, second-rank}
-use Rattle.grafting.specs.declared.Graft.{Graft}
-use Rattle.grafting.specs.declared.JoinAnswer.TheVariants.{Plan, Refused}
-use Rattle.grafting.specs.Grafted.{picked, picked_parent, grafted, Hangs, Graftable, refused, accepted}
+use Rattle.grafting.specs.Grafted.{picked_of, column_of, picked, picked_parent, grafted, Hangs, Graftable, accepted}
+
+-- ---- one value
+module _ {A : Type 0} (z : A) (n : ℕ) (xs ys : List A) (i : ℕ) where
+  pub first_of : i < n → get_or xs i z ≡ picked_of z n xs ys i
+  unfolding picked_of
+  first_of h = rw (lt-ltb i n h)
+
+  pub second-of : n ≤ i → get_or ys (i - n) z ≡ picked_of z n xs ys i
+  unfolding picked_of
+  second-of h = rw (le-ltb i n h)
 
 -- ---- one number
 module _ (n : ℕ) (xs ys : List ℕ) (i : ℕ) where
   pub picked_first : i < n → get_or xs i 0 ≡ picked n xs ys i
   unfolding picked
-  picked_first h = rw (lt-ltb i n h)
+  picked_first h = first_of 0 n xs ys i h
 
   pub picked-second : n ≤ i → get_or ys (i - n) 0 ≡ picked n xs ys i
   unfolding picked
-  picked-second h = rw (le-ltb i n h)
+  picked-second h = second-of 0 n xs ys i h
 
   pub parent-first : (c : ℕ) → i < n → get_or xs i 0 ≡ picked_parent n c xs ys i
   unfolding picked_parent
@@ -47,16 +51,36 @@ module _ (n : ℕ) (xs ys : List ℕ) (i : ℕ) where
   parent-second c h e = rw (le-ltb i n h, ne_eqb i n e)
 
 -- ---- the loops
+module _ {A : Type 0} (z : A) (f : ℕ → A) where
+  pub values-none : replicate most_cells z ≡ column_of z f 0
+  unfolding column_of
+  values-none = refl
+
+  pub values-more : (k : ℕ) (xs : List A) (v : A) → xs ≡ column_of z f k → v ≡ f k → set xs k v ≡ column_of z f (k + 1)
+  unfolding column_of
+  values-more k xs v e q = rw (add-one, e, q)
+
+  pub values-all : (i k : ℕ) (xs : List A) → xs ≡ column_of z f i → i ≡ k → xs ≡ column_of z f k
+  values-all i k xs e q = rw (← q) e
+
+-- of numbers, with zeros
+pub column-is : (f : ℕ → ℕ) (k : ℕ) → column_of 0 f k ≡ column f k
+unfolding column_of column
+column-is f zero = refl
+column-is f (suc k) = ap (λ (xs : List ℕ). set xs k (f k)) (column-is f k)
+
 pub column-none : (f : ℕ → ℕ) → replicate most_cells 0 ≡ column f 0
-unfolding column
-column-none f = refl
+column-none f = values-none 0 f ∙ column-is f 0
 
 pub column-more : (f : ℕ → ℕ) (k : ℕ) (xs : List ℕ) (v : ℕ) → xs ≡ column f k → v ≡ f k → set xs k v ≡ column f (k + 1)
-unfolding column
-column-more f k xs v e q = rw (add-one, e, q)
+column-more f k xs v e q = values-more 0 f k xs v (e ∙ sym (column-is f k)) q ∙ column-is f (k + 1)
 
 pub column-all : (f : ℕ → ℕ) (i k : ℕ) (xs : List ℕ) → xs ≡ column f i → i ≡ k → xs ≡ column f k
 column-all f i k xs e q = rw (← q) e
+
+pub column-picked : (n k : ℕ) (xs ys : List ℕ) → column_of 0 (picked_of 0 n xs ys) k ≡ column (picked n xs ys) k
+unfolding picked
+column-picked n k xs ys = column-is (picked_of 0 n xs ys) k
 
 pub hangs_at : (us : List ℕ) (n c k i : ℕ) → Hangs us n c k → i < k → (i < most_cells) × (n ≤ most_cells) × (c < most_cells) × (n < i → get_or us (i - n) 0 < most_cells)
 hangs_at us n c k i h l = (omega (arith, h.few), h.first, h.named, λ p. h.lower i p l)
@@ -78,13 +102,9 @@ pub columns_are : (t u : Columns) (c : ℕ) (ps ks ws ds qs : List ℕ) → ps �
 unfolding grafted
 columns_are t u c ps ks ws ds qs p k w d q = rw (p, k, w, d, q)
 
-pub refuses : (r : Refusal) (x : Reading) → x ≡ blank_reading r → ◌≡◌ {A = Graft} (record { reading = x; answer = Refused r.number r.cell }) (refused r)
-unfolding refused
-refuses r x e = rw e
-
 pub accepts : (t u : Lettered) (j : Columns) (ls ss : List ℕ) → ls ≡ column (picked t.columns.count t.label_length u.label_length) j.count
     → ss ≡ column (picked t.columns.count t.label_start u.label_start) j.count
-    → ◌≡◌ {A = Graft} (record { reading = record { refusal = none; allowance = 0; columns = j; label_length = ls; label_start = ss }; answer = Plan j.count }) (accepted t u j)
+    → ◌≡◌ {A = Lettered} (record { columns = j; label_length = ls; label_start = ss }) (accepted t u j)
 unfolding accepted
 accepts t u j ls ss p q = rw (p, q)
 

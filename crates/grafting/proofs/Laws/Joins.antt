@@ -1,6 +1,6 @@
 -- What a call of Join promises: laws of the definitions in specs/Joins.antt. Assumes nothing.
-use Rattle.std.specs.Prelude.{◌≡◌, List, ◌++◌, ℕ, ◌+◌, ◌*◌, ◌≤◌, T, take, drop}
-use Rattle.std.proofs.Common.{sym, ap, ◌∙◌, arith, eq-eqb, ne_eqb}
+use Rattle.std.specs.Prelude.{◌≡◌, Result, Ok, Err, List, ◌++◌, ℕ, ◌+◌, ◌*◌, ◌≤◌, T, take, drop}
+use Rattle.std.proofs.Common.{sym, ap, ◌∙◌, arith}
 use Rattle.std.proofs.Math.Decide.{ℕ_discrete}
 use Rattle.std.proofs.Math.ListN.{length}
 use Rattle.std.proofs.lemmas.List.{length-map}
@@ -9,6 +9,7 @@ use Rattle.plan.specs.Limits.{most_allowance, scratch_size}
 use Rattle.plan.specs.Plan.{Table, Is, within}
 use Rattle.plan.specs.Records.{bare, cells_of}
 use Rattle.plan.specs.Questions.{layout, none, refusal, layout_given}
+use Rattle.plan.proofs.Laws.Answered.{answered_none, answered_some}
 use Rattle.plan.specs.declared.Record.{Record}
 use Rattle.plan.specs.declared.Refusal.{Refusal}
 use Rattle.rules.specs.Placement.{left_extent, right_extent}
@@ -19,8 +20,6 @@ use Rattle.graft.proofs.Theorems.{joined-cells, second_reaches, first_reaches, s
 use Rattle.graft.proofs.Laws.Joined.{length-joined}
 use Rattle.graft.proofs.Laws.Laid.{first_sound, second_sound}
 use Rattle.graft.proofs.Laws.Sequence.{Accepted, accepted}
-use Rattle.grafting.specs.declared.JoinAnswer.{JoinAnswer}
-use Rattle.grafting.specs.declared.JoinAnswer.TheVariants.{Plan, Refused}
 use Rattle.grafting.specs.Joins.{join_answered, table_after, Joins}
 
 pub cells-length : (t : List Record) → length (cells_of t) ≡ length t
@@ -31,22 +30,22 @@ pub records-length : (t u : List Record) (c : ℕ) → length (joined_records t 
 records-length t u c =
     sym (cells-length (joined_records t u c)) ∙ ap length (joined-cells t u c) ∙ length-joined (cells_of t) (cells_of u) c ∙ (let p = cells-length t in let q = cells-length u in omega arith)
 
-module _ (t u : List Record) (c : ℕ) (o o' : List Record) (r : JoinAnswer) (g : Joins t u c o o' r) where
+module _ (t u : List Record) (c : ℕ) (o o' : List Record) (r : Result ℕ Refusal) (g : Joins t u c o o' r) where
   abbrev why : Refusal
   why = join_refusal (length o) (cells_of t) (cells_of u) c
 
   -- a refusal is answered by its number and cell, and leaves the table as it was
-  pub unchanged : ¬ (why.number ≡ 0) → (r ≡ Refused why.number why.cell) × (o' ≡ o)
+  pub unchanged : ¬ (why.number ≡ 0) → (r ≡ Err why) × (o' ≡ o)
   unfolding join_answered table_after
-  unchanged z = let e : r ≡ Refused why.number why.cell = g.answers ∙ rw (ne_eqb why.number 0 z) in (e, rw e at g.table)
+  unchanged z = let e : r ≡ Err why = g.answers ∙ answered_some why _ z in (e, rw e at g.table)
 
   -- where no question refuses: the joined records, and the rest as it was
-  pub gives : why.number ≡ 0 → (r ≡ Plan (length t + length u)) × (o' ≡ joined_records t u c ++ drop (length t + length u) o)
+  pub gives : why.number ≡ 0 → (r ≡ Ok (length t + length u)) × (o' ≡ joined_records t u c ++ drop (length t + length u) o)
   unfolding join_answered table_after
-  gives z = let e : r ≡ Plan (length t + length u) = g.answers ∙ rw (eq-eqb why.number 0 z) in (e, rw e at g.table)
+  gives z = let e : r ≡ Ok (length t + length u) = g.answers ∙ answered_none why _ z in (e, rw e at g.table)
 
 -- ---- of an answer alone
-module _ (t u : List Record) (c : ℕ) (o o' : List Record) (n : ℕ) (g : Joins t u c o o' (Plan n)) where
+module _ (t u : List Record) (c : ℕ) (o o' : List Record) (n : ℕ) (g : Joins t u c o o' (Ok n)) where
   abbrev T₁ : Table
   T₁ = cells_of t
 
@@ -61,16 +60,16 @@ module _ (t u : List Record) (c : ℕ) (o o' : List Record) (n : ℕ) (g : Joins
     where
       go : Dec ((join_refusal (length o) T₁ U₁ c).number ≡ 0) → (join_refusal (length o) T₁ U₁ c).number ≡ 0
       go (yes z) = z
-      go (no z) = absurd (let e = (unchanged t u c o o' (Plan n) g z).0 in let y : ◌≡◌ {A = ℕ} 0 1 = cc in omega arith)
+      go (no z) = absurd (let e = (unchanged t u c o o' (Ok n) g z).0 in let y : ◌≡◌ {A = ℕ} 0 1 = cc in omega arith)
 
   count : n ≡ length t + length u
-  count = let e = (gives t u c o o' (Plan n) g no-refusal).0 in cc
+  count = let e = (gives t u c o o' (Ok n) g no-refusal).0 in cc
 
   -- the first n records of the table are the joined ones
   pub written : take n o' ≡ joined_records t u c
   written =
       let e : n ≡ length (joined_records t u c) = count ∙ sym (records-length t u c) in
-      rw ((gives t u c o o' (Plan n) g no-refusal).1, e) (take-append_seam (joined_records t u c) _)
+      rw ((gives t u c o o' (Ok n) g no-refusal).1, e) (take-append_seam (joined_records t u c) _)
 
   -- and the table that Layout and Check see in them is THE joined one
   pub holds-joined : J ≡ joined T₁ U₁ c

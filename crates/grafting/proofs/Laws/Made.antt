@@ -1,7 +1,7 @@
 -- The records that stand in joined columns: those of the joined records, label fields and all. Nothing that a reader must believe stands here. Assumes nothing.
-use Rattle.std.specs.Prelude.{◌≡◌, List, ℕ, ◌+◌, ◌-◌, ◌≤◌, ◌<◌, length}
+use Rattle.std.specs.Prelude.{◌≡◌, List, Ok, Err, ℕ, ◌+◌, ◌-◌, ◌≤◌, ◌<◌, length}
 use Rattle.std.proofs.Math.Path.{refl, sym}
-use Rattle.std.proofs.Common.{ap, ◌∙◌, zero-add, eq-eqb, ne_eqb, ext_get_or}
+use Rattle.std.proofs.Common.{ap, ◌∙◌, zero-add, ext_get_or}
 use native.Mathlib.Omega.{arith}
 use Rattle.std.proofs.Math.Decide.{ℕ_discrete, dec_lt}
 use Rattle.std.proofs.Math.ListN.{get_or}
@@ -9,10 +9,11 @@ use Rattle.plan.specs.Limits.{most_cells}
 use Rattle.plan.specs.Columns.{table_of}
 use Rattle.plan.proofs.Laws.Tables.{length-is}
 use Rattle.plan.proofs.Laws.Columns.{get_or_from}
+use Rattle.plan.proofs.Laws.Answered.{answered_none, answered_some}
 use Rattle.plan.specs.declared.Record.{Record}
 use Rattle.plan.specs.declared.Lettered.{Lettered}
 use Rattle.plan.specs.declared.Refusal.{Refusal}
-use Rattle.planfile_spec.specs.declared.Reading.{Reading}
+use Rattle.planfile_spec.specs.Read.{Reading, reading}
 use Rattle.planfile_spec.specs.Reading.{column}
 use Rattle.planfile_spec.proofs.Laws.Examined.{column-at}
 use Rattle.records.specs.Apart.{no_record, lent_at, row_at, records_in}
@@ -23,7 +24,7 @@ use Rattle.graft.specs.Sequence.{join_refusal}
 use Rattle.graft.proofs.Laws.Hung.{behind_first, behind_root, behind_later}
 use Rattle.graft.proofs.Laws.Joined.{length-joined}
 use Rattle.graft.proofs.Laws.Sequence as asks
-use Rattle.grafting.specs.Grafted.{picked, picked_parent, grafted, refused, accepted, graft_of}
+use Rattle.grafting.specs.Grafted.{picked, picked_parent, grafted, accepted, graft_of}
 use Rattle.grafting.proofs.Laws.Grafted.{picked_first, picked-second, parent-first, parent_root, parent-second}
 use Rattle.grafting.proofs.Laws.Joins.{records-length}
 
@@ -43,13 +44,13 @@ module _ (room : ℕ) (a b : Lettered) (c : ℕ) where
   abbrev pub stop : Refusal
   stop = join_refusal room (table_of a.columns) (table_of b.columns) c
 
-  pub graft_accepted : stop.number ≡ 0 → graft_of room a b c ≡ accepted a b (grafted a.columns b.columns c)
+  pub graft_accepted : stop.number ≡ 0 → graft_of room a b c ≡ Ok (accepted a b (grafted a.columns b.columns c))
   unfolding graft_of
-  graft_accepted z = rw (eq-eqb stop.number 0 z)
+  graft_accepted z = answered_none stop _ z
 
-  pub graft_refused : ¬ (stop.number ≡ 0) → graft_of room a b c ≡ refused stop
+  pub graft_refused : ¬ (stop.number ≡ 0) → graft_of room a b c ≡ Err stop
   unfolding graft_of
-  graft_refused z = rw (ne_eqb stop.number 0 z)
+  graft_refused z = answered_some stop _ z
 
   pub count-joined : stop.number ≡ 0 → (a.columns.count + b.columns.count ≤ room) × (a.columns.count + b.columns.count ≤ most_cells) × (1 ≤ b.columns.count)
   count-joined z =
@@ -68,7 +69,7 @@ module _ (a b : Lettered) (c : ℕ) (few : a.columns.count + b.columns.count ≤
   k = a.columns.count + b.columns.count
 
   abbrev pub made : Reading
-  made = (accepted a b (grafted a.columns b.columns c)).reading
+  made = reading (record { allowance = 0; cells = accepted a b (grafted a.columns b.columns c) })
 
   at_first : (xs ys : List ℕ) (i : ℕ) → i < n → i < k → get_or (column (picked n xs ys) k) i 0 ≡ get_or xs i 0
   at_first xs ys i h l = column-at (picked n xs ys) k i few l ∙ sym (picked_first n xs ys i h)

@@ -1,38 +1,37 @@
-use mathlib.Core.Path.{◌∙◌}
-use Rattle.grafting.proofs.Laws.Asked.{ready_read, low_of, flat-of, stopped, stopped-later, joins}
+use Rattle.grafting.proofs.Laws.Asked.{low_of, flat-of, stopped, ready-passed, stopped-later, joins}
 use Rattle.grafting.proofs.join.Goals as goal
 
-pub returns-then-r-ne0 : goal.returns-then-r-ne0
-returns-then-r-ne0 c =
+pub returns-in_err-ready : goal.returns-in_err-ready
+returns-in_err-ready c =
     let a = c.args in
-    c.refuse.ensures ∙ stopped a.first a.second a.cell a.room _ c.ready-r.ensures c.if-r-ne0.true
+    stopped a.first.now a.second.now a.cell a.room _ _ c.in_err-ready.ensures c.from_residual.ensures.1
 
 pub join_columns-t-requires : goal.join_columns-t-requires
 join_columns-t-requires c =
     let a = c.args in
-    (ready_read a.first.columns a.second.columns a.cell a.room _ c.ready-r.ensures c.if-r-ne0.false).able
+    (ready-passed a.first.now a.second.now a.cell a.room _ c.in_ok-ready.ensures).able
 
-pub tree_refusal-s-requires-clause-lower : goal.tree_refusal-s-requires-clause-lower
-tree_refusal-s-requires-clause-lower c =
+pub tree_refusal-requires-clause-lower : goal.tree_refusal-requires-clause-lower
+tree_refusal-requires-clause-lower c =
     let a = c.args in
-    low_of a.first.columns a.second.columns a.cell (ready_read a.first.columns a.second.columns a.cell a.room _ c.ready-r.ensures c.if-r-ne0.false) _ c.join_columns-t.ensures
+    low_of a.first.now.columns a.second.now.columns a.cell (ready-passed a.first.now a.second.now a.cell a.room _ c.in_ok-ready.ensures) _ c.join_columns-t.ensures
 
-pub tree_refusal-s-requires-clause-flat : goal.tree_refusal-s-requires-clause-flat
-tree_refusal-s-requires-clause-flat c =
+pub tree_refusal-requires-clause-flat : goal.tree_refusal-requires-clause-flat
+tree_refusal-requires-clause-flat c =
     let a = c.args in
-    flat-of a.first.columns a.second.columns a.cell (ready_read a.first.columns a.second.columns a.cell a.room _ c.ready-r.ensures c.if-r-ne0.false) _ c.join_columns-t.ensures
+    flat-of a.first.now.columns a.second.now.columns a.cell (ready-passed a.first.now a.second.now a.cell a.room _ c.in_ok-ready.ensures) _ c.join_columns-t.ensures
 
-pub returns-then-s-ne0 : goal.returns-then-s-ne0
-returns-then-s-ne0 c =
+pub returns-in_err-tree_refusal : goal.returns-in_err-tree_refusal
+returns-in_err-tree_refusal c =
     let a = c.args in
-    c.refuse-then-s-ne0.ensures ∙ stopped-later a.first a.second a.cell a.room _ c.ready-r.ensures c.if-r-ne0.false _ c.join_columns-t.ensures _ (c.tree_refusal-s.ensures _ _) c.if-s-ne0.true
+    stopped-later a.first.now a.second.now a.cell a.room _ c.in_ok-ready.ensures _ c.join_columns-t.ensures _ _ c.in_err-tree_refusal.ensures c.from_residual-in_err-tree_refusal.ensures.1
 
 pub accept-requires : goal.accept-requires
 accept-requires c =
     let a = c.args in
-    (low_of a.first.columns a.second.columns a.cell (ready_read a.first.columns a.second.columns a.cell a.room _ c.ready-r.ensures c.if-r-ne0.false) _ c.join_columns-t.ensures).few
+    (low_of a.first.now.columns a.second.now.columns a.cell (ready-passed a.first.now a.second.now a.cell a.room _ c.in_ok-ready.ensures) _ c.join_columns-t.ensures).few
 
 pub returns : goal.returns
 returns c =
     let a = c.args in
-    c.accept.ensures ∙ joins a.first a.second a.cell a.room _ c.ready-r.ensures c.if-r-ne0.false _ c.join_columns-t.ensures _ (c.tree_refusal-s.ensures _ _) c.if-s-ne0.false
+    joins a.first.now a.second.now a.cell a.room _ c.in_ok-ready.ensures _ c.join_columns-t.ensures _ c.in_ok-tree_refusal.ensures _ c.accept.ensures

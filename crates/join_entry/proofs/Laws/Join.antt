@@ -1,45 +1,49 @@
 -- From the columns of two lent tables to their records: what Join writes and answers. Nothing that a reader must believe stands here. Assumes nothing.
-use Rattle.std.specs.Prelude.{◌≡◌, List, map, ◌++◌, ℕ, ◌+◌, ◌≤◌, ◌<◌}
+use Rattle.std.specs.Prelude.{◌≡◌, List, Result, Ok, Err, IsErrAnd, map, ◌++◌, ℕ, ◌+◌, ◌≤◌, ◌<◌}
 use Rattle.std.proofs.Math.Path.{refl, sym, ap}
-use Rattle.std.proofs.Common.{◌∙◌, zero-le, arith, zero-add, eq-eqb, ne_eqb, ext_get_or}
+use Rattle.std.proofs.Common.{◌∙◌, arith, zero-add, ext_get_or}
 use Rattle.std.proofs.Math.Decide.{ℕ_discrete}
 use Rattle.std.proofs.Math.ListN.{length, drop}
 use Rattle.plan.specs.Limits.{most_cells}
 use Rattle.plan.specs.Lists.{from}
 use Rattle.plan.specs.Columns.{table_of}
 use Rattle.plan.proofs.Laws.Columns.{length_from, get_or_from}
+use Rattle.plan.proofs.Laws.Answered.{answered_none, answered_some}
 use Rattle.plan.specs.Records.{cells_of}
 use Rattle.plan.specs.declared.Record.{Record}
 use Rattle.plan.specs.declared.Lettered.{Lettered}
 use Rattle.plan.specs.declared.Refusal.{Refusal}
-use Rattle.planfile_spec.specs.Reading.{columns_of}
 use Rattle.records.specs.Apart.{no_record, lent_at, columns, lettering, lent_columns, lent_lettered, records_in}
 use Rattle.records.proofs.Laws.Apart.{of-records, apart_records}
-use Rattle.records.specs.Together.{record_in, filled}
-use Rattle.records.proofs.Laws.Together.{filled_none, filled-all}
+use Rattle.records.specs.Together.{record_in, as_reading, filled}
+use Rattle.records.proofs.Laws.Together.{filled-all}
 use Rattle.graft.specs.Joined.{joined_records}
 use Rattle.graft.specs.Sequence.{join_refusal}
 use Rattle.graft.proofs.Laws.Crowded.{first-crowded, second-crowded}
-use Rattle.grafting.specs.Grafted.{grafted, refused, accepted, graft_of}
+use Rattle.grafting.specs.Grafted.{grafted, accepted, graft_of}
 use Rattle.grafting.proofs.Laws.Joins.{records-length}
 use Rattle.grafting.proofs.Laws.Made.{lettered, stop, graft_accepted, graft_refused, count-joined, made, made-count, made-records, row_in}
-use Rattle.grafting.specs.declared.Graft.{Graft}
-use Rattle.grafting.specs.declared.JoinAnswer.{JoinAnswer}
-use Rattle.grafting.specs.declared.JoinAnswer.TheVariants.{Plan, Refused}
 use Rattle.grafting.specs.Joins.{join_answered, table_after, Joins}
-use Rattle.join_entry.specs.Hung.{Hangs}
+use Rattle.join_entry.specs.Hung.{count_of, table_after_it, Hangs}
 
 -- ---- for the code: what is written fits
 module _ (room : ℕ) (a b : Lettered) (c : ℕ) where
-  pub hang-fits : (g : Graft) → g ≡ graft_of room a b c → (g.reading.columns.count ≤ room) × (g.reading.columns.count ≤ most_cells)
-  hang-fits g e = rw e (go (ℕ_discrete (stop room a b c).number 0))
+  pub hang-fits : (l : Lettered) → Ok l ≡ graft_of room a b c → (l.columns.count ≤ room) × (l.columns.count ≤ most_cells)
+  hang-fits l e = go (ℕ_discrete (stop room a b c).number 0)
     where
-      go : Dec ((stop room a b c).number ≡ 0) → ((graft_of room a b c).reading.columns.count ≤ room) × ((graft_of room a b c).reading.columns.count ≤ most_cells)
-      go (yes z) = rw (graft_accepted room a b c z) (unfold accepted grafted in let (x, y, s) = count-joined room a b c z in (x, y))
-      go (no z) = rw (graft_refused room a b c z) (unfold refused columns_of in (zero-le, zero-le))
+      go : Dec ((stop room a b c).number ≡ 0) → (l.columns.count ≤ room) × (l.columns.count ≤ most_cells)
+      go (yes z) =
+          let q : l ≡ accepted a b (grafted a.columns b.columns c) = cc (e ∙ graft_accepted room a b c z) in
+          rw q (unfold accepted grafted in let (x, y, s) = count-joined room a b c z in (x, y))
+      go (no z) = cc (e ∙ graft_refused room a b c z)
 
-pub hang-is : (a b : Lettered) (c : ℕ) (o o' : List Record) (g : Graft) → g ≡ graft_of (length o) a b c → o' ≡ filled g.reading g.reading.columns.count o → Hangs a b c o o' g.answer
-hang-is a b c o o' g e h = record { answers = ap (λ (x : Graft). x.answer) e; table = h ∙ ap (λ (x : Graft). filled x.reading x.reading.columns.count o) e }
+module _ (a b : Lettered) (c : ℕ) (o o' : List Record) where
+  pub hang-is : (l : Lettered) → Ok l ≡ graft_of (length o) a b c → o' ≡ filled (as_reading l) l.columns.count o → Hangs a b c o o' (Ok l.columns.count)
+  hang-is l e h = record { answers = ap count_of e; table = h ∙ ap (λ (x : Result Lettered Refusal). table_after_it x o) e }
+
+  pub hang-refused : (r : Refusal) (y : Result ℕ Refusal) → Err r ≡ graft_of (length o) a b c → IsErrAnd y (λ d. d ≡ r) → o' ≡ o → Hangs a b c o o' y
+  hang-refused r (Ok n) e p h = absurd p
+  hang-refused r (Err d) e p h = record { answers = ap Err p ∙ ap count_of e; table = h ∙ ap (λ (x : Result Lettered Refusal). table_after_it x o) e }
 
 count-is : (t : List Record) → (lent_lettered t).columns.count ≡ length t
 unfolding lettering columns
@@ -99,7 +103,7 @@ module _ (t u : List Record) (c : ℕ) (o : List Record) where
         ∙ ap (λ (x : List Record). x ++ drop (length t + length u) o) (rw (records-length t u c) at (all_of (joined_records t u c)))
 
   -- THE law: what holds of the columns holds of the records
-  lent : (o' : List Record) (r : JoinAnswer) → Hangs A B c o o' r → Joins t u c o o' r
+  lent : (o' : List Record) (r : Result ℕ Refusal) → Hangs A B c o o' r → Joins t u c o o' r
   unfolding join_answered table_after
   lent o' r h = go (ℕ_discrete (stop (length o) A B c).number 0)
     where
@@ -107,11 +111,11 @@ module _ (t u : List Record) (c : ℕ) (o : List Record) where
       go (yes z) =
           let e = graft_accepted (length o) A B c z in
           let y : why.number ≡ 0 = ap (λ (x : Refusal). x.number) (sym same-refusal) ∙ z in
-          let p : r ≡ Plan (length t + length u) = h.answers ∙ ap (λ (x : Graft). x.answer) e ∙ plan-answer in
-          let q : o' ≡ joined_records t u c ++ drop (length t + length u) o = h.table ∙ ap (λ (x : Graft). filled x.reading x.reading.columns.count o) e ∙ plan-table ∙ all-written z in
-          record { answers = p ∙ rw (eq-eqb why.number 0 y); table = rw p q }
+          let p : r ≡ Ok (length t + length u) = h.answers ∙ ap count_of e ∙ plan-answer in
+          let q : o' ≡ joined_records t u c ++ drop (length t + length u) o = h.table ∙ ap (λ (x : Result Lettered Refusal). table_after_it x o) e ∙ plan-table ∙ all-written z in
+          record { answers = p ∙ sym (answered_none why _ y); table = rw p q }
         where
-          plan-answer : (accepted A B (grafted A.columns B.columns c)).answer ≡ Plan (length t + length u)
+          plan-answer : ◌≡◌ {A = Result ℕ Refusal} (Ok (accepted A B (grafted A.columns B.columns c)).columns.count) (Ok (length t + length u))
           plan-answer = unfold accepted grafted lettering columns in refl
 
           plan-table : filled (made A B c (few_all z)) (made A B c (few_all z)).columns.count o ≡ filled (made A B c (few_all z)) (length t + length u) o
@@ -119,13 +123,10 @@ module _ (t u : List Record) (c : ℕ) (o : List Record) where
       go (no z) =
           let e = graft_refused (length o) A B c z in
           let y : ¬ (why.number ≡ 0) = λ k. z (ap (λ (x : Refusal). x.number) same-refusal ∙ k) in
-          let p : r ≡ Refused why.number why.cell = h.answers ∙ ap (λ (x : Graft). x.answer) e ∙ unfold refused in ap (λ (x : Refusal). Refused x.number x.cell) same-refusal in
-          let q : o' ≡ o = h.table ∙ ap (λ (x : Graft). filled x.reading x.reading.columns.count o) e ∙ nothing in
-          record { answers = p ∙ rw (ne_eqb why.number 0 y); table = rw p q }
-        where
-          nothing : filled (refused (stop (length o) A B c)).reading (refused (stop (length o) A B c)).reading.columns.count o ≡ o
-          nothing = unfold refused columns_of in sym (filled_none _ o)
+          let p : r ≡ Err why = h.answers ∙ ap count_of e ∙ ap Err same-refusal in
+          let q : o' ≡ o = h.table ∙ ap (λ (x : Result Lettered Refusal). table_after_it x o) e in
+          record { answers = p ∙ sym (answered_some why _ y); table = rw p q }
 
 -- for the code
-pub join-lent : (t u : List Record) (a b : Lettered) → a ≡ lent_lettered t → b ≡ lent_lettered u → (c : ℕ) (o o' : List Record) (r : JoinAnswer) → Hangs a b c o o' r → Joins t u c o o' r
+pub join-lent : (t u : List Record) (a b : Lettered) → a ≡ lent_lettered t → b ≡ lent_lettered u → (c : ℕ) (o o' : List Record) (r : Result ℕ Refusal) → Hangs a b c o o' r → Joins t u c o o' r
 join-lent t u a b p q c o o' r h = lent t u c o o' r (rw (p, q) at h)

@@ -1,5 +1,6 @@
 use mathlib.Core.Path.{refl}
-use Rattle.join_file.proofs.Laws.Steps.{read-ended, letters_few, read_shiftable, graft_is, hang-refused, hang-written}
+use Rattle.planfile_spec.specs.Read.{reading}
+use Rattle.join_file.proofs.Laws.Steps.{read-ended, letters_few, read_shiftable, joint_is, hang-refused, hang-written}
 use Rattle.join_file.proofs.hang.Goals as goal
 
 pub letters-top-requires : goal.letters-top-requires
@@ -8,12 +9,15 @@ letters-top-requires c = read-ended _ _ c.requires.0
 pub letters-below-requires : goal.letters-below-requires
 letters-below-requires c = read-ended _ _ c.requires.1
 
-pub shift-requires : goal.shift-requires
-shift-requires c = read_shiftable _ _ c.requires.1 _ (rw c.letters-top.ensures (letters_few _ _ c.requires.0))
+pub shift-moved-requires : goal.shift-moved-requires
+shift-moved-requires c = read_shiftable _ _ c.requires.1 _ (rw c.letters-top.ensures (letters_few _ _ c.requires.0))
 
-pub returns-then-refusal-ne0 : goal.returns-then-refusal-ne0
-returns-then-refusal-ne0 c =
-    hang-refused c.args.a c.args.first.now c.args.cell c.args.b c.args.second.now c.requires.0 c.requires.1 _ (graft_is c.args.a c.args.b c.args.first.now _ _ _ _ _ c.take_apart.ensures c.letters-top.ensures c.shift.ensures c.join-graft.ensures) _ c.requires.2 c.if-refusal-ne0.true
+pub returns-in_err-joined : goal.returns-in_err-joined
+returns-in_err-joined c =
+    let a = reading c.args.a.now in
+    let b = reading c.args.b.now in
+    let s = c.requires in
+    hang-refused a c.args.first.now c.args.cell b c.args.second.now s.0 s.1 _ s.2 _ _ (joint_is a c.args.first.now c.args.cell b c.args.second.now s.0 s.1 _ _ _ c.letters-top.ensures c.shift-moved.ensures c.in_err-joined.ensures) c.from_residual.ensures.1
 
 pub write-requires : goal.write-requires
 write-requires c =
@@ -22,4 +26,7 @@ write-requires c =
 
 pub returns : goal.returns
 returns c =
-    hang-written c.args.a c.args.first.now c.args.cell c.args.b c.args.second.now c.requires.0 c.requires.1 _ (graft_is c.args.a c.args.b c.args.first.now _ _ _ _ _ c.take_apart.ensures c.letters-top.ensures c.shift.ensures c.join-graft.ensures) c.if-refusal-ne0.false _ _ _ _ _ c.requires.2 refl (rw (c.letters-top.ensures, c.letters-below.ensures)) c.write.ensures
+    let a = reading c.args.a.now in
+    let b = reading c.args.b.now in
+    let s = c.requires in
+    hang-written a c.args.first.now c.args.cell b c.args.second.now s.0 s.1 _ (joint_is a c.args.first.now c.args.cell b c.args.second.now s.0 s.1 _ _ _ c.letters-top.ensures c.shift-moved.ensures c.in_ok-joined.ensures) _ _ _ _ _ s.2 refl (rw (c.letters-top.ensures, c.letters-below.ensures)) c.write.ensures

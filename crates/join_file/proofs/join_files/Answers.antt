@@ -1,17 +1,19 @@
-use Rattle.join_file.proofs.Laws.Steps.{zero_read, short_output, first-refused, second-refused}
+use mathlib.Core.Path.{refl}
+use native.Mathlib.Omega.{arith}
+use Rattle.join_file.proofs.Laws.Steps.{zero_read, reads, room_of, short_output, first-refused, second-refused}
 use Rattle.join_file.proofs.join_files.Goals as goal
 
-pub returns-then-out-lt-MOST_FILE : goal.returns-then-out-lt-MOST_FILE
-returns-then-out-lt-MOST_FILE c = short_output _ _ _ _ c.if-out-lt-MOST_FILE.true
+pub returns-in_err-asked : goal.returns-in_err-asked
+returns-in_err-asked c = short_output _ _ _ _ _ _ (c.in_err-asked.ensures.numbered (omega arith)) c.from_residual.ensures.1
 
-pub returns-then-at_first-ne0 : goal.returns-then-at_first-ne0
-returns-then-at_first-ne0 c = first-refused _ _ _ _ c.if-out-lt-MOST_FILE.false _ c.read-a.ensures c.if-at_first-ne0.true
+pub returns-in-Err : goal.returns-in-Err
+returns-in-Err c = first-refused _ _ _ _ (room_of _ _ (c.in_ok-asked.ensures.numbered (omega arith))) _ _ c.in-Err.ensures refl
 
-pub returns-then-at_second-ne0 : goal.returns-then-at_second-ne0
-returns-then-at_second-ne0 c = second-refused _ _ _ _ c.if-out-lt-MOST_FILE.false (zero_read _ _ (record { is = c.read-a.ensures; passes = c.if-at_first-ne0.false })) _ c.read-b.ensures c.if-at_second-ne0.true
+pub returns-in-Err-read : goal.returns-in-Err-read
+returns-in-Err-read c = second-refused _ _ _ _ (room_of _ _ (c.in_ok-asked.ensures.numbered (omega arith))) (zero_read _ _ (reads _ _ c.in-Ok.ensures)) _ _ c.in-Err-read.ensures refl
 
 pub hang-requires : goal.hang-requires
-hang-requires c = (record { is = c.read-a.ensures; passes = c.if-at_first-ne0.false }, record { is = c.read-b.ensures; passes = c.if-at_second-ne0.false }, c.if-out-lt-MOST_FILE.false)
+hang-requires c = (reads _ _ c.in-Ok.ensures, reads _ _ c.in-Ok-read.ensures, room_of _ _ (c.in_ok-asked.ensures.numbered (omega arith)))
 
 pub returns : goal.returns
 returns c = c.hang.ensures

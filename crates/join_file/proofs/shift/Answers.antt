@@ -1,8 +1,9 @@
+use Rattle.planfile_spec.specs.Read.{reading}
 use Rattle.join_file.proofs.Laws.Steps.{shift_is}
 use Rattle.join_file.proofs.shift.Goals as goal
 
-pub moved_starts-label_start-requires : goal.moved_starts-label_start-requires
-moved_starts-label_start-requires c = c.requires
+pub moved_starts-requires : goal.moved_starts-requires
+moved_starts-requires c = c.requires
 
 pub returns : goal.returns
-returns c = shift_is _ c.args.plan _ c.moved_starts-label_start.ensures
+returns c = shift_is _ (reading c.args.plan.now) _ c.moved_starts.ensures

@@ -1,11 +1,9 @@
 -- From the questions to the answer: for the code of Layout. Nothing that a reader must believe stands here. Assumes nothing.
-use Rattle.std.specs.Prelude.{◌≡◌, List, ◌++◌, ℕ, ◌+◌, ◌*◌, length, drop, replicate, ℤ, Bool, true, false, T, leb}
+use Rattle.std.specs.Prelude.{◌≡◌, List, ◌++◌, ℕ, ◌+◌, ◌*◌, length, drop, replicate, ℤ, Bool, true, false, T, leb, Result, Ok, Err, IsErrAnd, ⊤}
 use Rattle.std.proofs.Math.Path.{refl, ap}
 use Rattle.std.proofs.Common.{sym, ◌∙◌, arith}
-use Rattle.std.proofs.Math.Decide.{ℕ_discrete}
 use Rattle.std.proofs.lemmas.List.{length-replicate}
 use Rattle.std.proofs.Math.IntN.{pos}
-use borrow.Author.Tests.{eq-eqb, ne_eqb}
 use Rattle.whole.specs.Whole.{plus}
 use Rattle.plan.specs.Limits.{scratch_size, most_allowance, most_cells}
 use Rattle.plan.specs.Plan.{Table, Is, row, dictated_bottom}
@@ -14,7 +12,8 @@ use Rattle.plan.proofs.Laws.Columns.{table-length, parent-at, depth_at}
 use Rattle.plan.specs.declared.Columns.{Columns}
 use Rattle.plan.specs.Trees.{Lower, Flat, Column}
 use Rattle.plan.specs.Fit.{Fit}
-use Rattle.plan.specs.Questions.{layout, refusal, layout_given, none, asked, or_else}
+use Rattle.plan.specs.Questions.{layout, refusal, layout_given, none, asked, or_else, answered, passed}
+use Rattle.plan.proofs.Laws.Answered.{refused_by, not_refused, answered_none, answered_some, answers_err, answers_ok, passes}
 use Rattle.plan.proofs.Laws.Questions.{first-none, both-none, asked_yes}
 use Rattle.plan.specs.Steps.{lent_refusal}
 use Rattle.plan.proofs.Laws.Calls.{layout-refusal}
@@ -29,8 +28,7 @@ use Rattle.links.proofs.Laws.Linked.{zeros_get}
 use Rattle.marks.specs.Marks.{Markable}
 use Rattle.positions.specs.Written.{written}
 use Rattle.positions.specs.Raised.{Raised, High, Topped}
-use Rattle.layout.specs.declared.Measures.{Measures}
-use Rattle.layout.specs.declared.Laid.TheVariants.{Sheet, Refused}
+use Rattle.plan.specs.declared.Measures.{Measures}
 use Rattle.layout.specs.Laid.{laid_of, positions_after, scratch_after, Lays, Drawn}
 
 -- ---- the columns of a table that no question refuses
@@ -99,37 +97,43 @@ nothing t al s p h =
     let (b, c) = both-none (lent_refusal t p) last r in
     e ∙ first-none first _ a ∙ first-none (lent_refusal t p) last b ∙ asked-none 14 _ 0 (asked_yes 13 _ 0 c)
 
--- ---- the entry: the refusal r of the questions, then the drawing
-module _ (t : Table) (al : ℕ) (s : List ℕ) (ps : List ℤ) (r : Refusal) (e : r ≡ refusal layout (layout_given t al (length s) (length ps))) where
-  pub refused : ¬ (r.number ≡ 0) → Lays t al s s ps ps (Refused r.number r.cell)
+-- ---- the entry: the questions, whose refusal is r, then the drawing
+module _ (t : Table) (al : ℕ) (s : List ℕ) (ps : List ℤ) where
+  abbrev pub why : Refusal
+  why = refusal layout (layout_given t al (length s) (length ps))
+
+  pub refused : (e : Refusal) (y : Result Measures Refusal) → Err e ≡ passed why → IsErrAnd y (λ d. d ≡ e) → Lays t al s s ps ps y
   unfolding laid_of positions_after scratch_after
-  refused h = record { answers = rw (← e, ne_eqb r.number 0 h); positions = refl; scratch = refl }
+  refused e y h p =
+      let q = refused_by why tt e h in
+      let g : y ≡ answered why _ = answers_err _ why e y h p in
+      let f : y ≡ Err why = g ∙ answered_some why _ q.1 in
+      record { answers = g; positions = rw f; scratch = rw f }
 
-  module _ (h : r.number ≡ 0) where
+  module _ (u : ⊤) (h : Ok u ≡ passed why) where
     pub asks : LayoutAsked t al (length s) (length ps)
-    asks = (layout-asks t al (length s) (length ps)).0 (nothing t al (length s) (length ps) (ap (λ (x : Refusal). x.number) (sym e) ∙ h))
+    asks = (layout-asks t al (length s) (length ps)).0 (nothing t al (length s) (length ps) (passes why u h))
 
-    pub laid : (s' : List ℕ) (ps' : List ℤ) (a : Measures) → Drawn t al s' ps ps' a → Lays t al s (s' ++ drop scratch_size s) ps ps' (Sheet a.width a.rows)
+    pub laid : (s' : List ℕ) (ps' : List ℤ) (a : Measures) → Drawn t al s' ps ps' a → Lays t al s (s' ++ drop scratch_size s) ps ps' (Ok a)
     unfolding laid_of positions_after scratch_after
     laid s' ps' a d = record {
-      answers = ap (λ (m : Measures). Sheet m.width m.rows) d.answers ∙ rw (← e, eq-eqb r.number 0 h);
+      answers = ap Ok d.answers ∙ answers_ok why u h _;
       positions = d.positions;
       scratch = rw d.scratch;
     }
 
 -- ---- an answer that is a sheet: nothing was refused, and its numbers are our sheet's
-accepted : (t : Table) (al w h : ℕ) (r : Refusal) → Sheet w h ≡ laid_of t al r
-    → (r.number ≡ 0) × (Sheet w h ≡ Sheet (plus (width t (sheet t al))) (plus (placement.rows t (sheet t al))))
+accepted : (t : Table) (al : ℕ) (m : Measures) (r : Refusal) → Ok m ≡ laid_of t al r
+    → (r.number ≡ 0) × (m ≡ record { width = plus (width t (sheet t al)); rows = plus (placement.rows t (sheet t al)) })
 unfolding laid_of
-accepted t al w h r e = go (ℕ_discrete r.number 0)
-  where
-    go : Dec (r.number ≡ 0) → (r.number ≡ 0) × (Sheet w h ≡ Sheet (plus (width t (sheet t al))) (plus (placement.rows t (sheet t al))))
-    go (yes z) = (z, rw (eq-eqb r.number 0 z) at e)
-    go (no z) = let f = rw (ne_eqb r.number 0 z) at e in let n : ◌≡◌ {A = ℕ} 0 1 = cc in absurd (omega arith)
+accepted t al m r e =
+    let z = not_refused r _ m e in
+    let f = e ∙ answered_none r _ z in
+    (z, cc)
 
-module _ (t : Table) (al : ℕ) (s s' : List ℕ) (ps ps' : List ℤ) (w h : ℕ) (l : Lays t al s s' ps ps' (Sheet w h)) where
+module _ (t : Table) (al : ℕ) (s s' : List ℕ) (ps ps' : List ℤ) (m : Measures) (l : Lays t al s s' ps ps' (Ok m)) where
   pub unrefused : refusal layout (layout_given t al (length s) (length ps)) ≡ none
-  unrefused = nothing t al (length s) (length ps) (accepted t al w h _ l.answers).0
+  unrefused = nothing t al (length s) (length ps) (accepted t al m _ l.answers).0
 
   pub sheet-asks : LayoutAsked t al (length s) (length ps)
   sheet-asks = (layout-asks t al (length s) (length ps)).0 unrefused
@@ -137,16 +141,14 @@ module _ (t : Table) (al : ℕ) (s s' : List ℕ) (ps ps' : List ℤ) (w h : ℕ
   fits : Fit t
   fits = sheet-asks.table.fit
 
-  pub sheet-wide : pos w ≡ width t (sheet t al)
+  pub sheet-wide : pos m.width ≡ width t (sheet t al)
   sheet-wide =
-      let (z, e) = accepted t al w h _ l.answers in
-      let f : w ≡ plus (width t (sheet t al)) = cc in
+      let f = (accepted t al m _ l.answers).1 in
       let g = sheet-width t fits.sound al fits.some_cell in
-      ap pos (f ∙ ap plus g) ∙ sym g
+      ap (λ (x : Measures). pos x.width) f ∙ ap (λ (z : ℤ). pos (plus z)) g ∙ sym g
 
-  pub sheet-deep : pos h ≡ placement.rows t (sheet t al)
+  pub sheet-deep : pos m.rows ≡ placement.rows t (sheet t al)
   sheet-deep =
-      let (z, e) = accepted t al w h _ l.answers in
-      let f : h ≡ plus (placement.rows t (sheet t al)) = cc in
+      let f = (accepted t al m _ l.answers).1 in
       let g = sheet_rows t fits.sound al fits.some_cell in
-      ap pos (f ∙ ap plus g) ∙ sym g
+      ap (λ (x : Measures). pos x.rows) f ∙ ap (λ (z : ℤ). pos (plus z)) g ∙ sym g

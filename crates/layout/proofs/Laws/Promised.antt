@@ -1,7 +1,8 @@
 -- DEMAND 3, of what Layout writes. Assumes nothing.
-use Rattle.std.specs.Prelude.{◌≡◌, List, ℕ, length, ℤ, pos}
+use Rattle.std.specs.Prelude.{◌≡◌, List, ℕ, length, ℤ, pos, Ok}
 use Rattle.std.proofs.Common.{sym, ◌∙◌}
 use Rattle.plan.specs.Plan.{Table}
+use Rattle.plan.specs.declared.Measures.{Measures}
 use Rattle.plan.specs.Fit.{Fit}
 use Rattle.plan.proofs.Laws.Siblings.{next-is}
 use Rattle.plan.specs.Questions.{check, none, refusal, check_given}
@@ -15,7 +16,6 @@ use Rattle.least.specs.NoLess.{NoLess}
 use Rattle.least.proofs.Theorems.{sheet-least, sheet-accepted}
 use Rattle.positions.specs.Written.{written}
 use Rattle.positions.proofs.Laws.Written.{written_agree, written-length}
-use Rattle.layout.specs.declared.Laid.TheVariants.{Sheet}
 use Rattle.layout.specs.Laid.{positions_after, Lays}
 use Rattle.layout.proofs.Laws.Laid.{unrefused, sheet-asks, sheet-wide, sheet-deep}
 
@@ -34,19 +34,19 @@ pub record Promise (t : Table) (al : ℕ) (ps : List ℤ) (w h : ℕ) : Type 0 w
   pub accepted : answer t (placed ps) al ≡ fine (pos w) (pos h)
 
 -- where Layout answers with a sheet
-module _ (t : Table) (al : ℕ) (s s' : List ℕ) (ps ps' : List ℤ) (w h : ℕ) (l : Lays t al s s' ps ps' (Sheet w h)) where
+module _ (t : Table) (al : ℕ) (s s' : List ℕ) (ps ps' : List ℤ) (m : Measures) (l : Lays t al s s' ps ps' (Ok m)) where
   ours : ps' ≡ written ps (sheet t al) (length t)
   unfolding positions_after
   ours = l.positions
 
-  pub promised : Promise t al ps' w h
+  pub promised : Promise t al ps' m.width m.rows
   promised =
-      let a = sheet-asks t al s s' ps ps' w h l in
+      let a = sheet-asks t al s s' ps ps' m l in
       let f = a.table.fit in
-      let z = unrefused t al s s' ps ps' w h l in
+      let z = unrefused t al s s' ps ps' m l in
       let same : Agree t (placed ps') (sheet t al) = rw ours (written_agree (sheet t al) t ps) in
-      let e = sheet-wide t al s s' ps ps' w h l in
-      let d = sheet-deep t al s s' ps ps' w h l in
+      let e = sheet-wide t al s s' ps ps' m l in
+      let d = sheet-deep t al s s' ps ps' m l in
       let long : length ps ≡ length ps' = sym (rw ours (written-length (sheet t al) ps (length t) a.positions)) in
       let (none, kept) = sheet-accepted t al (length s) ps' (rw long at z) same in
       let fair = rw (← e, ← d) at kept in

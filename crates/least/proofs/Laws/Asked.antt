@@ -11,8 +11,9 @@ use Rattle.plan.specs.Kinds.{about, known, allows}
 use Rattle.plan.proofs.Laws.Steps.{lower-read}
 use Rattle.plan.specs.Questions as asked
 use Rattle.plan.specs.Questions.{scratch, lent, Given, cells_counted, parent_lower, kind_known, box_sized, children_allowed, level_low, rows_few, coordinates_near, layout, check, number, puts, put, with_each, kept, sequence, roomy, all_roomy, enough, in_file, lower, sized, near, none, refusal, layout_given, check_given}
-use Rattle.plan.specs.declared.kinds.Lookup.{Lookup}
-use Rattle.plan.specs.declared.kinds.Lookup.TheVariants.{Known, Unknown}
+use Rattle.std.specs.Prelude.{Option}
+use Rattle.plan.specs.declared.kinds.Kind.{Kind}
+use Rattle.std.specs.Prelude.{Some, None}
 use Rattle.rules.specs.Placement.{Inside}
 use Rattle.least.specs.Refusals.{Yes, YesSteps}
 use Rattle.least.proofs.Laws.Refusals.{refusal-none}
@@ -31,9 +32,9 @@ allows-known : (k n : ℕ) → T (allows k n) → T (known k)
 unfolding allows known
 allows-known k n h = go (about k) h
   where
-    go : (l : Lookup) → T (elim l as (λ _. Bool) [ Known r ↦ between r.fewest r.most n | Unknown ↦ false ]) → T (elim l as (λ _. Bool) [ Known r ↦ true | Unknown ↦ false ])
-    go (Known r) h = tt
-    go Unknown h = h
+    go : (l : Option Kind) → T (elim l as (λ _. Bool) [ Some r ↦ between r.fewest r.most n | None ↦ false ]) → T (elim l as (λ _. Bool) [ Some r ↦ true | None ↦ false ])
+    go (Some r) h = tt
+    go None h = h
 
 lower_show : (t : Table) → Asked t → (c : ℕ) → Is t c → T (lower c (parent t c))
 unfolding lower

@@ -1,5 +1,5 @@
 use native.Mathlib.Omega.{arith}
-use Prim.Native.Nat.{◌-◌, ◌*◌}
+use Prim.Native.Nat.{◌-◌}
 use mathlib.Core.Path.{◌≡◌, refl}
 use lib.ListN.{length-set}
 use Rattle.links.specs.Build.{chained}
@@ -10,71 +10,50 @@ use Rattle.links.proofs.chain_siblings.Goals as goal
 pub loop-c-init : goal.loop-c-init
 unfolding chained
 loop-c-init c =
-    let a = c.args in
-    let e : a.n - a.n ≡ 0 = omega arith in
-    (c.requires.some, omega arith, refl, rw e)
-
-pub overflow_mul-parent : goal.overflow_mul-parent
-overflow_mul-parent c =
-    let a = c.args in
-    let l = c.loop-c in
-    omega (arith, c.parent.ensures, c.requires.before (l.c - 1) (omega (arith, c.loop-c-test.true)) (omega (arith, c.loop-c-test.true)), c.requires.few, c.requires.room)
-
-pub rank-requires : goal.rank-requires
-rank-requires c =
-    let a = c.args in
-    let l = c.loop-c in
-    omega (arith, c.requires.ranks, c.requires.few, l.invariant.1)
+    let t = c.args.t.now in
+    let e : t.count - t.count ≡ 0 = omega arith in
+    (c.requires.some, rw e)
 
 pub slot-at-requires : goal.slot-at-requires
 slot-at-requires c =
-    let a = c.args in
+    let t = c.args.t.now in
     let l = c.loop-c in
-    seeking a.parents.now a.ranks.now a.n a.links.now c.requires l.c c.loop-c-test.true l.invariant.1 l.invariant.3 c.parent.ensures
+    seeking t.parent t.rank t.count c.args.links.now c.requires l.c c.loop-c-test.true (omega arith) l.invariant.1 c.from-first.ensures
 
 pub offset_bounds-links-at : goal.offset_bounds-links-at
 offset_bounds-links-at c =
-    let a = c.args in
+    let t = c.args.t.now in
     let l = c.loop-c in
-    let d = l.invariant.2 in
-    let i = slot_inside a.ranks.now l.links (4 * c.parent.result) c.rank.result (seeking a.parents.now a.ranks.now a.n a.links.now c.requires l.c c.loop-c-test.true l.invariant.1 l.invariant.3 c.parent.ensures) c.slot-at.ensures in
-    omega arith
-
-pub bounds-links-at : goal.bounds-links-at
-bounds-links-at c =
-    let a = c.args in
-    let l = c.loop-c in
-    slot_inside a.ranks.now l.links (4 * c.parent.result) c.rank.result (seeking a.parents.now a.ranks.now a.n a.links.now c.requires l.c c.loop-c-test.true l.invariant.1 l.invariant.3 c.parent.ensures) c.slot-at.ensures
+    let i = slot_inside t.rank l.links _ _ (seeking t.parent t.rank t.count c.args.links.now c.requires l.c c.loop-c-test.true (omega arith) l.invariant.1 c.from-first.ensures) c.slot-at.ensures in
+    omega (arith, l.auto.links)
 
 pub offset_bounds-links-at-in-loop-c : goal.offset_bounds-links-at-in-loop-c
 offset_bounds-links-at-in-loop-c c =
-    let a = c.args in
+    let t = c.args.t.now in
     let l = c.loop-c in
-    let d = l.invariant.2 in
-    let i = slot_inside a.ranks.now l.links (4 * c.parent.result) c.rank.result (seeking a.parents.now a.ranks.now a.n a.links.now c.requires l.c c.loop-c-test.true l.invariant.1 l.invariant.3 c.parent.ensures) c.slot-at.ensures in
-    omega arith
+    let i = slot_inside t.rank l.links _ _ (seeking t.parent t.rank t.count c.args.links.now c.requires l.c c.loop-c-test.true (omega arith) l.invariant.1 c.from-first.ensures) c.slot-at.ensures in
+    omega (arith, l.auto.links)
+
+pub bounds-links-at : goal.bounds-links-at
+bounds-links-at c =
+    let t = c.args.t.now in
+    let l = c.loop-c in
+    slot_inside t.rank l.links _ _ (seeking t.parent t.rank t.count c.args.links.now c.requires l.c c.loop-c-test.true (omega arith) l.invariant.1 c.from-first.ensures) c.slot-at.ensures
 
 pub bounds-links-at-in-loop-c : goal.bounds-links-at-in-loop-c
 bounds-links-at-in-loop-c c =
-    let a = c.args in
+    let t = c.args.t.now in
     let l = c.loop-c in
-    simp length-set (slot_inside a.ranks.now l.links (4 * c.parent.result) c.rank.result (seeking a.parents.now a.ranks.now a.n a.links.now c.requires l.c c.loop-c-test.true l.invariant.1 l.invariant.3 c.parent.ensures) c.slot-at.ensures)
+    simp length-set (slot_inside t.rank l.links _ _ (seeking t.parent t.rank t.count c.args.links.now c.requires l.c c.loop-c-test.true (omega arith) l.invariant.1 c.from-first.ensures) c.slot-at.ensures)
 
 pub loop-c-preserved : goal.loop-c-preserved
 loop-c-preserved c =
-    let a = c.args in
+    let t = c.args.t.now in
     let l = c.loop-c in
-    (omega arith, omega arith, simp length-set l.invariant.2, chain_more a.parents.now a.ranks.now a.links.now a.n l.c c.loop-c-test.true l.invariant.1 l.invariant.3 c.parent.ensures c.rank.ensures c.slot-at.ensures)
-
-pub shape_of-links : goal.shape_of-links
-shape_of-links c =
-    let a = c.args in
-    let l = c.loop-c in
-    l.invariant.2
+    (omega arith, chain_more t.parent t.rank c.args.links.now t.count l.c c.loop-c-test.true (omega arith) l.invariant.1 c.from-first.ensures refl c.slot-at.ensures)
 
 pub returns : goal.returns
 returns c =
-    let a = c.args in
     let l = c.loop-c in
     let e : l.c ≡ 1 = omega arith in
-    rw e at l.invariant.3
+    rw e at l.invariant.1

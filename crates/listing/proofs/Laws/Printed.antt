@@ -51,6 +51,13 @@ nine {n} l h = at_most 8 (n / 10) (omega arith)
 pub ten : {n : ℕ} → n < 2 ^ 32 → length (decimal n) ≤ 10
 ten {n} h = at_most 9 n (omega arith)
 
+-- the same of 64 bits
+pub nineteen : {n : ℕ} → 10 ≤ n → n < 2 ^ 64 → length (decimal (n / 10)) ≤ 19
+nineteen {n} l h = at_most 18 (n / 10) (omega arith)
+
+pub twenty : {n : ℕ} → n < 2 ^ 64 → length (decimal n) ≤ 20
+twenty {n} h = at_most 19 n (omega arith)
+
 -- ---- read back
 -- the number that digits say, after those that say a
 value_after : ℕ → Bytes → ℕ

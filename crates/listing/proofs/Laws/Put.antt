@@ -1,8 +1,9 @@
 -- Texts written one after the other. Assumes nothing.
 use Rattle.std.specs.Prelude.{◌≡◌, refl, List, [], ◌∷◌, ◌++◌, ℕ, zero, suc, ◌+◌, ◌-◌, ◌/◌, ◌%◌, ◌≤◌, ◌<◌, length, take, drop, get_or, set, replicate}
-use Rattle.std.proofs.Common.{sym, ap, ◌∙◌, add-one, arith, length-append, take-suc, take_all}
+use Rattle.std.proofs.Common.{sym, ap, ◌∙◌, add-one, arith, length-append, take-suc, take_all, drop-drop, append_assoc}
 use Rattle.std.proofs.lemmas.List.{length-replicate}
 use Rattle.std.proofs.lemmas.List.Edits.{sets, sets-eq}
+use borrow.Rule.Slice.PartMut.{put_mid}
 use Rattle.listing.specs.Printed.{Bytes, decimal}
 use Rattle.listing.proofs.Laws.Printed.{decimal-one, decimal-more}
 use Rattle.listing.specs.Put.{Put}
@@ -42,6 +43,11 @@ module _ {a b : List ℕ} (s : List ℕ) {i n : ℕ} (p : Put a i (take n s) b (
   pub put_all : length s ≤ n → Put a i s b (i + n)
   put_all h = rw (take_all n s h) at p
 
+-- a text copied into a part of the buffer
+pub put-part : (a : List ℕ) (i k : ℕ) (t s : List ℕ) → t ≡ s → k ≡ length s → i + length s ≤ length a → Put a i s (put_mid i k a t) (i + length s)
+put-part a i k t s e l h =
+    record { bytes = rw (e, l) (ap (λ r. take i a ++ (s ++ r)) (drop-drop (length s) i a) ∙ sym (append_assoc (take i a) s _) ∙ sym (sets-eq s a i h)); place = refl }
+
 -- a text of which all is written
 pub put-done : {a b : List ℕ} (s : List ℕ) {at i n k : ℕ} → Put a at (take i s) b k → i ≤ n → n ≤ i → Put a at (take n s) b k
 put-done s {i = i} {n = n} p g h = let e : i ≡ n = omega arith in rw e at p
@@ -67,3 +73,8 @@ line-is {s} {t} {b} {n} p h e =
     let f : b ≡ s ++ replicate (line_size - length s) 0 = p.bytes ∙ sets-eq s _ 0 (rw z l) ∙ ap (λ r. s ++ r) (ap (λ k. drop k (replicate {A = ℕ} line_size 0)) z ∙ drop-zeros (length s) line_size) in
     let k : n ≡ length s = p.place ∙ z in
     rw (f, k, e)
+
+-- the same of a line, which was empty
+pub line-ended : {s t : Bytes} {e l : Line} → e ≡ line_of [] → Put e.bytes e.length s l.bytes l.length → l.length ≤ line_size → s ≡ t → (l ≡ line_of t) × (l.length ≤ line_size)
+unfolding line_of
+line-ended {s} {t} {e} {l} q p h k = (line-is (rw q at p) h k, h)

@@ -1,7 +1,7 @@
 use native.Mathlib.Omega.{arith}
 use Rattle.listing.proofs.Laws.Line.{refused_line-is}
-use Rattle.listing.proofs.Laws.Put.{then, line-is}
+use Rattle.listing.proofs.Laws.Put.{then, line-ended}
 use Rattle.listing.proofs.refused_line.Goals as goal
 
 pub returns : goal.returns
-returns c = (line-is (then (then (then c.copy-a.ensures c.field-b.ensures.0) c.field-c.ensures.0) c.put-end.ensures) (omega arith) (refused_line-is _ _), omega arith)
+returns c = line-ended c.empty-line.ensures.0 (then (then (then c.word.ensures c.field.ensures.0) c.field-2.ensures.0) c.byte.ensures) (omega arith) (refused_line-is _ _)

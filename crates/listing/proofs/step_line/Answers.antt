@@ -1,7 +1,9 @@
+use Prim.Native.Nat.{◌≤◌}
 use native.Mathlib.Omega.{arith}
 use Rattle.listing.proofs.Laws.Line.{step_line-is}
-use Rattle.listing.proofs.Laws.Put.{then, line-is}
+use Rattle.listing.proofs.Laws.Put.{then, line-ended}
 use Rattle.listing.proofs.step_line.Goals as goal
 
 pub returns : goal.returns
-returns c = (line-is (then (then c.decimal-a.ensures.0 c.label_field-b.ensures.0) c.put-end.ensures) (omega arith) (step_line-is _ _), omega arith)
+returns c =
+    let l : c.byte.new.self.length ≤ 52 = omega arith in ((line-ended c.empty-line.ensures.0 (then (then c.decimal.ensures.0 c.label.ensures.0) c.byte.ensures) (omega arith) (step_line-is _ _)).0, l)

@@ -1,9 +1,5 @@
 use Rattle.looking_columns.proofs.Making.{Duing}
-use Prim.Native.Nat.{◌-◌}
 use Rattle.looking_columns.proofs.dues.Given as goal
 
 abbrev pub invariant-loop-c : goal.invariant-loop-c
 invariant-loop-c l = Duing l.t l.base l.c l.due
-
-abbrev pub decreases-loop-c : goal.decreases-loop-c
-decreases-loop-c l = l.t.count - l.c

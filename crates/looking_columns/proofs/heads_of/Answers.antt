@@ -9,7 +9,7 @@ pub appointed-requires : goal.appointed-requires
 appointed-requires c = let h = c.loop-c.invariant in omega (arith, c.requires.1.short _ c.loop-c-test.true)
 
 pub loop-c-preserved : goal.loop-c-preserved
-loop-c-preserved c = heading_turns c.args.t c.requires.0 _ c.loop-c.invariant c.loop-c-test.true c.wide16to32.ensures c.appointed.ensures
+loop-c-preserved c = heading_turns c.args.t c.requires.0 _ c.loop-c.invariant c.loop-c-test.true c.from.ensures c.appointed.ensures
 
 pub returns : goal.returns
 returns c = let h = c.loop-c.invariant in (made_all _ h.heads h.high c.loop-c-test.false, made_all _ h.middles h.high c.loop-c-test.false)

@@ -1,15 +1,9 @@
-use Rattle.looking_columns.proofs.Making.{made_none, made-next, made_all, within-at}
+use Rattle.looking_columns.proofs.Making.{made-next, made_all, within-at}
 use native.Mathlib.Omega.{arith}
 use Rattle.looking_columns.proofs.raised.Goals as goal
 
-pub loop-c-init : goal.loop-c-init
-loop-c-init c = (omega arith, c.requires.0, c.requires.1, c.requires.2, made_none _)
-
 pub raise_at-requires : goal.raise_at-requires
 raise_at-requires c = let h = c.loop-c.invariant in (omega (arith, h.3.room, c.loop-c-test.true), omega arith, within-at _ _ _ _ h.3 c.loop-c-test.true h.2)
-
-pub bounds-out-c : goal.bounds-out-c
-bounds-out-c c = let h = c.loop-c.invariant in omega (arith, h.4.long, c.loop-c-test.true)
 
 pub loop-c-preserved : goal.loop-c-preserved
 loop-c-preserved c = let h = c.loop-c.invariant in (omega (arith, c.loop-c-test.true), h.1, h.2, h.3, made-next _ h.4 (omega (arith, c.loop-c-test.true)) c.raise_at.ensures)

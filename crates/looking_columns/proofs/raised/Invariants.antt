@@ -4,11 +4,8 @@ use Rattle.plan.specs.Limits.{farthest, most_cells}
 use Rattle.whole.specs.Bias.{bias}
 use lib.IntN.{pos}
 use lib.ListN.{get_or}
-use Prim.Native.Nat.{◌-◌, ◌+◌, ◌*◌, ◌≤◌}
+use Prim.Native.Nat.{◌+◌, ◌*◌, ◌≤◌}
 use Rattle.looking_columns.proofs.raised.Given as goal
 
 abbrev pub invariant-loop-c : goal.invariant-loop-c
 invariant-loop-c l = (l.c ≤ l.n) × (l.n ≤ most_cells) × (l.offset ≤ 1) × Near l.positions l.n × Column l.out l.c (λ i. bias farthest (get_or l.positions (2 * i + l.offset) (pos 0)))
-
-abbrev pub decreases-loop-c : goal.decreases-loop-c
-decreases-loop-c l = l.n - l.c

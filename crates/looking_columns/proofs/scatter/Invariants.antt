@@ -1,9 +1,5 @@
 use Rattle.looking_columns.proofs.Scattering.{Scattering}
-use Prim.Native.Nat.{◌-◌}
 use Rattle.looking_columns.proofs.scatter.Given as goal
 
 abbrev pub invariant-loop-c : goal.invariant-loop-c
 invariant-loop-c l = Scattering l.column l.n l.k l.initial.out l.out l.c
-
-abbrev pub decreases-loop-c : goal.decreases-loop-c
-decreases-loop-c l = l.n - l.c

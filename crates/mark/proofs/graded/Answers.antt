@@ -7,4 +7,4 @@ pub returns : goal.returns
 returns c =
     let a = c.args in
     let e = c.least_width-least.ensures in
-    (c.by_width.ensures ∙ ap (λ (l : ℕ). by_width l a.width a.rows) e.0, e.1)
+    (c.by_width.ensures ∙ ap (λ (l : ℕ). by_width l a.sheet.width a.sheet.rows) e.0, e.1)

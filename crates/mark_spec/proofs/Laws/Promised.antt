@@ -1,140 +1,131 @@
 -- What a mark means: proofs of proofs/Promised.antt. Nothing that a reader must believe stands here. Assumes nothing.
-use Rattle.std.specs.Prelude.{◌≡◌, refl, List, ◌++◌, ◌↔◌, Bool, true, false, cond, ℕ, ◌≤◌, ◌<◌, length, drop, replicate, leb, ℤ, pos, ◌≤ℤ◌}
-use Rattle.std.proofs.Common.{sym, ap, ◌∙◌, arith, eq-eqb, ne_eqb, leb-true, leb-false}
+use Rattle.std.specs.Prelude.{◌≡◌, refl, List, ◌++◌, ◌↔◌, Bool, true, false, cond, ℕ, ◌≤◌, ◌<◌, length, drop, replicate, leb, ℤ, pos, ◌≤ℤ◌, Result, Ok, Err}
+use Rattle.std.proofs.Common.{sym, ap, ◌∙◌, arith, leb-true, leb-false}
 use Rattle.std.proofs.Math.Decide.{ℕ_discrete}
 use Rattle.whole.specs.Whole.{plus}
 use Rattle.whole.proofs.Laws.Whole.{whole}
 use Rattle.plan.specs.Limits.{scratch_size}
 use Rattle.plan.specs.Plan.{Table}
 use Rattle.plan.specs.Questions.{mark, none, refusal, mark_given}
+use Rattle.plan.specs.declared.Breach.{Breach}
+use Rattle.plan.specs.declared.Measures.{Measures}
 use Rattle.plan.specs.declared.Refusal.{Refusal}
+use Rattle.plan.proofs.Laws.Answered.{answered_none, answered_some}
 use Rattle.rules.specs.Placement.{Placement, placed, width, rows}
 use Rattle.rules.specs.Rules.{Keeps}
 use Rattle.rules.specs.Search.{Verdict, kept, broken}
-use Rattle.rules.specs.Verdict.{Answer, fine, faulty, verdict, answer, Breaks}
+use Rattle.rules.specs.Verdict.{verdict, answer, Breaks}
 use Rattle.rules.proofs.Laws.Verdict.{kept_keeps, keeps_kept, verdict-broken, breaks_verdict, fine-answer, faulty-answer}
 use Rattle.contours.specs.Sheet.{sheet}
 use Rattle.least.proofs.Theorems.{sheet_keeps, sheet-least}
 use Rattle.least.proofs.Laws.Measures.{sheet-width}
 use Rattle.checker.proofs.Laws.Checked.{Accepted, width-natural, rows-natural}
 use Rattle.mark_spec.specs.declared.Marked.{Marked}
-use Rattle.mark_spec.specs.declared.Marked.TheVariants.{Full, Wide, Broken, Refused}
-use Rattle.mark_spec.specs.Marked.{our_width, by_width, graded, marked_of, mark_scratch_after, Marks}
+use Rattle.mark_spec.specs.declared.Marked.TheVariants.{Full, Wide, Broken}
+use Rattle.mark_spec.specs.Marked.{full_of, wide_of, broken_of, refused_of, our_width, by_width, graded, marked_of, mark_scratch_after, Marks}
 use Rattle.mark_spec.specs.Promises.{Narrowest, LeastWidth, FullWith, WideBy, IsFull, IsWide, IsBroken, IsRefused, OneOf, first, second, third, fourth}
 use Rattle.mark_spec.proofs.Laws.Marked as laws
 use Rattle.mark_spec.proofs.Laws.Marked.{asks, graded_clears, full_by}
 
 -- ---- the cases are apart
-full-same : (w h v k : ℕ) → Full w h ≡ Full v k → (w ≡ v) × (h ≡ k)
-full-same w h v k e = (cc, cc)
+full-same : (w h v k : ℕ) → full_of w h ≡ full_of v k → (w ≡ v) × (h ≡ k)
+full-same w h v k e =
+    let q : ◌≡◌ {A = Measures} (record { width = w; rows = h }) (record { width = v; rows = k }) = cc in
+    (ap (λ (m : Measures). m.width) q, ap (λ (m : Measures). m.rows) q)
 
-wide-same : (w l h v m k : ℕ) → Wide w l h ≡ Wide v m k → (w ≡ v) × (l ≡ m) × (h ≡ k)
-wide-same w l h v m k e = (cc, cc, cc)
+wide-same : (w l h v m k : ℕ) → wide_of w l h ≡ wide_of v m k → (w ≡ v) × (l ≡ m) × (h ≡ k)
+wide-same w l h v m k e =
+    let q : ◌≡◌ {A = Measures} (record { width = w; rows = h }) (record { width = v; rows = k }) = cc in
+    (ap (λ (m : Measures). m.width) q, cc, ap (λ (m : Measures). m.rows) q)
 
-broken-same : (r a b r' a' b' : ℕ) → Broken r a b ≡ Broken r' a' b' → (r ≡ r') × (a ≡ a') × (b ≡ b')
-broken-same r a b r' a' b' e = (cc, cc, cc)
+broken-same : (r a b r' a' b' : ℕ) → broken_of r a b ≡ broken_of r' a' b' → (r ≡ r') × (a ≡ a') × (b ≡ b')
+broken-same r a b r' a' b' e =
+    let q : ◌≡◌ {A = Breach} (record { rule = r; a = a; b = b }) (record { rule = r'; a = a'; b = b' }) = cc in
+    (ap (λ (x : Breach). x.rule) q, ap (λ (x : Breach). x.a) q, ap (λ (x : Breach). x.b) q)
 
-refused-same : (k c k' c' : ℕ) → Refused k c ≡ Refused k' c' → (k ≡ k') × (c ≡ c')
-refused-same k c k' c' e = (cc, cc)
+refused-same : (x : Refusal) (k c : ℕ) → ◌≡◌ {A = Result Marked Refusal} (Err x) (Err (refused_of k c)) → x ≡ refused_of k c
+refused-same x k c e = cc
 
-full-wide : (w h v m k : ℕ) → Full w h ≡ Wide v m k → ⊥
+ok-same : (a b : Marked) → ◌≡◌ {A = Result Marked Refusal} (Ok a) (Ok b) → a ≡ b
+ok-same a b e = cc
+
+ok-refused : (a : Marked) (x : Refusal) → ◌≡◌ {A = Result Marked Refusal} (Ok a) (Err x) → ⊥
+ok-refused a x e = cc
+
+full-wide : (w h v m k : ℕ) → full_of w h ≡ wide_of v m k → ⊥
 full-wide w h v m k e = let n : ◌≡◌ {A = ℕ} 0 1 = cc in omega arith
 
-full-broken : (w h r a b : ℕ) → Full w h ≡ Broken r a b → ⊥
+full-broken : (w h r a b : ℕ) → full_of w h ≡ broken_of r a b → ⊥
 full-broken w h r a b e = let n : ◌≡◌ {A = ℕ} 0 1 = cc in omega arith
 
-full-refused : (w h k c : ℕ) → Full w h ≡ Refused k c → ⊥
-full-refused w h k c e = let n : ◌≡◌ {A = ℕ} 0 1 = cc in omega arith
-
-wide-broken : (w l h r a b : ℕ) → Wide w l h ≡ Broken r a b → ⊥
+wide-broken : (w l h r a b : ℕ) → wide_of w l h ≡ broken_of r a b → ⊥
 wide-broken w l h r a b e = let n : ◌≡◌ {A = ℕ} 0 1 = cc in omega arith
 
-wide-refused : (w l h k c : ℕ) → Wide w l h ≡ Refused k c → ⊥
-wide-refused w l h k c e = let n : ◌≡◌ {A = ℕ} 0 1 = cc in omega arith
-
-broken-refused : (r a b k c : ℕ) → Broken r a b ≡ Refused k c → ⊥
-broken-refused r a b k c e = let n : ◌≡◌ {A = ℕ} 0 1 = cc in omega arith
-
 -- exactly one of the four answers
-pub one_answer : (r : Marked) → OneOf (IsFull r) (IsWide r) (IsBroken r) (IsRefused r)
-one_answer (Full w h) = first (w, h, refl) (λ (v, m, k, e). full-wide w h v m k e) (λ (k, a, b, e). full-broken w h k a b e) (λ (k, c, e). full-refused w h k c e)
-one_answer (Wide w l h) = second (λ (v, k, e). full-wide v k w l h (sym e)) (w, l, h, refl) (λ (k, a, b, e). wide-broken w l h k a b e) (λ (k, c, e). wide-refused w l h k c e)
-one_answer (Broken r a b) = third (λ (v, k, e). full-broken v k r a b (sym e)) (λ (v, m, k, e). wide-broken v m k r a b (sym e)) (r, a, b, refl) (λ (k, c, e). broken-refused r a b k c e)
-one_answer (Refused k c) = fourth (λ (v, h, e). full-refused v h k c (sym e)) (λ (v, m, h, e). wide-refused v m h k c (sym e)) (λ (r, a, b, e). broken-refused r a b k c (sym e)) (k, c, refl)
+pub one_answer : (r : Result Marked Refusal) → OneOf (IsFull r) (IsWide r) (IsBroken r) (IsRefused r)
+one_answer (Ok (Full m)) =
+    first (m.width, m.rows, refl) (λ (v, l, k, e). full-wide m.width m.rows v l k (ok-same _ _ e)) (λ (k, a, b, e). full-broken m.width m.rows k a b (ok-same _ _ e)) (λ (k, c, e). ok-refused _ _ e)
+one_answer (Ok (Wide m l)) =
+    second (λ (v, k, e). full-wide v k m.width l m.rows (sym (ok-same _ _ e))) (m.width, l, m.rows, refl) (λ (k, a, b, e). wide-broken m.width l m.rows k a b (ok-same _ _ e)) (λ (k, c, e). ok-refused _ _ e)
+one_answer (Ok (Broken b)) =
+    third (λ (v, k, e). full-broken v k b.rule b.a b.b (sym (ok-same _ _ e))) (λ (v, m, k, e). wide-broken v m k b.rule b.a b.b (sym (ok-same _ _ e))) (b.rule, b.a, b.b, refl) (λ (k, c, e). ok-refused _ _ e)
+one_answer (Err x) = fourth (λ (v, h, e). ok-refused _ _ (sym e)) (λ (v, m, h, e). ok-refused _ _ (sym e)) (λ (r, a, b, e). ok-refused _ _ (sym e)) (x.number, x.cell, refl)
 
 -- ---- by the width
-full-read : (l w h v k : ℕ) → by_width l w h ≡ Full v k → (w ≤ l) × (w ≡ v) × (h ≡ k)
+full-read : (l w h v k : ℕ) → by_width l w h ≡ full_of v k → (w ≤ l) × (w ≡ v) × (h ≡ k)
 unfolding by_width
 full-read l w h v k e = go (leb w l) refl e
   where
-    go : (b : Bool) → leb w l ≡ b → cond b (Full w h) (Wide w l h) ≡ Full v k → (w ≤ l) × (w ≡ v) × (h ≡ k)
+    go : (b : Bool) → leb w l ≡ b → cond b (full_of w h) (wide_of w l h) ≡ full_of v k → (w ≤ l) × (w ≡ v) × (h ≡ k)
     go true y q = let (f, g) = full-same w h v k q in (leb-true w l y, f, g)
     go false y q = absurd (full-wide v k w l h (sym q))
 
-wide_read : (l w h v m k : ℕ) → by_width l w h ≡ Wide v m k → (l < w) × (w ≡ v) × (l ≡ m) × (h ≡ k)
+wide_read : (l w h v m k : ℕ) → by_width l w h ≡ wide_of v m k → (l < w) × (w ≡ v) × (l ≡ m) × (h ≡ k)
 unfolding by_width
 wide_read l w h v m k e = go (leb w l) refl e
   where
-    go : (b : Bool) → leb w l ≡ b → cond b (Full w h) (Wide w l h) ≡ Wide v m k → (l < w) × (w ≡ v) × (l ≡ m) × (h ≡ k)
+    go : (b : Bool) → leb w l ≡ b → cond b (full_of w h) (wide_of w l h) ≡ wide_of v m k → (l < w) × (w ≡ v) × (l ≡ m) × (h ≡ k)
     go true y q = absurd (full-wide w h v m k q)
     go false y q = let (f, g, i) = wide-same w l h v m k q in (leb-false w l y, f, g, i)
 
-broken-read : (l w h r a b : ℕ) → by_width l w h ≡ Broken r a b → ⊥
+broken-read : (l w h r a b : ℕ) → by_width l w h ≡ broken_of r a b → ⊥
 unfolding by_width
 broken-read l w h r a b e = go (leb w l) e
   where
-    go : (y : Bool) → cond y (Full w h) (Wide w l h) ≡ Broken r a b → ⊥
+    go : (y : Bool) → cond y (full_of w h) (wide_of w l h) ≡ broken_of r a b → ⊥
     go true q = full-broken w h r a b q
     go false q = wide-broken w l h r a b q
 
-refused-read : (l w h k c : ℕ) → by_width l w h ≡ Refused k c → ⊥
-unfolding by_width
-refused-read l w h k c e = go (leb w l) e
-  where
-    go : (y : Bool) → cond y (Full w h) (Wide w l h) ≡ Refused k c → ⊥
-    go true q = full-refused w h k c q
-    go false q = wide-refused w l h k c q
-
-not_refused : (l : ℕ) (a : Answer) (k c : ℕ) → graded l a ≡ Refused k c → ⊥
-unfolding graded
-not_refused l (fine w h) k c e = refused-read l (plus w) (plus h) k c e
-not_refused l (faulty r a b) k c e = broken-refused r a b k c e
-
-refusal_is : (x : Refusal) (k c : ℕ) → x.number ≡ k → x.cell ≡ c → x ≡ record { number = k; cell = c }
-refusal_is x k c e f = rw (← e, ← f) refl
-
-module _ (t : Table) (ps : List ℤ) (al : ℕ) (s s' : List ℕ) (r : Marked) (g : Marks t ps al s s' r) where
+module _ (t : Table) (ps : List ℤ) (al : ℕ) (s s' : List ℕ) (r : Result Marked Refusal) (g : Marks t ps al s s' r) where
   abbrev why : Refusal
   why = refusal mark (mark_given t ps al (length s))
 
   abbrev l₀ : ℕ
   l₀ = our_width t al
 
-  -- a refusal is answered by its number and cell, and leaves the scratch as it was
-  pub unchanged : ¬ (why.number ≡ 0) → (r ≡ Refused why.number why.cell) × (s' ≡ s)
+  -- a refusal is answered, and leaves the scratch as it was
+  pub unchanged : ¬ (why.number ≡ 0) → (r ≡ Err why) × (s' ≡ s)
   unfolding marked_of mark_scratch_after
   unchanged z =
-      let e : r ≡ Refused why.number why.cell = g.answers ∙ rw (ne_eqb why.number 0 z) in
+      let e : r ≡ Err why = g.answers ∙ answered_some why _ z in
       (e, g.scratch ∙ rw e)
 
-  graded-it : why.number ≡ 0 → r ≡ graded l₀ (answer t (placed ps) al)
+  graded-it : why.number ≡ 0 → r ≡ Ok (graded l₀ (answer t (placed ps) al))
   unfolding marked_of
-  graded-it zero = g.answers ∙ rw (eq-eqb why.number 0 zero)
+  graded-it zero = g.answers ∙ answered_none why _ zero
 
   -- REFUSED, exactly where a question refuses
-  pub refused_iff : (k c : ℕ) → (r ≡ Refused k c) ↔ ((¬ (k ≡ 0)) × (why ≡ record { number = k; cell = c }))
+  pub refused_iff : (k c : ℕ) → (r ≡ Err (refused_of k c)) ↔ ((¬ (k ≡ 0)) × (why ≡ record { number = k; cell = c }))
   refused_iff k c = (there (ℕ_discrete why.number 0), back)
     where
-      there : Dec (why.number ≡ 0) → r ≡ Refused k c → (¬ (k ≡ 0)) × (why ≡ record { number = k; cell = c })
-      there (yes z) e = absurd (not_refused l₀ (answer t (placed ps) al) k c (sym (graded-it z) ∙ e))
+      there : Dec (why.number ≡ 0) → r ≡ Err (refused_of k c) → (¬ (k ≡ 0)) × (why ≡ record { number = k; cell = c })
+      there (yes z) e = absurd (ok-refused _ _ (sym (graded-it z) ∙ e))
       there (no z) e =
-          let (f, h) = refused-same why.number why.cell k c (sym (unchanged z).0 ∙ e) in
-          (λ y. z (f ∙ y), refusal_is why k c f h)
+          let q = refused-same why k c (sym (unchanged z).0 ∙ e) in
+          (λ y. z (ap (λ (x : Refusal). x.number) q ∙ y), q)
 
-      back : (¬ (k ≡ 0)) × (why ≡ record { number = k; cell = c }) → r ≡ Refused k c
-      back (n, e) =
-          let f : why.number ≡ k = ap (λ (x : Refusal). x.number) e in
-          (unchanged (λ y. n (sym f ∙ y))).0 ∙ ap (λ (x : Refusal). Refused x.number x.cell) e
+      back : (¬ (k ≡ 0)) × (why ≡ record { number = k; cell = c }) → r ≡ Err (refused_of k c)
+      back (n, e) = (unchanged (λ y. n (sym (ap (λ (x : Refusal). x.number) e) ∙ y))).0 ∙ ap Err e
 
   -- ---- where no question refuses
   module _ (n : why ≡ none) where
@@ -144,7 +135,7 @@ module _ (t : Table) (ps : List ℤ) (al : ℕ) (s s' : List ℕ) (r : Marked) (
     fair : Accepted t al ps
     fair = asks t ps al s zero
 
-    is : r ≡ graded l₀ (answer t (placed ps) al)
+    is : r ≡ Ok (graded l₀ (answer t (placed ps) al))
     is = graded-it zero
 
     -- it leaves the scratch as Layout does
@@ -173,11 +164,11 @@ module _ (t : Table) (ps : List ℤ) (al : ℕ) (s s' : List ℕ) (r : Marked) (
         let d : width t (sheet t al) ≡ pos l₀ = least-natural in
         omega whole
 
-    on-kept : verdict t (placed ps) al ≡ kept → r ≡ by_width l₀ (plus (width t (placed ps))) (plus (rows t (placed ps)))
+    on-kept : verdict t (placed ps) al ≡ kept → r ≡ Ok (by_width l₀ (plus (width t (placed ps))) (plus (rows t (placed ps))))
     unfolding graded
     on-kept e = is ∙ rw (fine-answer t (placed ps) al e)
 
-    on-broken : (k a b : ℕ) → verdict t (placed ps) al ≡ broken k a b → r ≡ Broken k a b
+    on-broken : (k a b : ℕ) → verdict t (placed ps) al ≡ broken k a b → r ≡ Ok (broken_of k a b)
     unfolding graded
     on-broken k a b e = is ∙ rw (faulty-answer t (placed ps) al k a b e)
 
@@ -188,12 +179,12 @@ module _ (t : Table) (ps : List ℤ) (al : ℕ) (s s' : List ℕ) (r : Marked) (
     deep_of e = let d = rows-natural t al ps fair e in d ∙ ap pos (sym (ap plus d))
 
     -- full marks, with the width and the rows
-    pub full_iff : (w h : ℕ) → (r ≡ Full w h) ↔ FullWith t (placed ps) al w h
+    pub full_iff : (w h : ℕ) → (r ≡ Ok (full_of w h)) ↔ FullWith t (placed ps) al w h
     full_iff w h = (λ e. there (verdict t (placed ps) al) refl e, back)
       where
-        there : (v : Verdict) → verdict t (placed ps) al ≡ v → r ≡ Full w h → FullWith t (placed ps) al w h
+        there : (v : Verdict) → verdict t (placed ps) al ≡ v → r ≡ Ok (full_of w h) → FullWith t (placed ps) al w h
         there kept q e =
-            let (i, f, k) = full-read l₀ (plus (width t (placed ps))) (plus (rows t (placed ps))) w h (sym (on-kept q) ∙ e) in
+            let (i, f, k) = full-read l₀ (plus (width t (placed ps))) (plus (rows t (placed ps))) w h (ok-same _ _ (sym (on-kept q) ∙ e)) in
             let n : width t (placed ps) ≡ pos (plus (width t (placed ps))) = width-natural t al ps fair in
             record {
               narrowest = record {
@@ -206,14 +197,14 @@ module _ (t : Table) (ps : List ℤ) (al : ℕ) (s s' : List ℕ) (r : Marked) (
               wide = n ∙ ap pos f;
               deep = deep_of q ∙ ap pos k;
             }
-        there (broken k a b) q e = absurd (full-broken w h k a b (sym e ∙ on-broken k a b q))
+        there (broken k a b) q e = absurd (full-broken w h k a b (ok-same _ _ (sym e ∙ on-broken k a b q)))
 
-        back : FullWith t (placed ps) al w h → r ≡ Full w h
+        back : FullWith t (placed ps) al w h → r ≡ Ok (full_of w h)
         back f =
             let b : width t (placed ps) ≤ℤ width t (sheet t al) = f.narrowest.none_narrower (sheet t al) ours_keeps in
             let d : width t (sheet t al) ≡ pos l₀ = least-natural in
             let i : w ≤ l₀ = omega (whole, f.wide, b, d) in
-            on-kept (keeps_kept t (placed ps) al f.narrowest.keeps) ∙ rw (f.wide, f.deep) (sym (full_by l₀ w h i))
+            on-kept (keeps_kept t (placed ps) al f.narrowest.keeps) ∙ rw (f.wide, f.deep) (ap Ok (sym (full_by l₀ w h i)))
 
     -- FULL MARKS, exactly where the drawing keeps the rules and none that keeps them is narrower
     pub full_marks : IsFull r ↔ Narrowest t (placed ps) al
@@ -226,12 +217,12 @@ module _ (t : Table) (ps : List ℤ) (al : ℕ) (s s' : List ℕ) (r : Marked) (
             (w, h, (full_iff w h).1 (record { narrowest = f; wide = width-natural t al ps fair; deep = deep_of (keeps_kept t (placed ps) al f.keeps) }))
 
     -- WIDE, exactly where it keeps them, with its width, its rows and the least width, which is less
-    pub wide_by : (w l h : ℕ) → (r ≡ Wide w l h) ↔ WideBy t (placed ps) al w l h
+    pub wide_by : (w l h : ℕ) → (r ≡ Ok (wide_of w l h)) ↔ WideBy t (placed ps) al w l h
     wide_by w l h = (λ e. there (verdict t (placed ps) al) refl e, back)
       where
-        there : (v : Verdict) → verdict t (placed ps) al ≡ v → r ≡ Wide w l h → WideBy t (placed ps) al w l h
+        there : (v : Verdict) → verdict t (placed ps) al ≡ v → r ≡ Ok (wide_of w l h) → WideBy t (placed ps) al w l h
         there kept q e =
-            let (i, f, m, k) = wide_read l₀ (plus (width t (placed ps))) (plus (rows t (placed ps))) w l h (sym (on-kept q) ∙ e) in
+            let (i, f, m, k) = wide_read l₀ (plus (width t (placed ps))) (plus (rows t (placed ps))) w l h (ok-same _ _ (sym (on-kept q) ∙ e)) in
             record {
               keeps = keeps_of q;
               wide = width-natural t al ps fair ∙ ap pos f;
@@ -239,20 +230,20 @@ module _ (t : Table) (ps : List ℤ) (al : ℕ) (s s' : List ℕ) (r : Marked) (
               least = rw (sym m) least-is;
               wider = omega (arith, i, f, m);
             }
-        there (broken k a b) q e = absurd (wide-broken w l h k a b (sym e ∙ on-broken k a b q))
+        there (broken k a b) q e = absurd (wide-broken w l h k a b (ok-same _ _ (sym e ∙ on-broken k a b q)))
 
-        back : WideBy t (placed ps) al w l h → r ≡ Wide w l h
+        back : WideBy t (placed ps) al w l h → r ≡ Ok (wide_of w l h)
         back f =
             let m : l ≡ l₀ = least-one l f.least in
             let i : l₀ < w = omega (arith, m, f.wider) in
-            on-kept (keeps_kept t (placed ps) al f.keeps) ∙ rw (f.wide, f.deep, m) (sym (laws.wide_by l₀ w h i))
+            on-kept (keeps_kept t (placed ps) al f.keeps) ∙ rw (f.wide, f.deep, m) (ap Ok (sym (laws.wide_by l₀ w h i)))
 
     -- BROKEN, as Check
-    pub broken_iff : (k a b : ℕ) → (r ≡ Broken k a b) ↔ Breaks t (placed ps) al k a b
+    pub broken_iff : (k a b : ℕ) → (r ≡ Ok (broken_of k a b)) ↔ Breaks t (placed ps) al k a b
     broken_iff k a b = (λ e. there (verdict t (placed ps) al) refl e, λ h. on-broken k a b (breaks_verdict t (placed ps) al fair.fit.some_cell k a b h))
       where
-        there : (v : Verdict) → verdict t (placed ps) al ≡ v → r ≡ Broken k a b → Breaks t (placed ps) al k a b
-        there kept q e = absurd (broken-read l₀ (plus (width t (placed ps))) (plus (rows t (placed ps))) k a b (sym (on-kept q) ∙ e))
+        there : (v : Verdict) → verdict t (placed ps) al ≡ v → r ≡ Ok (broken_of k a b) → Breaks t (placed ps) al k a b
+        there kept q e = absurd (broken-read l₀ (plus (width t (placed ps))) (plus (rows t (placed ps))) k a b (ok-same _ _ (sym (on-kept q) ∙ e)))
         there (broken k' a' b') q e =
-            let (x, y, z) = broken-same k' a' b' k a b (sym (on-broken k' a' b' q) ∙ e) in
+            let (x, y, z) = broken-same k' a' b' k a b (ok-same _ _ (sym (on-broken k' a' b' q) ∙ e)) in
             verdict-broken t (placed ps) al k a b (rw (x, y, z) at q)

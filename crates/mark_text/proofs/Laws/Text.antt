@@ -1,16 +1,19 @@
 -- Lines put together: for the code. Assumes nothing.
-use Rattle.std.specs.Prelude.{◌≡◌, List, [], ◌∷◌, ◌++◌, ℕ}
+use Rattle.std.specs.Prelude.{◌≡◌, refl, List, [], ◌∷◌, ◌++◌, ℕ, Result, Ok, Err}
 use Rattle.listing.specs.Printed.{Bytes, space, line_feed, decimal}
 use Rattle.listing.specs.Put.{Put}
 use Rattle.listing.proofs.Laws.Put.{then}
 use Rattle.drawing_spec.specs.declared.Fault.TheVariants.{NoNumber, NoCell, Twice, Far, Missing, Long}
-use Rattle.mark_spec.specs.declared.Marked.TheVariants.{Full, Wide, Broken, Refused}
+use Rattle.mark_spec.specs.declared.Marked.TheVariants.{Full, Wide, Broken}
+use Rattle.drawing_spec.specs.declared.DrawError.{DrawError}
+use Rattle.drawing_spec.specs.declared.DrawError.TheVariants.{Wrong, Refused}
+use Rattle.plan.specs.declared.Breach.{Breach}
+use Rattle.plan.specs.declared.Measures.{Measures}
+use Rattle.plan.specs.declared.Refusal.{Refusal}
 use Rattle.drawing_spec.specs.declared.Fault.{Fault}
 use Rattle.mark_spec.specs.declared.Marked.{Marked}
 use Rattle.summary.specs.Summary.{named_line}
-use Rattle.mark_text.specs.Text.{full_part, wide_part, broken_part, line_part, numbers_part, no_cell_part, cell_part, twice_part, far_part, missing_cell_part, missing_part, long_part, drawings_part, broken_count_part, refused_part, unread_part, pair, triple, marked_line, fault_line, unread_line, outcome_line, first_counts, last_counts, counts_line}
-use Rattle.mark_text.specs.declared.Outcome.{Outcome}
-use Rattle.mark_text.specs.declared.Outcome.TheVariants.{Mark, Unread}
+use Rattle.mark_text.specs.Text.{full_part, wide_part, broken_part, line_part, numbers_part, no_cell_part, cell_part, twice_part, far_part, missing_cell_part, missing_part, long_part, drawings_part, broken_count_part, refused_part, unread_part, pair, triple, marked_line, fault_line, unread_line, outcome_line, more, mark_kind, outcome_kind, more_if, counted, first_counts, last_counts, counts_line}
 use Rattle.mark_text.specs.declared.Counts.{Counts}
 
 pub pair_put : {a b c d : List ℕ} {i j k l : ℕ} (m n : ℕ) → Put a i (decimal m) b j → Put b j (space ∷ []) c k → Put c k (decimal n) d l → Put a i (pair m n) d l
@@ -30,17 +33,17 @@ unfolding fault_line
 fault-put name n what p q r s = then (then (then p q) r) s
 
 module _ {a b c d e : List ℕ} {j k l m : ℕ} (name : Bytes) where
-  pub full_put : (w h : ℕ) → Put a 0 name b j → Put b j full_part c k → Put c k (pair w h) d l → Put d l (line_feed ∷ []) e m → Put a 0 (marked_line name (Full w h)) e m
+  pub full_put : (n : Measures) → Put a 0 name b j → Put b j full_part c k → Put c k (pair n.width n.rows) d l → Put d l (line_feed ∷ []) e m → Put a 0 (marked_line name (Full n)) e m
   unfolding marked_line
-  full_put w h p q r s = line-put name full_part (pair w h) p q r s
+  full_put n p q r s = line-put name full_part (pair n.width n.rows) p q r s
 
-  pub wide-put : (w n h : ℕ) → Put a 0 name b j → Put b j wide_part c k → Put c k (triple w n h) d l → Put d l (line_feed ∷ []) e m → Put a 0 (marked_line name (Wide w n h)) e m
+  pub wide-put : (n : Measures) (h : ℕ) → Put a 0 name b j → Put b j wide_part c k → Put c k (triple n.width h n.rows) d l → Put d l (line_feed ∷ []) e m → Put a 0 (marked_line name (Wide n h)) e m
   unfolding marked_line
-  wide-put w n h p q r s = line-put name wide_part (triple w n h) p q r s
+  wide-put n h p q r s = line-put name wide_part (triple n.width h n.rows) p q r s
 
-  pub broken-put : (r x y : ℕ) → Put a 0 name b j → Put b j broken_part c k → Put c k (triple r x y) d l → Put d l (line_feed ∷ []) e m → Put a 0 (marked_line name (Broken r x y)) e m
+  pub broken-put : (o : Breach) → Put a 0 name b j → Put b j broken_part c k → Put c k (triple o.rule o.a o.b) d l → Put d l (line_feed ∷ []) e m → Put a 0 (marked_line name (Broken o)) e m
   unfolding marked_line
-  broken-put o x y p q r s = line-put name broken_part (triple o x y) p q r s
+  broken-put o p q r s = line-put name broken_part (triple o.rule o.a o.b) p q r s
 
   pub missing_put : (x : ℕ) → Put a 0 name b j → Put b j missing_cell_part c k → Put c k (decimal x) d l → Put d l missing_part e m → Put a 0 (unread_line name (Missing x)) e m
   unfolding unread_line
@@ -49,10 +52,6 @@ module _ {a b c d e : List ℕ} {j k l m : ℕ} (name : Bytes) where
 pub twice_put : {a b c d : List ℕ} {j k l : ℕ} (name : Bytes) (n x : ℕ) → Put a 0 (fault_line name n cell_part) b j → Put b j (decimal x) c k → Put c k twice_part d l → Put a 0 (unread_line name (Twice n x)) d l
 unfolding unread_line
 twice_put name n x p q r = then (then p q) r
-
-pub refused-put : {a b : List ℕ} {r : ℕ} (name : Bytes) (k c : ℕ) → Put a 0 (named_line name k c) b r → Put a 0 (marked_line name (Refused k c)) b r
-unfolding marked_line
-refused-put name k c p = p
 
 -- by the variant that it is
 pub marked-is : {a b : List ℕ} {r : ℕ} (name : Bytes) (m n : Marked) → m ≡ n → Put a 0 (marked_line name n) b r → Put a 0 (marked_line name m) b r
@@ -78,13 +77,47 @@ module _ {a b : List ℕ} {r : ℕ} (name : Bytes) where
   unfolding unread_line
   long-put p = p
 
-  pub mark-put : (o : Outcome) (m : Marked) → o ≡ Mark m → Put a 0 (marked_line name m) b r → Put a 0 (outcome_line name o) b r
-  unfolding outcome_line
-  mark-put o m e p = rw e p
+  module _ (o : Result Marked DrawError) where
+    pub mark-put : (m : Marked) → o ≡ Ok m → Put a 0 (marked_line name m) b r → Put a 0 (outcome_line name o) b r
+    unfolding outcome_line
+    mark-put m e p = rw e p
 
-  pub unread-put : (o : Outcome) (f : Fault) → o ≡ Unread f → Put a 0 (unread_line name f) b r → Put a 0 (outcome_line name o) b r
-  unfolding outcome_line
-  unread-put o f e p = rw e p
+    pub unread-put : (e : DrawError) (f : Fault) → o ≡ Err e → e ≡ Wrong f → Put a 0 (unread_line name f) b r → Put a 0 (outcome_line name o) b r
+    unfolding outcome_line
+    unread-put e f p q t = rw (p, q) t
+
+    pub refused-put : (e : DrawError) (k : Refusal) → o ≡ Err e → e ≡ Refused k → Put a 0 (named_line name k.number k.cell) b r → Put a 0 (outcome_line name o) b r
+    unfolding outcome_line
+    refused-put e k p q t = rw (p, q) t
+
+-- ---- one drawing more
+module _ (n : Counts) (o : Result Marked DrawError) where
+  module _ (m : Marked) (e : o ≡ Ok m) where
+    pub counted_full : (x : Measures) → m ≡ Full x → (d f : ℕ) → d ≡ more n.drawings → f ≡ more n.full
+        → record { drawings = d; full = f; wide = n.wide; broken = n.broken; refused = n.refused; unread = n.unread } ≡ counted n o
+    unfolding more_if outcome_kind mark_kind counted
+    counted_full x q d f h k = rw (e, q, h, k) refl
+
+    pub counted_wide : (x : Measures) (l : ℕ) → m ≡ Wide x l → (d f : ℕ) → d ≡ more n.drawings → f ≡ more n.wide
+        → record { drawings = d; full = n.full; wide = f; broken = n.broken; refused = n.refused; unread = n.unread } ≡ counted n o
+    unfolding more_if outcome_kind mark_kind counted
+    counted_wide x l q d f h k = rw (e, q, h, k) refl
+
+    pub counted_broken : (x : Breach) → m ≡ Broken x → (d f : ℕ) → d ≡ more n.drawings → f ≡ more n.broken
+        → record { drawings = d; full = n.full; wide = n.wide; broken = f; refused = n.refused; unread = n.unread } ≡ counted n o
+    unfolding more_if outcome_kind mark_kind counted
+    counted_broken x q d f h k = rw (e, q, h, k) refl
+
+  module _ (m : DrawError) (e : o ≡ Err m) where
+    pub counted_refused : (x : Refusal) → m ≡ Refused x → (d f : ℕ) → d ≡ more n.drawings → f ≡ more n.refused
+        → record { drawings = d; full = n.full; wide = n.wide; broken = n.broken; refused = f; unread = n.unread } ≡ counted n o
+    unfolding more_if outcome_kind mark_kind counted
+    counted_refused x q d f h k = rw (e, q, h, k) refl
+
+    pub counted_unread : (x : Fault) → m ≡ Wrong x → (d f : ℕ) → d ≡ more n.drawings → f ≡ more n.unread
+        → record { drawings = d; full = n.full; wide = n.wide; broken = n.broken; refused = n.refused; unread = f } ≡ counted n o
+    unfolding more_if outcome_kind mark_kind counted
+    counted_unread x q d f h k = rw (e, q, h, k) refl
 
 pub first-put : {a b c d : List ℕ} {j k l : ℕ} (n : Counts) → Put a 0 (drawings_part ++ decimal n.drawings) b j → Put b j (full_part ++ decimal n.full) c k → Put c k (wide_part ++ decimal n.wide) d l
     → Put a 0 (first_counts n) d l

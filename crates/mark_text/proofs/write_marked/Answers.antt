@@ -1,5 +1,4 @@
-use Rattle.mark_text.proofs.Laws.Text.{marked-is, refused-put}
-use native.Mathlib.Omega.{arith}
+use Rattle.mark_text.proofs.Laws.Text.{marked-is}
 use Rattle.mark_text.proofs.write_marked.Goals as goal
 
 pub returns-in-Full : goal.returns-in-Full
@@ -10,6 +9,3 @@ returns-in-Wide c = (marked-is _ _ _ c.in-Wide.is c.write_wide.ensures.0, c.writ
 
 pub returns-in-Broken : goal.returns-in-Broken
 returns-in-Broken c = (marked-is _ _ _ c.in-Broken.is c.write_broken.ensures.0, c.write_broken.ensures.1)
-
-pub returns-in-Refused : goal.returns-in-Refused
-returns-in-Refused c = (marked-is _ _ _ c.in-Refused.is (refused-put _ _ _ c.write_named.ensures.0), omega (arith, c.write_named.ensures.1))

@@ -1,11 +1,11 @@
 -- What Mend answers where a question refuses, where none does, and of a file that Read accepts. Nothing that a reader must believe stands here. Assumes nothing.
-use Rattle.std.specs.Prelude.{◌≡◌, ◌&&◌, ℕ, ◌≤◌, length}
+use Rattle.std.specs.Prelude.{◌≡◌, ◌&&◌, Result, Ok, Err, ℕ, ◌≤◌, length}
 use Rattle.std.proofs.Math.Path.{refl, sym, ap}
 use Rattle.std.proofs.Common.{◌∙◌}
 use mathlib.Core.List.{List, [], ◌++◌}
 use Rattle.std.proofs.Math.Dec.{leb}
 use Rattle.std.proofs.Math.ListN.{drop}
-use borrow.Author.Tests.{ne_eqb, le-leb}
+use borrow.Author.Tests.{le-leb}
 use Rattle.plan.specs.Limits.{most_file, lines_size}
 use Rattle.plan.specs.Questions.{none, asked, or_else}
 use Rattle.plan.proofs.Laws.Questions.{both-none, first-none}
@@ -17,18 +17,18 @@ use Rattle.listing.specs.Printed.{lines_joined}
 use Rattle.mending.specs.Mended.{would_get, mended}
 use Rattle.mending.specs.Mending.{mend_given, mend_refusal, lines_of, mended_of, file_after, lines_after, Mends, MendGives}
 use Rattle.mending.specs.declared.Mended.{Mended}
-use Rattle.mending.specs.declared.Mended.TheVariants.{Written, Refused}
+use Rattle.plan.proofs.Laws.Answered.{answered_none, answered_some}
 use Rattle.mending.proofs.Laws.Mended.{would_get-is, mend-only, mend_keeps}
 
-module _ (f out out' lines lines' : List ℕ) (r : Mended) (m : Mends f out out' lines lines' r) where
+module _ (f out out' lines lines' : List ℕ) (r : Result Mended Refusal) (m : Mends f out out' lines lines' r) where
   abbrev why : Refusal
   why = mend_refusal f (length out) (length lines)
 
-  pub unchanged : ¬ (why.number ≡ 0) → (r ≡ Refused why.number why.cell) × (out' ≡ out) × (lines' ≡ lines)
+  pub unchanged : ¬ (why.number ≡ 0) → (r ≡ Err why) × (out' ≡ out) × (lines' ≡ lines)
   unfolding mended_of file_after lines_after
   unchanged z =
-      let e : r ≡ Refused why.number why.cell = m.answers ∙ rw (ne_eqb why.number 0 z) refl in
-      (e, m.bytes ∙ ap (λ (x : Mended). file_after x f out) e, m.told ∙ ap (λ (x : Mended). lines_after x f lines) e)
+      let e : r ≡ Err why = m.answers ∙ answered_some why _ z in
+      (e, m.bytes ∙ ap (λ (x : Result Mended Refusal). file_after x f out) e, m.told ∙ ap (λ (x : Result Mended Refusal). lines_after x f lines) e)
 
   read_accepts : why ≡ none → would_get (mended f) ≡ none
   unfolding mend_given
@@ -43,17 +43,17 @@ module _ (f out out' lines lines' : List ℕ) (r : Mended) (m : Mends f out out'
   unfolding mended_of file_after lines_after
   gives z =
       let n = (mend-only f).as_long in
-      let e : r ≡ Written (length (mended f)) (length (lines_of f)) = m.answers ∙ rw z refl in
-      let b : out' ≡ mended f ++ drop (length (mended f)) out = m.bytes ∙ ap (λ (x : Mended). file_after x f out) e in
+      let e : r ≡ Ok (record { file = length (mended f); lines = length (lines_of f) }) = m.answers ∙ rw z (answered_none none _ refl) in
+      let b : out' ≡ mended f ++ drop (length (mended f)) out = m.bytes ∙ ap (λ (x : Result Mended Refusal). file_after x f out) e in
       record {
         answers = rw n at e;
         bytes = rw n at b;
-        told = m.told ∙ ap (λ (x : Mended). lines_after x f lines) e;
+        told = m.told ∙ ap (λ (x : Result Mended Refusal). lines_after x f lines) e;
         accepted = read_accepts z;
       }
 
   -- a file that Read accepts, with outputs that are long enough
-  pub same : would_get f ≡ none → most_file ≤ length out → lines_size ≤ length lines → (r ≡ Written (length f) 0) × (out' ≡ f ++ drop (length f) out) × (lines' ≡ lines)
+  pub same : would_get f ≡ none → most_file ≤ length out → lines_size ≤ length lines → (r ≡ Ok (record { file = length f; lines = 0 })) × (out' ≡ f ++ drop (length f) out) × (lines' ≡ lines)
   unfolding mend_given asked lines_of lines_joined
   same z a b =
       let (s, t) = mend_keeps f (ap (λ (x : Refusal). x.number) (sym (would_get-is f) ∙ z)) in
@@ -63,7 +63,7 @@ module _ (f out out' lines lines' : List ℕ) (r : Mended) (m : Mends f out out'
       ∙ sym (would_get-is (mended f)) ∙ ap would_get s ∙ z in
       let g = gives w in
       let l : lines_of f ≡ [] = rw t refl in
-      let e : r ≡ Written (length f) (length (lines_of f)) = g.answers in
+      let e : r ≡ Ok (record { file = length f; lines = length (lines_of f) }) = g.answers in
       let o : out' ≡ mended f ++ drop (length f) out = g.bytes in
       let q : lines' ≡ lines_of f ++ drop (length (lines_of f)) lines = g.told in
       (rw l at e, rw s at o, rw l at q)

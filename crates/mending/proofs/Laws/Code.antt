@@ -1,52 +1,50 @@
 -- From what each function has to what it promises: for the code. Nothing that a reader must believe stands here. Assumes nothing.
-use Rattle.std.specs.Prelude.{◌≡◌, ◌⊎◌, Bool, ◌&&◌, not, T, leb, get_or, set}
+use Rattle.std.specs.Prelude.{◌≡◌, Result, Ok, Err, IsErrAnd, ⊤, Bool, ◌&&◌, not, T, leb}
 use Rattle.std.proofs.Math.Path.{refl, sym, ap}
 use Rattle.std.proofs.Common.{◌∙◌, leb→le}
-use Rattle.std.proofs.Math.Logic.{inl, inr}
 use Rattle.std.proofs.Math.Bool.{true, false, cond}
 use mathlib.Core.List.{List, [], ◌∷◌, ◌++◌, map, append-nil}
-use Prim.Native.Nat.{ℕ, zero, suc, ◌+◌, ◌-◌, ◌*◌, ◌≤◌, ◌<◌}
+use Prim.Native.Nat.{ℕ, zero, suc, ◌+◌, ◌-◌, ◌*◌, ◌≤◌}
 use native.Mathlib.Omega.{arith}
-use Rattle.std.proofs.Math.Decide.{ℕ_discrete}
 use Rattle.std.proofs.Math.ListN.{length, take, drop, replicate}
 use Rattle.std.proofs.lemmas.List.Edits.{sets-eq}
 use Rattle.std.proofs.Math.Seq.{take-append_seam, drop-append_seam}
-use borrow.Author.Tests.{eq-eqb, ne_eqb, lt-leb, le-leb}
-use Rattle.whole.proofs.Laws.Says.{both, says_le, holds}
+use borrow.Author.Tests.{le-leb}
+use Rattle.whole.proofs.Laws.Says.{both, says_le}
 use Rattle.plan.specs.Limits.{between, most_cells, most_file, least_file, lines_size, trailer_size}
 use Rattle.plan.specs.Forms.{form_of, record_size}
 use Rattle.plan.specs.Lists.{from, keep}
-use Rattle.plan.specs.Questions.{asked, or_else}
-use Rattle.plan.proofs.Laws.Questions.{first_some}
+use Rattle.plan.specs.Questions.{asked, or_else, answered, passed}
+use Rattle.plan.proofs.Laws.Questions.{first_some, asked_yes}
 use Rattle.plan.proofs.Laws.Kept.{none_first}
 use Rattle.plan.specs.declared.Record.{Record}
 use Rattle.plan.specs.declared.Refusal.{Refusal}
 use Rattle.plan.specs.declared.forms.Form.{Form}
-use Rattle.planfile_spec.specs.declared.Reading.{Reading}
+use Rattle.planfile_spec.specs.Read.{answer_of}
+use Rattle.planfile_spec.specs.declared.PlanFile.{PlanFile}
 use Rattle.planfile_spec.specs.declared.Trailer.{Trailer}
 use Rattle.planfile_spec.specs.Format.{trailer_of, form, record_at, entry}
-use Rattle.planfile_spec.specs.Reading.{columns_of, reading_of}
-use Rattle.planfile_spec.specs.FileSteps.{file_refusal}
+use Rattle.planfile_spec.specs.Reading.{reading_of}
+use Rattle.planfile_spec.specs.FileSteps.{formed_refusal, file_refusal}
 use Rattle.planfile_spec.proofs.Laws.File as file
 use Rattle.planfile_spec.proofs.Laws.Examined.{Full}
 use Rattle.listing.specs.Printed.{Bytes, lines_joined}
 use Rattle.listing.proofs.Laws.Line.{joined-append}
 use Rattle.listing.specs.Put.{Put}
-use Rattle.listing.proofs.Laws.Put.{put-more, drop-zeros}
+use Rattle.listing.proofs.Laws.Put.{drop-zeros}
 use Rattle.mending_boxes.specs.Boxes.{changed}
 use Rattle.mending_boxes.specs.Raised.{mend_records}
 use Rattle.mending_lines.specs.Lines.{alteration, alteration_line}
 use Rattle.mending.specs.Mended.{would_get, looked_at, mended, altered_cells, altered}
 use Rattle.mending.specs.Mending.{mend_given, mend_refusal, lines_of, mended_of, file_after, lines_after, file_size, lines_length, Mends}
 use Rattle.mending_lines.specs.Steps.{alteration_text, alterations_text}
-use Rattle.mending.specs.declared.Mended.TheVariants.{Written, Refused}
+use Rattle.mending.specs.declared.Mended.{Mended}
+use Rattle.plan.proofs.Laws.Answered.{answered_none, answered_some, refused_by, not_refused, answers_err, passes}
+use Rattle.planfile_spec.proofs.Laws.Answer.{read_answer, err_passes}
 use Rattle.mending_boxes.proofs.Laws.Bytes.{mends_length}
-use Rattle.mending.proofs.Laws.Mended.{would_get-is, framed, refused-framed, looked_all, full, mend_unframed, unframed}
+use Rattle.mending.proofs.Laws.Mended.{would_get-is, framed, refused-framed, looked_all, full, mend_unframed, formed_stops}
 
 -- ---- a text put at the beginning
-pub put_next : {a b : List ℕ} (s : List ℕ) {n : ℕ} → Put a 0 (take n s) b (0 + n) → n < length s → Put a 0 (take (n + 1) s) (set b n (get_or s n 0)) (0 + (n + 1))
-put_next {a} {b} s {n} p h = let e : 0 + n ≡ n = omega arith in rw e at (put-more s p h)
-
 pub put_whole : {a b : List ℕ} (s : List ℕ) {n : ℕ} → Put a 0 s b n → length s ≤ length a → b ≡ s ++ drop (length s) a
 put_whole {a} {b} s {n} p h =
     let z : 0 + length s ≡ length s = omega arith in
@@ -155,39 +153,34 @@ module _ (f : List ℕ) (z : between 2 4 (would_get f).number ≡ false) where
   pub copy-taken : {o : List ℕ} → o ≡ mended f ++ replicate (most_file - length f) 0 → take (length f) o ≡ mended f
   copy-taken {o} p = let a : take (length (mended f)) (mended f ++ replicate {A = ℕ} (most_file - length f) 0) ≡ mended f = take-append_seam (mended f) _ in rw p (rw mended-length at a)
 
--- ---- what Read says, as the code has it
-module _ (f : List ℕ) (p : Reading) (e : p ≡ reading_of f most_cells) where
-  read_cases : (((would_get f).number ≡ 0) × (p.refusal.number ≡ 0)) ⊎ (¬ ((would_get f).number ≡ 0) × (p.refusal ≡ would_get f))
-  unfolding reading_of columns_of
-  read_cases = go (ℕ_discrete (would_get f).number 0)
-    where
-      go : Dec ((would_get f).number ≡ 0) → (((would_get f).number ≡ 0) × (p.refusal.number ≡ 0)) ⊎ (¬ ((would_get f).number ≡ 0) × (p.refusal ≡ would_get f))
-      go (yes z) = inl (z, ap (λ (x : Reading). x.refusal.number) e ∙ rw (eq-eqb (would_get f).number 0 z) refl)
-      go (no z) = inr (z, ap (λ (x : Reading). x.refusal) e ∙ rw (ne_eqb (would_get f).number 0 z) refl)
-
-  pub read_number : p.refusal.number ≡ (would_get f).number
-  read_number = elim read_cases [ inl h ↦ h.1 ∙ sym h.0 | inr h ↦ ap (λ (r : Refusal). r.number) h.1 ]
-
-  pub read-refused : ¬ (p.refusal.number ≡ 0) → p.refusal ≡ would_get f
-  read-refused n = elim read_cases [ inl h ↦ absurd (n h.1) | inr h ↦ h.1 ]
-
 -- ---- the answer
 module _ (f out lines : List ℕ) where
   abbrev why : Refusal
   why = mend_refusal f (length out) (length lines)
 
-  why-is : why ≡ or_else (asked 1 (leb most_file (length out) && leb lines_size (length lines)) 0) (file_refusal (mended f))
+  abbrev long : Refusal
+  long = asked 1 (leb most_file (length out) && leb lines_size (length lines)) 0
+
+  why-is : why ≡ or_else long (file_refusal (mended f))
   unfolding mend_given
   why-is = file.mend_refusal (mended f) (length out) (length lines)
 
-  refused-is : (k c : ℕ) → why ≡ record { number = suc k; cell = c } → Mends f out out lines lines (Refused (suc k) c)
+  -- a refusal handed on, which is that of the call
+  refused-is : (r e : Refusal) (y : Result Mended Refusal) → Err e ≡ passed r → IsErrAnd y (λ d. d ≡ e) → (¬ (r.number ≡ 0) → r ≡ why) → Mends f out out lines lines y
   unfolding mended_of file_after lines_after file_size lines_length
-  refused-is k c e = record { answers = rw (e, ne_eqb (suc k) 0 (omega arith)) refl; bytes = refl; told = refl; suffices = (omega arith, omega arith) }
+  refused-is r e y h p same =
+      let n = (refused_by r tt e h).1 in
+      let m : Mended = record { file = length (mended f); lines = length (lines_of f) } in
+      let a : y ≡ answered r m = answers_err m r e y h p in
+      let q : y ≡ Err r = a ∙ answered_some r m n in
+      record { answers = a ∙ ap (λ (x : Refusal). answered x m) (same n); bytes = rw q refl; told = rw q refl; suffices = rw q (omega arith, omega arith) }
 
   -- an output is too short
-  pub refused_short : leb most_file (length out) && leb lines_size (length lines) ≡ false → Mends f out out lines lines (Refused 1 0)
-  unfolding asked
-  refused_short e = refused-is 0 0 (why-is ∙ rw e (first_some (record { number = 1; cell = 0 }) (file_refusal (mended f)) (omega arith)))
+  pub refused_short : (e : Refusal) (y : Result Mended Refusal) → Err e ≡ passed long → IsErrAnd y (λ d. d ≡ e) → Mends f out out lines lines y
+  refused_short e y h p = refused-is long e y h p (λ n. sym (why-is ∙ first_some long (file_refusal (mended f)) n))
+
+  pub long_enough : (u : ⊤) → Ok u ≡ passed long → (most_file ≤ length out) × (lines_size ≤ length lines)
+  long_enough u h = (both (says_le most_file (length out)) (says_le lines_size (length lines))).read (asked_yes 0 _ 0 (passes long u h))
 
   module _ (a : most_file ≤ length out) (b : lines_size ≤ length lines) where
     why-read : why ≡ would_get (mended f)
@@ -195,51 +188,28 @@ module _ (f out lines : List ℕ) where
     why-read = why-is ∙ rw (le-leb most_file (length out) a, le-leb lines_size (length lines) b) (none_first (file_refusal (mended f))) ∙ sym (would_get-is (mended f))
 
     -- the mended file is refused
-    pub refused-mended : (r : Refusal) → r ≡ would_get (mended f) → ¬ (r.number ≡ 0) → Mends f out out lines lines (Refused r.number r.cell)
-    refused-mended r e n = go r e n
-      where
-        positive : (k c : ℕ) → r ≡ record { number = k; cell = c } → ¬ (k ≡ 0) → Mends f out out lines lines (Refused k c)
-        positive zero c q m = absurd (m refl)
-        positive (suc k) c q m = refused-is k c (why-read ∙ sym e ∙ q)
-
-        go : (s : Refusal) → s ≡ would_get (mended f) → ¬ (s.number ≡ 0) → Mends f out out lines lines (Refused r.number r.cell)
-        go s u m = positive r.number r.cell refl n
+    pub refused-mended : (e : Refusal) (y : Result Mended Refusal) → Err e ≡ answer_of (reading_of (mended f) most_cells) → IsErrAnd y (λ d. d ≡ e) → Mends f out out lines lines y
+    refused-mended e y h p = refused-is (would_get (mended f)) e y (err_passes (would_get (mended f)) _ e (h ∙ read_answer (mended f) most_cells)) p (λ n. sym why-read)
 
     -- the file itself, by 2 to 4
-    pub refused_early : (p : Reading) → p ≡ reading_of f most_cells → between 2 4 p.refusal.number ≡ true → Mends f out out lines lines (Refused p.refusal.number p.refusal.cell)
-    refused_early p e t =
-        let n = read_number f p e in
-        let h = holds (both (says_le 2 p.refusal.number) (says_le p.refusal.number 4)) t in
-        let u : between 2 4 (would_get f).number ≡ true = rw n at t in
-        let m : mended f ≡ f = (mend_unframed f (unframed f u)).0 in
-        refused-mended p.refusal (read-refused f p e (λ x. omega (arith, h.0)) ∙ ap would_get (sym m)) (λ x. omega (arith, h.0))
+    pub refused_early : (e : Refusal) (y : Result Mended Refusal) → Err e ≡ passed (formed_refusal f) → IsErrAnd y (λ d. d ≡ e) → Mends f out out lines lines y
+    refused_early e y h p =
+        refused-is (formed_refusal f) e y h p (λ n.
+        let (u, s) = formed_stops f n in
+        s ∙ ap would_get (sym (mend_unframed f u).0) ∙ sym why-read)
 
     -- it is accepted
-    pub written : between 2 4 (would_get f).number ≡ false → (p : Reading) → p ≡ reading_of (mended f) most_cells → p.refusal.number ≡ 0
+    pub written : between 2 4 (would_get f).number ≡ false → (p : PlanFile) → Ok p ≡ answer_of (reading_of (mended f) most_cells)
         → {o' l' : List ℕ} {k : ℕ} → o' ≡ mended f ++ drop (length (mended f)) out → Put lines 0 (lines_of f) l' k → k ≤ lines_size
-        → Mends f out o' lines l' (Written (length f) k)
+        → Mends f out o' lines l' (Ok (record { file = length f; lines = k }))
     unfolding mended_of file_after lines_after file_size lines_length
-    written z p e n {o'} {l'} {k} u v s =
+    written z p e {o'} {l'} {k} u v s =
         let m = mended-length f z in
         let q : k ≡ length (lines_of f) = omega (arith, v.place) in
-        let w : why.number ≡ 0 = ap (λ (r : Refusal). r.number) why-read ∙ sym (read_number (mended f) p e) ∙ n in
+        let w : why.number ≡ 0 = ap (λ (r : Refusal). r.number) why-read ∙ not_refused (would_get (mended f)) _ p (e ∙ read_answer (mended f) most_cells) in
         record {
-          answers = rw (eq-eqb why.number 0 w, m, q) refl;
+          answers = rw (m, q) (sym (answered_none why _ w));
           bytes = rw m at u;
           told = rw q (put_whole (lines_of f) v (omega arith));
           suffices = (size_fits f z, s);
         }
-
--- ---- an output too short, and 2 to 4 answered yes, as the code has it
-pub short_output : (o l : ℕ) → o < most_file → leb most_file o && leb lines_size l ≡ false
-short_output o l h = rw (lt-leb most_file o h) refl
-
-pub short_lines : (o l : ℕ) → l < lines_size → leb most_file o && leb lines_size l ≡ false
-short_lines o l h = rw (lt-leb lines_size l h) (go (leb most_file o))
-  where
-    go : (b : Bool) → b && false ≡ false
-    go true = refl
-    go false = refl
-
-pub let_on : (f : List ℕ) (p : Reading) → p ≡ reading_of f most_cells → between 2 4 p.refusal.number ≡ false → between 2 4 (would_get f).number ≡ false
-let_on f p e h = rw (read_number f p e) at h

@@ -97,6 +97,27 @@ unframed f e = go (framed f) (sym (refused-framed f) ∙ e)
     go true q = sym q
     go false q = refl
 
+-- the three questions as code puts them
+formed_no : (a b c : Bool) → ¬ ((or_else (asked 2 a 0) (or_else (asked 3 b 0) (asked 4 c 0))).number ≡ 0) → (a && (b && c)) ≡ false
+unfolding asked or_else
+formed_no false b c n = refl
+formed_no true false c n = refl
+formed_no true true false n = refl
+formed_no true true true n = absurd (n refl)
+
+pub formed_stops : (f : List ℕ) → ¬ ((formed_refusal f).number ≡ 0) → (framed f ≡ false) × (formed_refusal f ≡ would_get f)
+unfolding file_refusal header_refusal
+formed_stops f n =
+    let e : header_refusal f ≡ formed_refusal f = first_some (formed_refusal f) _ n in
+    let k : file_refusal f ≡ formed_refusal f = first_some (header_refusal f) (body_refusal f) (λ q. n (ap (λ (r : Refusal). r.number) (sym e) ∙ q)) ∙ e in
+    (unfold formed_refusal in formed_no _ _ _ n, sym (would_get-is f ∙ k))
+
+pub formed_on : (f : List ℕ) → (formed_refusal f).number ≡ 0 → between 2 4 (would_get f).number ≡ false
+unfolding file_refusal header_refusal
+formed_on f z =
+    let a : Late (header_refusal f) = ap (λ (r : Refusal). between 2 4 r.number) (first-none (formed_refusal f) _ z) ∙ late_asked 5 _ 0 refl in
+    ap (λ (r : Refusal). between 2 4 r.number) (would_get-is f) ∙ late_else _ _ a (body_late f)
+
 -- ---- the cells looked at
 pub looked_all : (f : List ℕ) → framed f ≡ true → looked_at f ≡ (trailer_of f).count
 unfolding looked_at

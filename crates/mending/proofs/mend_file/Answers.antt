@@ -1,7 +1,7 @@
 use mathlib.Core.Path.{sym}
 use native.Mathlib.Omega.{arith}
 use lib.Seq.{length-take-le}
-use Rattle.mending.proofs.Laws.Code.{size_fits, trailer_there, records_there, copy-taken, mended-length, refused-mended, read-refused, lines-whole, written}
+use Rattle.mending.proofs.Laws.Code.{size_fits, trailer_there, records_there, copy-taken, mended-length, refused-mended, lines-whole, written}
 use Rattle.mending.proofs.mend_file.Goals as goal
 
 pub mended_copy-bytes-requires : goal.mended_copy-bytes-requires
@@ -13,8 +13,8 @@ slice_bounds-bytes-end c = let h = size_fits _ c.requires.0 in omega (arith, h)
 pub slice_bounds-read-end : goal.slice_bounds-read-end
 slice_bounds-read-end c = let h = size_fits _ c.requires.0 in sym (length-take-le _ _ (omega (arith, h)))
 
-pub returns-then-refusal-ne0 : goal.returns-then-refusal-ne0
-returns-then-refusal-ne0 c = let t = copy-taken _ c.requires.0 c.mended_copy-bytes.ensures in refused-mended _ _ _ c.requires.1 c.requires.2 _ (read-refused _ _ (rw t at c.read-after.ensures) c.if-refusal-ne0.true) c.if-refusal-ne0.true
+pub returns-in_err-read : goal.returns-in_err-read
+returns-in_err-read c = let t = copy-taken _ c.requires.0 c.mended_copy-bytes.ensures in refused-mended _ _ _ c.requires.1 c.requires.2 _ _ (rw t at c.in_err-read.ensures) c.from_residual.ensures.1
 
 pub slice_bounds-bytes-end-2 : goal.slice_bounds-bytes-end-2
 slice_bounds-bytes-end-2 c = let h = size_fits _ c.requires.0 in omega (arith, h)
@@ -32,4 +32,4 @@ pub put_lines-length-requires : goal.put_lines-length-requires
 put_lines-length-requires c = let h = records_there _ c.requires.0 c.trailer-t.ensures c.form_of-form.ensures in (h.0, h.1, c.requires.2)
 
 pub returns : goal.returns
-returns c = let z = c.requires.0 in let t = copy-taken _ z c.mended_copy-bytes.ensures in let h = records_there _ z c.trailer-t.ensures c.form_of-form.ensures in let e = c.put_lines-length.ensures in written _ _ _ c.requires.1 c.requires.2 z _ (rw t at c.read-after.ensures) c.if-refusal-ne0.false (rw t at c.copy.ensures) (lines-whole _ z c.trailer-t.ensures c.form_of-form.ensures e.0) (omega (arith, h.0, e.1))
+returns c = let z = c.requires.0 in let t = copy-taken _ z c.mended_copy-bytes.ensures in let h = records_there _ z c.trailer-t.ensures c.form_of-form.ensures in let e = c.put_lines-length.ensures in written _ _ _ c.requires.1 c.requires.2 z _ (rw t at c.in_ok-read.ensures) (rw t at c.copy.ensures) (lines-whole _ z c.trailer-t.ensures c.form_of-form.ensures e.0) (omega (arith, h.0, e.1))

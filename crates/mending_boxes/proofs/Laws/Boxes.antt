@@ -12,8 +12,9 @@ use Rattle.plan.specs.Steps.{cell_refusal}
 use Rattle.plan.proofs.Laws.Steps.{cell-passed, sized-deep}
 use Rattle.plan.specs.declared.Record.{Record}
 use Rattle.plan.specs.declared.forms.Form.{Form}
-use Rattle.plan.specs.declared.kinds.Lookup.{Lookup}
-use Rattle.plan.specs.declared.kinds.Lookup.TheVariants.{Known, Unknown}
+use Rattle.std.specs.Prelude.{Option}
+use Rattle.plan.specs.declared.kinds.Kind.{Kind}
+use Rattle.std.specs.Prelude.{Some, None}
 use Rattle.planfile_spec.specs.FileSteps.{inside, record_refusal}
 use Rattle.mending_boxes.specs.Boxes.{least_width, mendable, cramped, shallow, narrow, flat, new_width, new_depth, changed}
 
@@ -33,9 +34,9 @@ pub least_held : (k n w : ℕ) → T (bordered k n w) → least_width k n ≤ w
 unfolding least_width bordered
 least_held k n w h = go (about k) h
   where
-    go : (l : Lookup) → T (elim l [ Known r ↦ leb (n + r.border) w | Unknown ↦ false ]) → elim l [ Known r ↦ n + r.border | Unknown ↦ 0 ] ≤ w
-    go (Known r) h = leb→le _ w h
-    go Unknown h = absurd h
+    go : (l : Option Kind) → T (elim l [ Some r ↦ leb (n + r.border) w | None ↦ false ]) → elim l [ Some r ↦ n + r.border | None ↦ 0 ] ≤ w
+    go (Some r) h = leb→le _ w h
+    go None h = absurd h
 
 pub says_cramped : (k n w : ℕ) → Says (cramped k n w) (T (mendable k n) × (w < least_width k n))
 unfolding cramped

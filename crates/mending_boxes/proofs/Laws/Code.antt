@@ -13,8 +13,8 @@ use Rattle.plan.specs.declared.Record.{Record}
 use Rattle.plan.specs.declared.forms.Form.{Form}
 use Rattle.plan.specs.declared.forms.Form.TheVariants.{Old, Wide}
 use Rattle.plan.specs.declared.kinds.Kind.{Kind}
-use Rattle.plan.specs.declared.kinds.Lookup.{Lookup}
-use Rattle.plan.specs.declared.kinds.Lookup.TheVariants.{Known}
+use Rattle.std.specs.Prelude.{Option}
+use Rattle.std.specs.Prelude.{Some}
 use Rattle.planfile_spec.specs.Fields.{set_number, width_place, depth_place}
 use Rattle.planfile_spec.specs.Format.{form, record_at}
 use Rattle.mending_boxes.specs.Boxes.{least_width, narrow, flat, new_width, new_depth}
@@ -23,9 +23,9 @@ use Rattle.mending_boxes.proofs.Laws.Boxes.{least_small, says_cramped, mendable_
 use Rattle.mending_boxes.proofs.Laws.Bytes.{mends_length}
 
 -- ---- one box
-pub least_known : (k n : ℕ) (l : Lookup) (r : Kind) → l ≡ about k → l ≡ Known r → n + r.border ≡ least_width k n
+pub least_known : (k n : ℕ) (l : Option Kind) (r : Kind) → l ≡ about k → l ≡ Some r → n + r.border ≡ least_width k n
 unfolding least_width
-least_known k n l r e q = let d : about k ≡ Known r = sym e ∙ q in rw (d, least_width)
+least_known k n l r e q = let d : about k ≡ Some r = sym e ∙ q in rw (d, least_width)
 
 module _ (r : Record) where
   pub new_width-raised : {w : ℕ} → narrow r ≡ true → w ≡ least_width r.kind r.label_length → w ≡ new_width r

@@ -1,18 +1,19 @@
+use mathlib.Core.Path.{refl}
 use native.Mathlib.Omega.{arith}
 use Rattle.planfile_spec.specs.Fields.{set_number, depth_place}
 use Rattle.mending_boxes.proofs.Laws.Code.{old_room, wide_room}
 use Rattle.mending_boxes.proofs.put_depth.Goals as goal
 
-pub put-requires : goal.put-requires
-put-requires c = let h = old_room _ c.in-Old.is c.requires in omega (arith, h)
+pub bounds-out-at : goal.bounds-out-at
+bounds-out-at c = let h = old_room _ c.in-Old.is c.requires in omega (arith, h)
 
-pub put-requires-in-Wide : goal.put-requires-in-Wide
-put-requires-in-Wide c = let h = wide_room _ c.in-Wide.is c.requires in omega (arith, h)
+pub bounds-out-at-in-Wide : goal.bounds-out-at-in-Wide
+bounds-out-at-in-Wide c = let h = wide_room _ c.in-Wide.is c.requires in omega (arith, h)
 
 pub returns-in-Old : goal.returns-in-Old
 unfolding set_number depth_place
-returns-in-Old c = rw c.in-Old.is c.put.ensures
+returns-in-Old c = rw c.in-Old.is refl
 
 pub returns-in-Wide : goal.returns-in-Wide
 unfolding set_number depth_place
-returns-in-Wide c = rw c.in-Wide.is c.put-in-Wide.ensures
+returns-in-Wide c = rw c.in-Wide.is refl

@@ -4,4 +4,4 @@ use Rattle.mending_boxes.proofs.put_pair.Goals as goal
 
 pub returns : goal.returns
 unfolding set_pair
-returns c = rw (c.put-2.ensures, c.put.ensures) refl
+returns c = refl

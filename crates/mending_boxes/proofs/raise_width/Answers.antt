@@ -8,5 +8,5 @@ put_width-requires c = (least-byte c.args.r (sym c.cramped.ensures ∙ c.if-cram
 pub returns-then-cramped : goal.returns-then-cramped
 returns-then-cramped c = width-put _ _ _ _ (sym c.cramped.ensures ∙ c.if-cramped.true) c.least_width.ensures c.put_width.ensures
 
-pub returns : goal.returns
-returns c = width-kept _ _ _ _ (sym c.cramped.ensures ∙ c.if-cramped.false)
+pub returns-else-cramped : goal.returns-else-cramped
+returns-else-cramped c = width-kept _ _ _ _ (sym c.cramped.ensures ∙ c.if-cramped.false)

@@ -1,38 +1,38 @@
 -- The outline of a plan file, as the code comes to it. Assumes nothing.
-use Rattle.std.specs.Prelude.{◌≡◌, length, get_or, take, drop}
+use Rattle.std.specs.Prelude.{◌≡◌, length, get_or, take, drop, Ok, Err, IsErrAnd}
 use Rattle.std.proofs.Math.Path.{refl, ap}
 use Rattle.std.proofs.Common.{sym, ◌∙◌, length-append}
 use mathlib.Core.List.{List, [], ◌∷◌, ◌++◌, map, append_assoc}
 use Prim.Native.Nat.{ℕ, zero, suc, ◌+◌, ◌*◌, ◌≤◌, ◌<◌}
 use native.Mathlib.Omega.{arith}
 use Rattle.std.proofs.Math.Decide.{ℕ_discrete}
-use borrow.Author.Tests.{eq-eqb, ne_eqb, le-leb, lt-leb}
+use borrow.Author.Tests.{le-leb, lt-leb}
 use Rattle.std.proofs.lemmas.List.Edits.{sets-eq}
 use Rattle.plan.specs.Limits.{most_cells, most_file, trailer_size}
 use Rattle.plan.specs.Lists.{from}
 use Rattle.plan.specs.Records.{bare}
 use Rattle.plan.specs.declared.Refusal.{Refusal}
-use Rattle.planfile_spec.specs.declared.Reading.{Reading}
+use Rattle.planfile_spec.specs.Read.{Reading, plan_of, answer_of}
+use Rattle.planfile_spec.proofs.Laws.Answer.{read_answer, err_passes}
+use Rattle.plan.proofs.Laws.Answered.{answered_none, answered_some, refused_by, answers_err}
 use Rattle.planfile_spec.specs.Format.{trailer_of, records_of}
 use Rattle.planfile_spec.specs.Reading.{reading_of}
 use Rattle.records.specs.Apart.{row_at, records_in}
 use Rattle.listing.specs.Printed.{Bytes, line_feed}
 use Rattle.listing.specs.Put.{Put}
 use Rattle.listing.proofs.Laws.Put.{then}
-use Rattle.content.specs.Content.{Item, text_of, item_of, content, letters_of, file_content}
+use Rattle.content.specs.Content.{Item, item_of, content, letters_of, file_content}
 use Rattle.content.specs.Clean.{copy_refusal}
 use Rattle.content.proofs.Promised.{read_copied}
 use Rattle.content.proofs.Laws.Promised.{copy_passed}
-use Rattle.copying.proofs.Laws.Cleaned.{lettered, why, refused_reading, passed_reading, none-refused, plan_allowance, plan-records, passes, headed}
+use Rattle.copying.proofs.Laws.Cleaned.{lettered, why, plan, passed_reading, plan_allowance, plan-records, passes, headed}
 use Rattle.copying.proofs.Laws.Written.{map_last, map-map, steps_are, steps_ready}
 use Rattle.outline_spec.specs.Outline.{level_under, indent, cell_line, cell_lines, first_line, ended, outline_lines, outline}
 use Rattle.outline_spec.specs.Understood.{most_byte}
 use Rattle.outline_spec.proofs.Laws.Back.{Writable, AllWritable}
 use Rattle.outline_spec.proofs.Laws.Accepted.{table_writable, file_ranks}
-use Rattle.outline.specs.declared.Outlined.TheVariants.{Written, Refused}
-use Rattle.outline.specs.declared.Outlined.{Outlined}
-use Rattle.outline.specs.Outlined.{outline_size, outlined_by, outlined_of, outlined_after, size, Outlines}
-use Rattle.outline.specs.Steps.{item_from, levels_of, lines_of, Ready, Outlining}
+use Rattle.outline.specs.Outlined.{Outlined, outline_size, outlined_by, outlined_of, outlined_after, size, Outlines}
+use Rattle.outline.specs.Steps.{item_at, levels_of, lines_of, Ready, Outlining}
 use Rattle.outline.proofs.Laws.Cells.{lines_short}
 
 -- ---- lists that grow at the end
@@ -102,20 +102,18 @@ put_front a s b k p l =
     (omega (arith, p.place), p.bytes ∙ sets-eq s a 0 e ∙ ap (λ x. s ++ drop x a) z)
 
 -- ---- a file that Read refuses
-module _ (f : List ℕ) (p : Reading) (e : p ≡ reading_of f most_cells) where
-  refused-is : (r : Refusal) → r ≡ why f → ¬ ((why f).number ≡ 0) → (out : List ℕ) → Outlining f out out (Refused r.number r.cell)
-  unfolding outlined_by outlined_after size
-  refused-is r q z out = record { answers = rw (q, ne_eqb (why f).number 0 z) refl; output = refl; suffices = omega arith }
+pub outline-refused : (f out : List ℕ) (e : Refusal) (y : Outlined) → Err e ≡ answer_of (reading_of f most_cells) → IsErrAnd y (λ d. d ≡ e) → Outlining f out out y
+unfolding outlined_by outlined_after size
+outline-refused f out e y h p =
+    let g = h ∙ read_answer f most_cells in
+    let a = answers_err (length (outline (file_content f))) (why f) e y (err_passes (why f) (plan_of (plan f)) e g) p in
+    let q : y ≡ Err (why f) = a ∙ answered_some (why f) (length (outline (file_content f))) (refused_by (why f) (plan_of (plan f)) e g).1 in
+    record { answers = a; output = rw q refl; suffices = rw q (omega arith) }
 
-  pub outline-refused : ¬ (p.refusal.number ≡ 0) → (out : List ℕ) → Outlining f out out (Refused p.refusal.number p.refusal.cell)
-  outline-refused z out = go (ℕ_discrete (why f).number 0)
-    where
-      go : Dec ((why f).number ≡ 0) → Outlining f out out (Refused p.refusal.number p.refusal.cell)
-      go (yes y) = absurd (z (ap (λ (x : Reading). x.refusal.number) (e ∙ passed_reading f y) ∙ none-refused f))
-      go (no y) = refused-is p.refusal (ap (λ (x : Reading). x.refusal) e ∙ refused_reading f y) y out
-
-  -- ---- a file that Read accepts, whose numbers are bytes
-  module _ (z : p.refusal.number ≡ 0) (bytes : (i : ℕ) → get_or f i 0 ≤ most_byte) where
+-- ---- a file that Read accepts
+module _ (f : List ℕ) (p : Reading) (e : p ≡ reading_of f most_cells) (z : p.refusal.number ≡ 0) where
+  -- its numbers are bytes
+  module _ (bytes : (i : ℕ) → get_or f i 0 ≤ most_byte) where
     abbrev letters : List ℕ
     letters = letters_of f
 
@@ -123,7 +121,7 @@ module _ (f : List ℕ) (p : Reading) (e : p ≡ reading_of f most_cells) where
     al = (trailer_of f).allowance
 
     abbrev item : ℕ → Item
-    item c = item_of letters (row_at (lettered p) c)
+    item = item_at (lettered p) letters
 
     records_are : records_in (lettered p) ≡ records_of f
     records_are = ap (λ (x : Reading). records_in (lettered x)) (e ∙ passed_reading f (passes f p e z)) ∙ plan-records f (passes f p e z)
@@ -138,17 +136,18 @@ module _ (f : List ℕ) (p : Reading) (e : p ≡ reading_of f most_cells) where
     writable : AllWritable 0 [] (map item (from 0 p.columns.count))
     writable = rw items_are at (table_writable (records_of f) letters al (copy_passed (records_of f) letters al most_file copied).1 (λ a h. file_ranks f bytes a))
 
-    pub ready : Ready item p.label_length p.label_start p.columns.count (length letters)
+    brief_each : (c : ℕ) → c < p.columns.count → length (cell_line (levels_of item c) (item c)) ≤ 255
+    brief_each c h = (writable_each item p.columns.count writable c h).short
+
+    low_each : (c : ℕ) → c < p.columns.count → level_under (levels_of item c) (row_at (lettered p) c).parent ≤ 127
+    unfolding item_of bare
+    low_each c h = level_low (levels_of item c) (item c) (brief_each c h)
+
+    ready : Ready (lettered p) letters
     ready =
         let s : (copy_refusal (records_in (lettered p)) letters al most_file).number ≡ 0 = rw records_are copied in
         let t = (steps_ready (lettered p) letters al most_file (ap (λ (x : Refusal). x.number) (steps_are (lettered p) letters al most_file) ∙ s)).0 in
-        record {
-          few = t.few;
-          low = λ c h. level_low (levels_of item c) (item c) (writable_each item p.columns.count writable c h).short;
-          brief = λ c h. (writable_each item p.columns.count writable c h).short;
-          short = t.short;
-          within = t.within;
-        }
+        record { few = t.few; low = low_each; brief = brief_each; short = t.short; within = t.within }
 
     text-is : (first_line al ++ (line_feed ∷ [])) ++ lines_of item p.columns.count ≡ outline (file_content f)
     unfolding outline outline_lines file_content content ended
@@ -159,40 +158,37 @@ module _ (f : List ℕ) (p : Reading) (e : p ≡ reading_of f most_cells) where
     allowance_is : p.allowance ≡ al
     allowance_is = ap (λ (x : Reading). x.allowance) (e ∙ passed_reading f (passes f p e z)) ∙ plan_allowance f
 
-    written_is : (out out' : List ℕ) (k : ℕ) → Put out 0 (outline (file_content f)) out' k → length (outline (file_content f)) ≤ outline_size → outline_size ≤ length out → Outlining f out out' (Written k)
+    written_is : (out out' : List ℕ) (k : ℕ) → Put out 0 (outline (file_content f)) out' k → length (outline (file_content f)) ≤ outline_size → outline_size ≤ length out → Outlining f out out' (Ok k)
     unfolding outlined_by outlined_after size
     written_is out out' k q m h =
         let (a, b) = put_front out (outline (file_content f)) out' k q (omega arith) in
-        record { answers = rw (eq-eqb (why f).number 0 (passes f p e z), a) refl; output = rw (a, b) refl; suffices = omega (arith, a) }
+        record { answers = rw a (sym (answered_none (why f) (length (outline (file_content f))) (passes f p e z))); output = rw (a, b) refl; suffices = omega (arith, a) }
 
     -- as the code has the label bytes
-    pub outline_ready : (letters' : List ℕ) → letters' ≡ take (trailer_of f).begin f
-        → Ready (item_from p.columns.parent p.columns.kind p.columns.width p.columns.depth p.columns.rank p.label_length p.label_start letters') p.label_length p.label_start p.columns.count (length letters')
-    unfolding letters_of item_of text_of bare
+    pub outline_ready : (letters' : List ℕ) → letters' ≡ take (trailer_of f).begin f → Ready (lettered p) letters'
+    unfolding letters_of
     outline_ready letters' q = rw q ready
 
     pub outline-written : (letters' out mid out' : List ℕ) (a i k : ℕ) → letters' ≡ take (trailer_of f).begin f → a ≡ p.allowance → outline_size ≤ length out → Put out 0 (first_line a ++ (line_feed ∷ [])) mid i → i ≤ 31
-        → Put mid i (lines_of (item_from p.columns.parent p.columns.kind p.columns.width p.columns.depth p.columns.rank p.label_length p.label_start letters') p.columns.count) out' k
-        → Outlining f out out' (Written k)
-    unfolding letters_of item_of text_of bare
+        → Put mid i (lines_of (item_at (lettered p) letters') p.columns.count) out' k → Outlining f out out' (Ok k)
+    unfolding letters_of
     outline-written letters' out mid out' a i k q r h one low two =
         let first : Put out 0 (first_line al ++ (line_feed ∷ [])) mid i = rw (r ∙ allowance_is) at one in
         let rest : Put mid i (lines_of item p.columns.count) out' k = rw q at two in
         let whole : Put out 0 (outline (file_content f)) out' k = rw text-is at (then first rest) in
-        let n = lines_short item p.label_length p.label_start p.columns.count (length letters) ready p.columns.count (omega arith) in
+        let n = lines_short (lettered p) letters ready p.columns.count (omega arith) in
         let few : p.columns.count ≤ most_cells = ready.few in
         written_is out out' k whole (omega (arith, whole.place, rest.place, n, few, low)) h
 
   -- the parts of a file that is read
-  module _ (z : p.refusal.number ≡ 0) where
-    pub outline-long : trailer_size ≤ length f
-    outline-long = omega (arith, (headed f (passes f p e z)).long)
+  pub outline-long : trailer_size ≤ length f
+  outline-long = omega (arith, (headed f (passes f p e z)).long)
 
-    pub outline-begin : (trailer_of f).begin ≤ length f
-    outline-begin = omega (arith, (headed f (passes f p e z)).full.exact)
+  pub outline-begin : (trailer_of f).begin ≤ length f
+  outline-begin = omega (arith, (headed f (passes f p e z)).full.exact)
 
 -- ---- question 1
-pub outline_short : (f out : List ℕ) → length out < outline_size → Outlines f out out (Refused 1 0)
+pub outline_short : (f out : List ℕ) → length out < outline_size → Outlines f out out (Err (record { number = 1; cell = 0 }))
 unfolding outlined_of outlined_after size
 outline_short f out h = record { answers = rw (lt-leb outline_size (length out) h) refl; output = refl; suffices = omega arith }
 

@@ -1,12 +1,15 @@
 -- The parts as the code writes them. Assumes nothing.
-use Rattle.std.specs.Prelude.{◌≡◌, refl, List, [], ◌∷◌, ◌++◌, cond, ℕ, zero, suc, ◌+◌, ◌*◌, ◌≤◌, ◌<◌, ltb, length, get_or, take, drop}
-use Rattle.std.proofs.Common.{ap, ◌∙◌, append_assoc, arith, add-one, drop_of_length-le, length-take-le, get_or-take, drop-cons, eq-eqb, ne_eqb, lt-ltb, le-ltb}
+use Rattle.std.specs.Prelude.{◌≡◌, refl, List, [], ◌∷◌, ◌++◌, cond, ℕ, zero, suc, ◌+◌, ◌-◌, ◌*◌, ◌≤◌, ◌<◌, ltb, length, get_or, take, drop}
+use Rattle.std.proofs.Common.{ap, ◌∙◌, append_assoc, arith, add-one, drop_of_length-le, drop-cons, eq-eqb, ne_eqb, lt-ltb, le-ltb}
 use Rattle.std.proofs.Math.Seq.{length-sets}
 use Rattle.plan.specs.Limits.{no_parent}
 use Rattle.plan.specs.Kinds.{about}
 use Rattle.plan.specs.declared.kinds.Kind.{Kind}
-use Rattle.plan.specs.declared.kinds.Lookup.{Lookup}
-use Rattle.plan.specs.declared.kinds.Lookup.TheVariants.{Known, Unknown}
+use Rattle.std.specs.Prelude.{Option}
+use Rattle.std.specs.Prelude.{Some, None}
+use Rattle.plan.specs.Records.{bare}
+use Rattle.plan.specs.declared.Record.{Record}
+use Rattle.content.specs.Content.{item_of, text_of}
 use Rattle.listing.specs.Printed.{Bytes, decimal}
 use Rattle.listing.specs.Put.{Put}
 use Rattle.listing.proofs.Laws.Put.{then, put-none}
@@ -26,8 +29,8 @@ pub indent-none : (a : List ℕ) (at : ℕ) → Put a at (indent 0) a at
 unfolding indent
 indent-none a at = put-none a at
 
-pub indent-put : {a b d e : List ℕ} {at next half end : ℕ} (i : ℕ) → Put a at (indent i) b next → Put b next (32 ∷ []) d half → Put d half (32 ∷ []) e end → Put a at (indent (i + 1)) e end
-indent-put i p q r = rw (add-one, ← indent-more i) (then p (then q r))
+pub indent-put : {a b d : List ℕ} {at next end : ℕ} (i : ℕ) → Put a at (indent i) b next → Put b next (32 ∷ 32 ∷ []) d end → Put a at (indent (i + 1)) d end
+indent-put i p q = rw (add-one, ← indent-more i) (then p q)
 
 indent-length : (l : ℕ) → length (indent l) ≡ 2 * l
 unfolding indent
@@ -47,9 +50,10 @@ unfolding field unless
 field_put w u v n p q = rw (ne_eqb v u n) (then p q)
 
 -- ---- a label
-pub label-none : (a : List ℕ) (at size : ℕ) (t : Bytes) → size ≡ 0 → Put a at (label (take size t)) a at
+pub label-none : (a : List ℕ) (at : ℕ) (t : Bytes) → length t ≡ 0 → Put a at (label t) a at
 unfolding label
-label-none a at size t e = rw e (put-none a at)
+label-none a at [] e = put-none a at
+label-none a at (b ∷ t) e = absurd (omega arith)
 
 label_is : (t : Bytes) → ¬ (length t ≡ 0) → label t ≡ label_word ++ (t ++ (quote ∷ []))
 unfolding label
@@ -60,38 +64,41 @@ pub label-put : {a b c d : List ℕ} {at start close end : ℕ} (t : Bytes) → 
 label-put t n p q r = rw (label_is t n) (then p (then q r))
 
 -- ---- levels
-pub under-lower : (levels : List ℕ) (c p : ℕ) → c ≤ length levels → p < c → level_under (take c levels) p ≡ suc (get_or levels p 0)
+pub under-lower : (seen : List ℕ) (p : ℕ) → p < length seen → get_or seen p 0 + 1 ≡ level_under seen p
 unfolding level_under
-under-lower levels c p h l = rw (length-take-le c levels h, lt-ltb p c l, get_or-take c levels p 0 l) refl
+under-lower seen p l = rw (add-one, lt-ltb p (length seen) l) refl
 
-pub under_none : (levels : List ℕ) (c p : ℕ) → c ≤ length levels → c ≤ p → level_under (take c levels) p ≡ 0
+pub under_none : (seen : List ℕ) (p : ℕ) → length seen ≤ p → 0 ≡ level_under seen p
 unfolding level_under
-under_none levels c p h l = rw (length-take-le c levels h, le-ltb p c l) refl
+under_none seen p l = rw (le-ltb p (length seen) l) refl
 
 -- what the loop has still to look at, from i on
-pub less_start : (levels : List ℕ) (c l : ℕ) → nearest l (take c levels) ≡ last_less l 0 no_parent (drop 0 (take c levels))
+pub less_start : (seen : List ℕ) (l : ℕ) → nearest l seen ≡ last_less l 0 no_parent (drop 0 seen)
 unfolding nearest
-less_start levels c l = refl
+less_start seen l = refl
 
-pub less_more : (levels : List ℕ) (c l i best m : ℕ) → c ≤ length levels → i < c → m ≡ get_or levels i 0
-    → last_less l i best (drop i (take c levels)) ≡ last_less l (i + 1) (cond (ltb m l) i best) (drop (i + 1) (take c levels))
+less_more : (seen : List ℕ) (l i best : ℕ) → i < length seen → last_less l i best (drop i seen) ≡ last_less l (i + 1) (cond (ltb (get_or seen i 0) l) i best) (drop (i + 1) seen)
 unfolding last_less
-less_more levels c l i best m h k e =
-    let n : i < length (take c levels) = rw (length-take-le c levels h) k in
-    rw (add-one, drop-cons (take c levels) i 0 n, get_or-take c levels i 0 k, ← e, last_less) refl
+less_more seen l i best n = rw (add-one, drop-cons seen i 0 n, last_less) refl
 
-pub less_end : (levels : List ℕ) (c l i best : ℕ) → c ≤ length levels → c ≤ i → last_less l i best (drop i (take c levels)) ≡ best
+pub less_here : (seen : List ℕ) (l i best : ℕ) → i < length seen → get_or seen i 0 < l → last_less l i best (drop i seen) ≡ last_less l (i + 1) i (drop (i + 1) seen)
+less_here seen l i best n h = less_more seen l i best n ∙ ap (λ b. last_less l (i + 1) (cond b i best) (drop (i + 1) seen)) (lt-ltb (get_or seen i 0) l h)
+
+pub less_not : (seen : List ℕ) (l i best : ℕ) → i < length seen → l ≤ get_or seen i 0 → last_less l i best (drop i seen) ≡ last_less l (i + 1) best (drop (i + 1) seen)
+less_not seen l i best n h = less_more seen l i best n ∙ ap (λ b. last_less l (i + 1) (cond b i best) (drop (i + 1) seen)) (le-ltb (get_or seen i 0) l h)
+
+pub less_end : (seen : List ℕ) (l i best : ℕ) → length seen ≤ i → last_less l i best (drop i seen) ≡ best
 unfolding last_less
-less_end levels c l i best h k = rw (drop_of_length-le (take c levels) {i = i} (omega (arith, length-take-le c levels h))) refl
+less_end seen l i best h = rw (drop_of_length-le seen {i = i} h) refl
 
 -- ---- the width that a label needs
-pub border-known : (k : ℕ) (x : Lookup) (r : Kind) → x ≡ about k → x ≡ Known r → border k ≡ r.border
+pub border-known : (k : ℕ) (x : Option Kind) (r : Kind) → x ≡ about k → x ≡ Some r → border k ≡ r.border
 unfolding border
-border-known k x r e f = let g : about k ≡ Known r = cc in rw (g, border) refl
+border-known k x r e f = let g : about k ≡ Some r = cc in rw (g, border) refl
 
-pub border_unknown : (k : ℕ) (x : Lookup) → x ≡ about k → x ≡ Unknown → border k ≡ 0
+pub border_unknown : (k : ℕ) (x : Option Kind) → x ≡ about k → x ≡ None → border k ≡ 0
 unfolding border
-border_unknown k x e f = let g : about k ≡ Unknown = cc in rw (g, border) refl
+border_unknown k x e f = let g : about k ≡ None = cc in rw (g, border) refl
 
 -- ---- the kinds' words
 pub word_none : (k : ℕ) → ¬ (k ≡ 1) → ¬ (k ≡ 2) → ¬ (k ≡ 3) → ¬ (k ≡ 4) → ¬ (k ≡ 5) → word k ≡ []
@@ -131,12 +138,16 @@ unfolding word
 word_5 k e = rw e refl
 
 -- ---- a line, part after part
-pub line-put : (seen : List ℕ) (l parent kind width depth rank usual above : ℕ) (t : Bytes) {o₀ o₁ o₂ o₃ o₄ o₅ o₆ o₇ o₈ : List ℕ} {a₀ a₁ a₂ a₃ a₄ a₅ a₆ a₇ a₈ : ℕ}
-    → l ≡ level_under seen parent → usual ≡ length t + border kind → above ≡ nearest l seen
-    → Put o₀ a₀ (indent l) o₁ a₁ → Put o₁ a₁ (word kind) o₂ a₂ → Put o₂ a₂ (field width_word (unless usual width)) o₃ a₃ → Put o₃ a₃ (field depth_word (unless 1 depth)) o₄ a₄
-    → Put o₄ a₄ (field rank_word (unless 0 rank)) o₅ a₅ → Put o₅ a₅ (field under_word (unless above parent)) o₆ a₆ → Put o₆ a₆ (label t) o₇ a₇ → Put o₇ a₇ (10 ∷ []) o₈ a₈
-    → Put o₀ a₀ (cell_line seen (record { cell = record { parent = parent; kind = kind; width = width; depth = depth; rank = rank }; text = t }) ++ (10 ∷ [])) o₈ a₈
-unfolding cell_line fields natural
-line-put seen l parent kind width depth rank usual above t e u n p₁ p₂ p₃ p₄ p₅ p₆ p₇ p₈ =
-    rw (← e, ← u, ← n)
+pub text-is : (letters : List ℕ) (r : Record) (start size : ℕ) → start ≡ r.label_start → size ≡ r.label_length → take (start + size - start) (drop start letters) ≡ text_of letters r
+unfolding text_of
+text-is letters r start size e f = let q : start + size - start ≡ size = omega arith in rw (q, f, e) refl
+
+pub line-put : (seen letters : List ℕ) (l usual above : ℕ) (r : Record) (t : Bytes) {o₀ o₁ o₂ o₃ o₄ o₅ o₆ o₇ o₈ : List ℕ} {a₀ a₁ a₂ a₃ a₄ a₅ a₆ a₇ a₈ : ℕ}
+    → t ≡ text_of letters r → l ≡ level_under seen r.parent → usual ≡ length t + border r.kind → above ≡ nearest l seen
+    → Put o₀ a₀ (indent l) o₁ a₁ → Put o₁ a₁ (word r.kind) o₂ a₂ → Put o₂ a₂ (field width_word (unless usual r.width)) o₃ a₃ → Put o₃ a₃ (field depth_word (unless 1 r.depth)) o₄ a₄
+    → Put o₄ a₄ (field rank_word (unless 0 r.rank)) o₅ a₅ → Put o₅ a₅ (field under_word (unless above r.parent)) o₆ a₆ → Put o₆ a₆ (label t) o₇ a₇ → Put o₇ a₇ (10 ∷ []) o₈ a₈
+    → Put o₀ a₀ (cell_line seen (item_of letters r) ++ (10 ∷ [])) o₈ a₈
+unfolding cell_line fields natural item_of bare
+line-put seen letters l usual above r t x e u n p₁ p₂ p₃ p₄ p₅ p₆ p₇ p₈ =
+    rw (← x, ← e, ← u, ← n)
     (simp append_assoc (then p₁ (then p₂ (then p₃ (then p₄ (then p₅ (then p₆ (then p₇ p₈))))))))

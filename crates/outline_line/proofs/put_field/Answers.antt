@@ -5,11 +5,5 @@ use Rattle.outline_line.proofs.put_field.Goals as goal
 pub returns-then-value-usual : goal.returns-then-value-usual
 returns-then-value-usual c = (field-none _ _ _ _ _ c.if-value-usual.true, omega arith)
 
-pub put_text-next-requires : goal.put_text-next-requires
-put_text-next-requires c = omega arith
-
-pub put_decimal-requires : goal.put_decimal-requires
-put_decimal-requires c = omega (arith, c.put_text-next.ensures.place)
-
 pub returns : goal.returns
 returns c = (field_put _ _ _ c.if-value-usual.false c.put_text-next.ensures c.put_decimal.ensures.0, omega (arith, c.put_text-next.ensures.place, c.put_decimal.ensures.1))

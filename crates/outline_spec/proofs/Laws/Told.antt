@@ -19,7 +19,9 @@ use Rattle.listing.proofs.Laws.Printed.{decimal-one, decimal-more}
 use Rattle.content.specs.Content.{Item, Content}
 use Rattle.content.proofs.Laws.Fine.{letter, every-head}
 use Rattle.outline_spec.specs.Outline.{allowance_word, width_word, depth_word, rank_word, under_word, quote, label_word, word, nearest, level_under, border, natural, unless, indent, field, label, fields, cell_line, outline}
-use Rattle.outline_spec.specs.Understood.{Fault, strange_byte, long_line, Number, absent, large, read, Indented, odd, level, Line, cell, wrong, First, no_first, allowed, Cells, faulty, items, Understood, fault, plan, most_line, most_pair, most_byte, after, is_digit, number_from, number, indented, closed, parted, or_usual, numbered, optional, labelled, placed, told, fields_read, kinds, named, clear, line, with_cell, cells, all_read, first, with_allowance, by_lines, lines, understood}
+use Rattle.outline_spec.specs.Understood.{Number, absent, large, read, Indented, odd, level, Line, cell, wrong, First, no_first, allowed, Cells, faulty, items, Understood, fault, plan, most_line, most_pair, most_byte, after, is_digit, number_from, number, indented, closed, parted, or_usual, numbered, optional, labelled, placed, told, fields_read, kinds, named, clear, line, with_cell, cells, all_read, first, with_allowance, by_lines, lines, understood}
+use Rattle.outline_spec.specs.declared.Fault.{Fault}
+use Rattle.outline_spec.specs.declared.Fault.TheVariants.{StrangeByte, LongLine}
 use Rattle.outline_spec.proofs.Laws.Parts.{Most}
 use Rattle.outline_spec.proofs.Laws.Back.{unless-most, unless-same, Writable, AllWritable, understood-back}
 
@@ -212,7 +214,7 @@ module _ (P : Line → Type 0) (faults : (f : Fault) → P (wrong f)) where
   labelled-all rest [] h = h [] (unfold label in omega arith) (λ p. p)
   labelled-all rest (b ∷ t) h = go (after label_word (b ∷ t)) (after_follows label_word (b ∷ t))
     where
-      got : (s : Bytes) → b ∷ t ≡ label_word ++ s → (o : Option Bytes) → Closes s o → P (elim o [ none ↦ wrong Fault.open_label | some x ↦ rest x ])
+      got : (s : Bytes) → b ∷ t ≡ label_word ++ s → (o : Option Bytes) → Closes s o → P (elim o [ none ↦ wrong Fault.OpenLabel | some x ↦ rest x ])
       got s e none q = faults _
       got s e (some x) q =
           let n : length (b ∷ t) ≡ length (label_word ++ s) = ap length e in
@@ -220,7 +222,7 @@ module _ (P : Line → Type 0) (faults : (f : Fault) → P (wrong f)) where
           h x (omega (arith, n, m, length-append x (quote ∷ []), label-most x)) (λ p. printable_first x (quote ∷ []) (rw q at (printable_last label_word s (rw e at p))))
 
       go : (o : Option Bytes) → Follows label_word (b ∷ t) o
-          → P (elim o [ none ↦ wrong Fault.unknown_field | some s ↦ elim (closed s) [ none ↦ wrong Fault.open_label | some x ↦ rest x ] ])
+          → P (elim o [ none ↦ wrong Fault.UnknownField | some s ↦ elim (closed s) [ none ↦ wrong Fault.OpenLabel | some x ↦ rest x ] ])
       go none e = faults _
       go (some s) e = got s e (closed s) (closed-fine s)
 
@@ -326,7 +328,7 @@ module _ (c : ℕ) (seen : List ℕ) (l k : ℕ) (w d q u : Option ℕ) (x : Byt
   unfolding told placed
   told_writes kk a b e f p n = go (lower c (or_usual (nearest l seen) u)) refl (eqb l (level_under seen (or_usual (nearest l seen) u))) refl
     where
-      go : (y : Bool) → lower c (or_usual (nearest l seen) u) ≡ y → (z : Bool) → eqb l (level_under seen (or_usual (nearest l seen) u)) ≡ z → Writes c seen (cond (y && z) (cell l it) (wrong Fault.misplaced))
+      go : (y : Bool) → lower c (or_usual (nearest l seen) u) ≡ y → (z : Bool) → eqb l (level_under seen (or_usual (nearest l seen) u)) ≡ z → Writes c seen (cond (y && z) (cell l it) (wrong Fault.Misplaced))
       go false g z h = tt
       go true g false h = tt
       go true g true h =
@@ -358,14 +360,14 @@ module _ (c : ℕ) (seen : List ℕ) where
       labelled-all (Writes c seen) F _ t₄ (λ x n₅ p₅.
       told_writes c seen l k w d q u x kk a b e f (p₅ (p₄ (p₃ (p₂ (p₁ p))))) (omega arith))))))
 
-  line_clear : (b : Bytes) → ((f : Fault) → Writes c seen (wrong f)) → (Printable b → length b ≤ most_line → Writes c seen (elim (indented 0 b) [ odd ↦ wrong Fault.odd_blanks | level l t ↦ named c seen l kinds t ])) → Writes c seen (line c seen b)
+  line_clear : (b : Bytes) → ((f : Fault) → Writes c seen (wrong f)) → (Printable b → length b ≤ most_line → Writes c seen (elim (indented 0 b) [ odd ↦ wrong Fault.OddBlanks | level l t ↦ named c seen l kinds t ])) → Writes c seen (line c seen b)
   unfolding line clear
   line_clear b g h = go (every letter b) refl (leb (length b) most_line) refl
     where
       go : (y : Bool) → every letter b ≡ y → (z : Bool) → leb (length b) most_line ≡ z
-          → Writes c seen (elim (elim y as (λ v. Option Fault) [ false ↦ some strange_byte | true ↦ elim z [ true ↦ none | false ↦ some long_line ] ]) [
+          → Writes c seen (elim (elim y as (λ v. Option Fault) [ false ↦ some StrangeByte | true ↦ elim z [ true ↦ none | false ↦ some LongLine ] ]) [
             | some f ↦ wrong f
-            | none ↦ elim (indented 0 b) [ odd ↦ wrong Fault.odd_blanks | level l t ↦ named c seen l kinds t ]
+            | none ↦ elim (indented 0 b) [ odd ↦ wrong Fault.OddBlanks | level l t ↦ named c seen l kinds t ]
           ])
       go false e z f = tt
       go true e false f = tt
@@ -374,7 +376,7 @@ module _ (c : ℕ) (seen : List ℕ) where
   line_writes : (b : Bytes) → Writes c seen (line c seen b)
   line_writes b = line_clear b F (λ p n. go p n (indented 0 b) (indented-fine 0 b))
     where
-      go : Printable b → length b ≤ most_line → (x : Indented) → Dents 0 b x → Writes c seen (elim x [ odd ↦ wrong Fault.odd_blanks | level l t ↦ named c seen l kinds t ])
+      go : Printable b → length b ≤ most_line → (x : Indented) → Dents 0 b x → Writes c seen (elim x [ odd ↦ wrong Fault.OddBlanks | level l t ↦ named c seen l kinds t ])
       go p n odd h = tt
       go p n (level l t) h =
           named-all (Writes c seen) F c seen l kinds t (unfold known about in (tt, (tt, (tt, (tt, (tt, tt)))))) (λ k s kk n₁ p₁. fields_writes l k s kk (p₁ (h.1 p)) (omega (arith, h.0)))
@@ -395,7 +397,7 @@ cells_write c seen (b ∷ bs) = go (ltb c most_cells) refl (line c seen b) (line
 
     go : (y : Bool) → ltb c most_cells ≡ y → (x : Line) → Writes c seen x → ((l : ℕ) → WritesAll (suc c) (seen ++ (l ∷ [])) (cells (suc c) (seen ++ (l ∷ [])) bs))
         → WritesAll c seen (elim y [
-          | false ↦ faulty (c + 2) Fault.many_cells
+          | false ↦ faulty (c + 2) Fault.ManyCells
           | true ↦ elim x [ wrong f ↦ faulty (c + 2) f | cell l i ↦ with_cell i (cells (suc c) (seen ++ (l ∷ [])) bs) ]
         ])
     go false e x h g = tt
@@ -417,7 +419,7 @@ first_writes b = go (clear b) (after allowance_word b)
     got s (read n []) h = h.small
     got s (read n (b ∷ bs)) h = tt
 
-    go : (o : Option Fault) (a : Option Bytes) → WritesFirst (elim o [ some f ↦ no_first f | none ↦ elim a [ none ↦ no_first Fault.no_allowance | some s ↦ all_read (number most_allowance s) ] ])
+    go : (o : Option Fault) (a : Option Bytes) → WritesFirst (elim o [ some f ↦ no_first f | none ↦ elim a [ none ↦ no_first Fault.NoAllowance | some s ↦ all_read (number most_allowance s) ] ])
     go (some f) a = tt
     go none none = tt
     go none (some s) = got s (number most_allowance s) (number-fine most_allowance s)

@@ -1,19 +1,20 @@
-use Rattle.planfile_spec.proofs.Laws.Label.{part-refused, part_given, trailer_there, record_there, record_is}
-use native.Mathlib.Omega.{arith}
-use mathlib.Core.Path.{◌∙◌}
+use mathlib.Core.Path.{◌≡◌, ◌∙◌}
+use Rattle.std.specs.Prelude.{List}
+use Prim.Native.Nat.{ℕ}
+use Rattle.std.proofs.Math.Decide.{ℕ_discrete}
+use Rattle.std.specs.Result.{result_unwrap_or}
+use Rattle.plan.specs.Questions.{answered}
+use Rattle.plan.proofs.Laws.Answered.{answered_none, answered_some}
+use Rattle.planfile_spec.specs.Reading.{label_refusal, label_part}
+use Rattle.planfile_spec.proofs.Laws.Label.{part_none}
 use Rattle.planfile.proofs.label_part.Goals as goal
 
-pub returns-then-refusal-ne0 : goal.returns-then-refusal-ne0
-returns-then-refusal-ne0 c = part-refused c.args.file.now _ _ c.label_refusal-refusal.ensures c.if-refusal-ne0.true
-
-pub trailer-t-requires : goal.trailer-t-requires
-trailer-t-requires c = trailer_there c.args.file.now c.args.cell c.label_refusal-refusal.result c.label_refusal-refusal.ensures c.if-refusal-ne0.false
-
-pub entry-entry-requires : goal.entry-entry-requires
-entry-entry-requires c = rw (c.place.ensures, c.form_of-form.ensures) (record_there c.args.file.now c.args.cell c.label_refusal-refusal.result c.label_refusal-refusal.ensures c.if-refusal-ne0.false c.trailer-t.result c.trailer-t.ensures).1
+or_empty : (f : List ℕ) (c : ℕ) → result_unwrap_or (answered (label_refusal f c) (label_part f c)) (record { start = 0; end = 0 }) ≡ label_part f c
+or_empty f c = go (ℕ_discrete (label_refusal f c).number 0)
+  where
+    go : Dec ((label_refusal f c).number ≡ 0) → result_unwrap_or (answered (label_refusal f c) (label_part f c)) (record { start = 0; end = 0 }) ≡ label_part f c
+    go (yes z) = rw (answered_none (label_refusal f c) (label_part f c) z)
+    go (no z) = rw (answered_some (label_refusal f c) (label_part f c) z, part_none f c z)
 
 pub returns : goal.returns
-returns c = part_given c.args.file.now _ _ c.label_refusal-refusal.ensures c.if-refusal-ne0.false _ (c.entry-entry.ensures.0 ∙ rw (c.place.ensures, c.form_of-form.ensures) (record_is c.args.file.now c.args.cell c.label_refusal-refusal.result c.label_refusal-refusal.ensures c.if-refusal-ne0.false _ c.trailer-t.ensures))
-
-pub place-requires : goal.place-requires
-place-requires c = rw c.form_of-form.ensures (let h = record_there c.args.file.now c.args.cell c.label_refusal-refusal.result c.label_refusal-refusal.ensures c.if-refusal-ne0.false c.trailer-t.result c.trailer-t.ensures in (h.0, omega (arith, h.1, c.well_formed)))
+returns c = c.unwrap_or.ensures ∙ rw c.placed.ensures (or_empty c.args.file.now c.args.cell)

@@ -1,28 +1,32 @@
+use mathlib.Core.Path.{refl}
+use Rattle.plan.proofs.Laws.Answered.{err_stops, ok_goes_on, passes}
 use Rattle.planfile_spec.proofs.Laws.Examined.{records-lower, records-flat}
 use Rattle.planfile_spec.specs.FileSteps.{columns_refusal}
-use Rattle.plan.proofs.Laws.Questions.{stops, goes_on}
 use Rattle.planfile_body.proofs.body_refusal.Goals as goal
 
-pub returns-then-at_records-ne0 : goal.returns-then-at_records-ne0
+pub returns-in_err-records_refusal : goal.returns-in_err-records_refusal
 unfolding columns_refusal
-returns-then-at_records-ne0 c = stops _ _ _ c.records_refusal-at_records.ensures c.if-at_records-ne0.true
+returns-in_err-records_refusal c = err_stops _ _ _ _ c.in_err-records_refusal.ensures c.from_residual.ensures.1 _
 
-pub tree_refusal-at_tree-requires-clause-lower : goal.tree_refusal-at_tree-requires-clause-lower
-tree_refusal-at_tree-requires-clause-lower c =
+pub tree_refusal-requires-clause-lower : goal.tree_refusal-requires-clause-lower
+tree_refusal-requires-clause-lower c =
     let g = c.args in
-    let t = g.plan.columns in
-    records-lower g.form g.begin t.count t.parent t.kind t.width t.depth g.plan.label_length g.plan.label_start _ c.records_refusal-at_records.ensures c.if-at_records-ne0.false c.requires.0 c.requires.1
+    let p = g.plan.now.cells in
+    let t = p.columns in
+    records-lower g.form g.begin t.count t.parent t.kind t.width t.depth p.label_length p.label_start _ refl (passes _ _ c.in_ok-records_refusal.ensures) c.requires.0 c.requires.1
 
-pub tree_refusal-at_tree-requires-clause-flat : goal.tree_refusal-at_tree-requires-clause-flat
-tree_refusal-at_tree-requires-clause-flat c =
+pub tree_refusal-requires-clause-flat : goal.tree_refusal-requires-clause-flat
+tree_refusal-requires-clause-flat c =
     let g = c.args in
-    let t = g.plan.columns in
-    records-flat g.form g.begin t.count t.parent t.kind t.width t.depth g.plan.label_length g.plan.label_start _ c.records_refusal-at_records.ensures c.if-at_records-ne0.false
+    let p = g.plan.now.cells in
+    let t = p.columns in
+    records-flat g.form g.begin t.count t.parent t.kind t.width t.depth p.label_length p.label_start _ refl (passes _ _ c.in_ok-records_refusal.ensures)
 
-pub returns-then-at_tree-ne0 : goal.returns-then-at_tree-ne0
+pub returns-in_err-tree_refusal : goal.returns-in_err-tree_refusal
 unfolding columns_refusal
-returns-then-at_tree-ne0 c = goes_on _ _ _ _ c.records_refusal-at_records.ensures c.if-at_records-ne0.false (stops _ _ _ (c.tree_refusal-at_tree.ensures _ _) c.if-at_tree-ne0.true)
+returns-in_err-tree_refusal c =
+    ok_goes_on _ _ c.in_ok-records_refusal.ensures _ _ _ (err_stops _ _ _ _ c.in_err-tree_refusal.ensures c.from_residual-in_err-tree_refusal.ensures.1 _)
 
 pub returns : goal.returns
 unfolding columns_refusal
-returns c = goes_on _ _ _ _ c.records_refusal-at_records.ensures c.if-at_records-ne0.false (goes_on _ _ _ _ (c.tree_refusal-at_tree.ensures _ _) c.if-at_tree-ne0.false c.allowance_refusal.ensures)
+returns c = ok_goes_on _ _ c.in_ok-records_refusal.ensures _ _ _ (ok_goes_on _ _ c.in_ok-tree_refusal.ensures _ _ _ c.allowance_refusal.ensures)

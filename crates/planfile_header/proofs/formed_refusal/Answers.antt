@@ -1,25 +1,27 @@
-use mathlib.Core.Path.{ap, ◌∙◌}
 use native.Mathlib.Omega.{arith}
 use lib.ListN.{length}
-use Rattle.plan.specs.Forms.{marked, form_of}
-use Rattle.plan.specs.Questions.{asked}
-use Rattle.plan.proofs.Laws.Questions.{stops, goes_on}
-use Rattle.planfile_spec.specs.FileSteps.{formed_refusal, counted}
-use Rattle.planfile_spec.specs.declared.Trailer.{Trailer}
+use mathlib.Core.Path.{refl}
+use Rattle.plan.proofs.Laws.Answered.{err_stops, ok_goes_on, passes}
+use Rattle.planfile_spec.specs.FileSteps.{formed_refusal}
 use Rattle.planfile_spec.proofs.Laws.Examined.{sized-read}
 use Rattle.planfile_header.proofs.formed_refusal.Goals as goal
 
-pub returns-then-sized-ne0 : goal.returns-then-sized-ne0
+pub returns-in_err-asked : goal.returns-in_err-asked
 unfolding formed_refusal
-returns-then-sized-ne0 c = stops _ _ _ (c.asked-sized.ensures ∙ ap (λ x. asked 2 x 0) c.file_sized.ensures) c.if-sized-ne0.true
+returns-in_err-asked c = err_stops _ _ _ _ (rw c.file_sized.ensures at c.in_err-asked.ensures.numbered (omega arith)) c.from_residual.ensures.1 _
 
 pub trailer-t-requires : goal.trailer-t-requires
-trailer-t-requires c = omega (arith, sized-read (length c.args.file.now) c.asked-sized.result (c.asked-sized.ensures ∙ ap (λ x. asked 2 x 0) c.file_sized.ensures) c.if-sized-ne0.false)
+trailer-t-requires c = omega (arith, sized-read (length c.args.file.now) _ refl (passes _ _ (rw c.file_sized.ensures at c.in_ok-asked.ensures.numbered (omega arith))))
 
-pub returns-then-right-ne0 : goal.returns-then-right-ne0
+pub returns-in_err-asked-2 : goal.returns-in_err-asked-2
 unfolding formed_refusal
-returns-then-right-ne0 c = goes_on _ _ _ _ (c.asked-sized.ensures ∙ ap (λ x. asked 2 x 0) c.file_sized.ensures) c.if-sized-ne0.false (stops _ _ _ (c.asked-right.ensures ∙ ap (λ x. asked 3 x 0) (c.marked.ensures ∙ ap (λ (t : Trailer). marked t.mark) c.trailer-t.ensures)) c.if-right-ne0.true)
+returns-in_err-asked-2 c =
+    ok_goes_on _ _ (rw c.file_sized.ensures at c.in_ok-asked.ensures.numbered (omega arith)) _ _ _
+    (err_stops _ _ _ _ (rw (c.marked.ensures, c.trailer-t.ensures) at c.in_err-asked-2.ensures.numbered (omega arith)) c.from_residual-in_err-asked-2.ensures.1 _)
 
 pub returns : goal.returns
 unfolding formed_refusal
-returns c = goes_on _ _ _ _ (c.asked-sized.ensures ∙ ap (λ x. asked 2 x 0) c.file_sized.ensures) c.if-sized-ne0.false (goes_on _ _ _ _ (c.asked-right.ensures ∙ ap (λ x. asked 3 x 0) (c.marked.ensures ∙ ap (λ (t : Trailer). marked t.mark) c.trailer-t.ensures)) c.if-right-ne0.false (c.asked.ensures ∙ ap (λ x. asked 4 x 0) (c.counted.ensures ∙ rw c.form_of.ensures (ap (λ (t : Trailer). counted (form_of t.mark) (length c.args.file.now) t.begin t.count) c.trailer-t.ensures))))
+returns c =
+    ok_goes_on _ _ (rw c.file_sized.ensures at c.in_ok-asked.ensures.numbered (omega arith)) _ _ _
+    (ok_goes_on _ _ (rw (c.marked.ensures, c.trailer-t.ensures) at c.in_ok-asked-2.ensures.numbered (omega arith)) _ _ _
+    (rw (c.counted.ensures, c.form_of.ensures, c.trailer-t.ensures) at c.asked-3.ensures.numbered (omega arith)))

@@ -1,10 +1,6 @@
-use Prim.Native.Nat.{◌≤◌, ◌-◌}
 use Rattle.plan.specs.Limits.{between, first_letter, last_letter}
 use Rattle.planfile_spec.proofs.Laws.Every.{Tested}
 use Rattle.planfile_header.proofs.letters_printable.Given as goal
 
 abbrev pub invariant-loop-i : goal.invariant-loop-i
-invariant-loop-i l = (l.i ≤ l.begin) × Tested (between first_letter last_letter) l.file l.begin l.i l.good
-
-abbrev pub decreases-loop-i : goal.decreases-loop-i
-decreases-loop-i l = l.begin - l.i
+invariant-loop-i l = Tested (between first_letter last_letter) l.file l.begin l.i l.good

@@ -19,7 +19,7 @@ use Rattle.plan.specs.Trees.{Lower, Flat}
 use Rattle.plan.specs.declared.Record.{Record}
 use Rattle.plan.specs.declared.Refusal.{Refusal}
 use Rattle.plan.specs.declared.forms.Form.{Form}
-use Rattle.planfile_spec.specs.declared.Reading.{Reading}
+use Rattle.planfile_spec.specs.Read.{Reading}
 use Rattle.planfile_spec.specs.declared.Trailer.{Trailer}
 use Rattle.planfile_spec.specs.Format.{trailer_of, form, record_at, entry, records_of}
 use Rattle.planfile_spec.specs.Reading.{column, columns_of}

@@ -8,7 +8,7 @@ use Rattle.plan.specs.declared.forms.Form.TheVariants.{Old, Wide}
 use Rattle.planfile_spec.specs.Fields.{pair, number_at, parent_place, kind_place, width_place, depth_place, length_place, rank_place, start_place, begin_place, count_place, allowance_place, mark_place}
 use Rattle.planfile_spec.specs.Format.{record_at, trailer_of}
 use Rattle.planfile_spec.specs.Reading.{column, columns_of}
-use Rattle.planfile_spec.specs.declared.Reading.{Reading}
+use Rattle.planfile_spec.specs.Read.{Reading}
 use Rattle.plan.specs.Questions.{none}
 use Rattle.planfile_spec.specs.declared.Trailer.{Trailer}
 

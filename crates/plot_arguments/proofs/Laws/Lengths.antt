@@ -1,9 +1,8 @@
 -- What is read of an argument, a byte more at a time. Assumes nothing.
-use Rattle.std.specs.Prelude.{◌≡◌, Bool, true, false, ◌&&◌, cond, List, ℕ, suc, ◌+◌, ◌*◌, ◌-◌, ◌<◌, ◌≤◌, min, eqb, leb, ltb, length, drop, get_or}
+use Rattle.std.specs.Prelude.{◌≡◌, Bool, true, false, ◌&&◌, cond, List, ℕ, suc, ◌+◌, ◌*◌, ◌-◌, ◌<◌, ◌≤◌, min, eqb, leb, ltb, length, drop, get_or, Option}
 use Rattle.std.proofs.Common.{sym, ap, subst, ◌∙◌, arith, drop-cons}
 use Rattle.std.proofs.Math.Seq.{drop-length}
 use Rattle.plot_arguments.specs.declared.Digits.{Digits}
-use Rattle.plot_arguments.specs.declared.Length.{Length}
 use Rattle.plot_arguments.specs.Lengths.{point, most, start, broken, with_point, with_digit, step, run, finish, length_of}
 
 run_more : (text : List ℕ) (i : ℕ) (d : Digits) → i < length text → run d (drop i text) ≡ run (step d (get_or text i 0)) (drop (suc i) text)
@@ -52,7 +51,7 @@ go_on text i d d' h low r e =
       subst (λ (k : ℕ). run d' (drop k text) ≡ run start text) p (ap (λ (x : Digits). run x (drop (suc i) text)) e ∙ sym (run_more text i d h) ∙ r),
     )
 
-pub ended : (text : List ℕ) (i : ℕ) (d : Digits) (l : Length) → i ≤ length text → length text ≤ i → run d (drop i text) ≡ run start text → l ≡ finish d → l ≡ length_of text
+pub ended : (text : List ℕ) (i : ℕ) (d : Digits) (l : Option ℕ) → i ≤ length text → length text ≤ i → run d (drop i text) ≡ run start text → l ≡ finish d → l ≡ length_of text
 unfolding length_of
 ended text i d l h k r e =
     let p : i ≡ length text = omega arith in

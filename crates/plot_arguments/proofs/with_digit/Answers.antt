@@ -8,4 +8,4 @@ returns-then-d-gt3 c = rw (lt-ltb _ _ c.if-d-gt3.true) c.broken.ensures
 
 pub returns : goal.returns
 unfolding with_digit
-returns c = rw (le-ltb _ _ c.if-d-gt3.false, c.capped-value.ensures, c.next_place-place.ensures)
+returns c = rw (le-ltb _ _ c.if-d-gt3.false, c.min-value.ensures, c.from.ensures, c.next_place-place.ensures)

@@ -1,5 +1,5 @@
 -- The proofs of proofs/Calls.antt. Assumes nothing.
-use Rattle.std.specs.Prelude.{◌≡◌, List, ℕ, ◌*◌, ◌-◌, ◌<◌, T, get_or, ℤ}
+use Rattle.std.specs.Prelude.{◌≡◌, List, ℕ, ◌*◌, ◌-◌, ◌<◌, T, get_or, ℤ, Ok, Err}
 use Rattle.std.proofs.Common.{ap}
 use native.Mathlib.Omega.{arith}
 use Rattle.std.proofs.Math.ListN.{length, length-map}
@@ -18,14 +18,13 @@ use Rattle.pen.proofs.Laws.Strokes.{strokes-length}
 use Rattle.strokes.specs.Stroked.{stroked_of}
 use Rattle.strokes.proofs.Laws.Stroked.{passed}
 use Rattle.strokes.proofs.Laws.Promised as promised
-use Rattle.strokes.specs.declared.Stroked.TheVariants.{Drawn, Refused}
 
 module _ (t : List Record) (ps : List ℤ) (g : Page) (s : ℕ) where
   pub stroke_refuses : ¬ ((refusal stroke (stroke_given (cells_of t) ps g s)).number ≡ 0)
-      → stroked_of (cells_of t) ps g s ≡ Refused (refusal stroke (stroke_given (cells_of t) ps g s)).number (refusal stroke (stroke_given (cells_of t) ps g s)).cell
+      → stroked_of (cells_of t) ps g s ≡ Err (refusal stroke (stroke_given (cells_of t) ps g s))
   stroke_refuses = promised.refuses (cells_of t) ps g s
 
-  pub stroke-gives : refusal stroke (stroke_given (cells_of t) ps g s) ≡ none → stroked_of (cells_of t) ps g s ≡ Drawn (get_or (strokes (cells_of t) (placed ps) g) s Lift)
+  pub stroke-gives : refusal stroke (stroke_given (cells_of t) ps g s) ≡ none → stroked_of (cells_of t) ps g s ≡ Ok (get_or (strokes (cells_of t) (placed ps) g) s Lift)
   stroke-gives = promised.gives (cells_of t) ps g s
 
   pub stroke-asks : refusal stroke (stroke_given (cells_of t) ps g s) ≡ none → T (fair g) × (s < length (strokes (cells_of t) (placed ps) g)) × (s < 9 * length t - 3)
@@ -37,5 +36,5 @@ module _ (t : List Record) (ps : List ℤ) (g : Page) (s : ℕ) where
       let m : length (cells_of t) ≡ length t = length-map t bare in
       (h.page, omega arith, omega arith)
 
-  pub stroke_finite : (d : Stroke) → stroked_of (cells_of t) ps g s ≡ Drawn d → T (finite_stroke d)
+  pub stroke_finite : (d : Stroke) → stroked_of (cells_of t) ps g s ≡ Ok d → T (finite_stroke d)
   stroke_finite = promised.finite (cells_of t) ps g s

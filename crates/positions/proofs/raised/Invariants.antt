@@ -1,5 +1,5 @@
 use mathlib.Core.Path.{◌≡◌}
-use Prim.Native.Nat.{ℕ, ◌-◌, ◌≤◌}
+use Prim.Native.Nat.{ℕ}
 use lib.ListN.{length}
 use Rattle.plan.specs.Limits.{most_cells}
 use Rattle.plan.specs.Columns.{table_of}
@@ -9,7 +9,4 @@ use Rattle.positions.specs.Raised.{Raised}
 use Rattle.positions.proofs.raised.Given as goal
 
 abbrev pub invariant-loop-c : goal.invariant-loop-c
-invariant-loop-c l = (1 ≤ l.c) × (length l.xs ≡ most_cells) × ((al : ℕ) → Marked (table_of l.t) al l.marks → Raised l.xs l.c (sheet (table_of l.t) al).x) × ((l.c ≤ l.t.count))
-
-abbrev pub decreases-loop-c : goal.decreases-loop-c
-decreases-loop-c l = l.t.count - l.c
+invariant-loop-c l = (length l.xs ≡ most_cells) × ((al : ℕ) → Marked (table_of l.t) al l.marks → Raised l.xs l.c (sheet (table_of l.t) al).x)

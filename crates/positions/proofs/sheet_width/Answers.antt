@@ -11,7 +11,7 @@ right_edge-most-requires c = (omega arith, c.requires.0.high 0 (omega arith))
 pub loop-c-init : goal.loop-c-init
 loop-c-init c =
     let a = c.args in
-    (omega arith, omega arith, smallest_one (λ x. get_or a.xs.now x 0), rw c.right_edge-most.ensures (greatest-one (λ x. get_or a.xs.now x 0 + get_or a.widths.now x 0)))
+    (smallest_one (λ x. get_or a.xs.now x 0), rw c.right_edge-most.ensures (greatest-one (λ x. get_or a.xs.now x 0 + get_or a.widths.now x 0)))
 
 pub right_edge-requires : goal.right_edge-requires
 right_edge-requires c = (omega (arith, c.requires.0.few), c.requires.0.high c.loop-c.c c.loop-c-test.true)
@@ -19,16 +19,16 @@ right_edge-requires c = (omega (arith, c.requires.0.few), c.requires.0.high c.lo
 pub loop-c-preserved : goal.loop-c-preserved
 loop-c-preserved c =
     let a = c.args in
-    (omega arith, omega arith, rw c.lesser-least.ensures (smallest_more (λ x. get_or a.xs.now x 0) c.loop-c.c c.loop-c.least c.loop-c.invariant.2), rw (c.greater-most.ensures, c.right_edge.ensures) (greatest-more (λ x. get_or a.xs.now x 0 + get_or a.widths.now x 0) c.loop-c.c c.loop-c.most c.loop-c.invariant.3))
+    (rw c.min-least.ensures (smallest_more (λ x. get_or a.xs.now x 0) c.loop-c.c c.loop-c.least c.loop-c.invariant.0), rw (c.max-most.ensures, c.right_edge.ensures) (greatest-more (λ x. get_or a.xs.now x 0 + get_or a.widths.now x 0) c.loop-c.c c.loop-c.most c.loop-c.invariant.1))
 
 pub overflow_sub-result : goal.overflow_sub-result
 overflow_sub-result c =
     let i = c.loop-c.invariant in
-    omega (arith, i.2.all i.3.at i.3.before, i.3.is)
+    omega (arith, i.0.all i.1.at i.1.before, i.1.is)
 
 pub returns : goal.returns
 returns c =
     let l = c.loop-c in
     let a = c.args in
     let e : l.c ≡ a.n = omega arith in
-    λ p ps ks ds qs r. width_is ps ks a.widths.now ds qs a.n (omega arith) p a.xs.now r l.least l.most (rw e at l.invariant.2) (rw e at l.invariant.3)
+    λ p ps ks ds qs r. width_is ps ks a.widths.now ds qs a.n (omega arith) p a.xs.now r l.least l.most (rw e at l.invariant.0) (rw e at l.invariant.1)

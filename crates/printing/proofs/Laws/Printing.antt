@@ -11,10 +11,10 @@ use Rattle.plan.specs.Steps.{cell_refusal}
 use Rattle.plan.proofs.Laws.Steps.{and_left}
 use Rattle.rules.specs.Placement.{placed}
 use Rattle.positions.proofs.Laws.Written.{written_agree}
-use Rattle.layout.specs.declared.Measures.{Measures}
+use Rattle.plan.specs.declared.Measures.{Measures}
 use Rattle.layout.specs.Laid.{Drawn}
 use Rattle.plan.specs.declared.forms.Form.{Form}
-use Rattle.planfile_spec.specs.declared.Reading.{Reading}
+use Rattle.planfile_spec.specs.Read.{Reading}
 use Rattle.planfile_spec.specs.Format.{trailer_of, form, entry}
 use Rattle.planfile_spec.specs.Reading.{label_refusal, label_part}
 use Rattle.planfile_spec.specs.FileSteps.{inside, record_refusal, entry_refusal, header_refusal, body_refusal, file_refusal}

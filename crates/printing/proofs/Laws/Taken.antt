@@ -1,29 +1,31 @@
 -- The plan that Read gives of a file: Layout does not refuse it, its labels stand in the file where its records say, a cell's line is short.
 -- Nothing that a reader must believe stands here. Assumes nothing.
-use Rattle.std.specs.Prelude.{◌≡◌, refl, List, [], ◌∷◌, ◌++◌, map, ℕ, zero, suc, ◌+◌, ◌-◌, ◌*◌, ◌≤◌, ◌<◌, ℤ, pos, negsuc, length, take, drop}
-use Rattle.std.proofs.Common.{sym, ◌∙◌, append-nil, append_assoc, arith, eq-eqb, ne_eqb, length-append, length-take}
+use Rattle.std.specs.Prelude.{◌≡◌, refl, List, [], ◌∷◌, ◌++◌, map, ℕ, zero, suc, ◌+◌, ◌-◌, ◌*◌, ◌≤◌, ◌<◌, ℤ, pos, negsuc, length, take, drop, leb, Result, Ok, Err, IsErrAnd, ⊤}
+use Rattle.std.proofs.Common.{sym, ◌∙◌, append-nil, append_assoc, arith, eq-eqb, ne_eqb, leb→le, length-append, length-take}
 use Rattle.std.proofs.Math.Path.{ap}
 use Rattle.std.proofs.Math.Decide.{ℕ_discrete}
 use Rattle.std.proofs.Math.ListN.{get_or}
 use Rattle.std.proofs.lemmas.List.Edits.{sets-eq}
 use Rattle.whole.proofs.Laws.Whole.{whole}
 use Rattle.whole.specs.Range.{InRange}
-use Rattle.whole.proofs.Laws.Says.{is_true, is_false, says_le}
 use Rattle.plan.specs.Limits.{most_cells, last_row, farthest, scratch_size, listing_size}
 use Rattle.plan.specs.Lists.{from}
 use Rattle.plan.specs.Plan.{Is, box_width, box_depth, row}
 use Rattle.plan.specs.Records.{cells_of}
 use Rattle.plan.proofs.Laws.Columns.{table-length}
 use Rattle.plan.specs.Fit.{Fit}
-use Rattle.plan.specs.Questions.{to_fill, nothing, none, asked, read, layout, refusal, layout_given}
+use Rattle.plan.specs.Questions.{to_fill, nothing, none, asked, answered, passed, list, list_given, read, layout, refusal, layout_given}
 use Rattle.plan.proofs.Laws.Calls.{list-refusal}
-use Rattle.plan.proofs.Laws.Questions.{both-none}
+use Rattle.plan.proofs.Laws.Answered.{refused_by, answered_some, answers_err, answers_ok, passes as asked-passes}
+use Rattle.plan.proofs.Laws.Questions.{both-none, asked_yes}
 use Rattle.plan.specs.declared.Refusal.{Refusal}
 use Rattle.contours.specs.Sheet.{sheet}
 use Rattle.least.proofs.Asked.{layout-asks}
 use Rattle.least.proofs.Laws.Columns.{sheet-inside}
 use Rattle.layout.specs.Laid.{Drawable}
-use Rattle.planfile_spec.specs.declared.Reading.{Reading}
+use Rattle.planfile_spec.specs.declared.PlanFile.{PlanFile}
+use Rattle.planfile_spec.specs.Read.{Reading, reading, answer_of}
+use Rattle.planfile_spec.proofs.Laws.Answer.{read_plan, read_refused}
 use Rattle.planfile_spec.specs.Format.{trailer_of, entry, records_of, file_given}
 use Rattle.planfile_spec.specs.Reading.{columns_of, reading_of, label_refusal}
 use Rattle.planfile_spec.specs.FileSteps.{header_refusal, body_refusal, file_refusal}
@@ -40,7 +42,6 @@ use Rattle.listing.specs.declared.Line.{Line}
 use Rattle.listing.proofs.Laws.Put.{then, put-none}
 use Rattle.printing.specs.Printing.{listed_of, out_after, size, Lists, label_bytes, read_table, ours, first_line, cell_of, listing_of, text_of, cells_text, cell_size, Taken}
 use Rattle.printing.proofs.Laws.Printing.{label_short}
-use Rattle.printing.specs.declared.Listed.TheVariants.{Text, Refused}
 
 -- ---- lengths
 spaced-length : (l : Bytes) → length (spaced l) ≤ suc (length l)
@@ -205,31 +206,48 @@ sheet-done p f h l e u v =
     let t : text l ≡ first_line p = rw e (line-text (first_line p)) in
     rw (← text-plan p f h) (then (rw t at u) v)
 
+-- what Read answers is a plan, or its refusal
+pub taken : (f : Bytes) (p : PlanFile) → Ok p ≡ answer_of (reading_of f most_cells) → Taken (reading p) f
+taken f p e = record { is = read_plan f most_cells p e; passes = refl }
+
 -- the line of a refusal
-pub refusal-done : (p : Reading) (f : Bytes) → p ≡ reading_of f most_cells → ¬ (p.refusal.number ≡ 0) → {a b : List ℕ} {k : ℕ} (l : Line) → l ≡ line_of (refused_line p.refusal.number p.refusal.cell)
+pub refusal-done : (f : Bytes) (r : Refusal) → Err r ≡ answer_of (reading_of f most_cells) → {a b : List ℕ} {k : ℕ} (l : Line) → l ≡ line_of (refused_line r.number r.cell)
     → Put a 0 (text l) b k → Put a 0 (text_of f) b k
 unfolding text_of listing_of lines_joined
-refusal-done p f h n l e u =
-    let t : text l ≡ refused_line p.refusal.number p.refusal.cell = rw e (line-text (refused_line p.refusal.number p.refusal.cell)) in
-    rw (← h, ne_eqb p.refusal.number 0 n, append-nil _) (rw t at u)
+refusal-done f r h l e u =
+    let p = reading_of f most_cells in
+    let (q, n) = read_refused f most_cells r h in
+    let t : text l ≡ refused_line r.number r.cell = rw e (line-text (refused_line r.number r.cell)) in
+    let v = rw t at u in
+    let m : ¬ (p.refusal.number ≡ 0) = rw q at n in
+    rw (ne_eqb p.refusal.number 0 m, append-nil _) (rw q at v)
 
 -- ---- the call
-pub listed_short : (f out : Bytes) → length out < listing_size → Lists f out out (Refused 1 0)
-unfolding listed_of out_after size asked
-listed_short f out h =
-    record {
-      answers = rw (list-refusal (length out), is_false (says_le listing_size (length out)) (λ k. absurd (omega arith)));
-      bytes = refl;
-      suffices = omega arith;
-    }
+module _ (f out : Bytes) where
+  abbrev why : Refusal
+  why = refusal list (list_given (length out))
 
-pub listed-text : (f out out' : Bytes) (n : ℕ) → listing_size ≤ length out → Put out 0 (text_of f) out' n → n ≤ listing_size → Lists f out out' (Text n)
-unfolding listed_of out_after size asked
-listed-text f out out' n h u g =
-    let z : 0 + length (text_of f) ≡ length (text_of f) = omega arith in
-    let e : n ≡ length (text_of f) = u.place ∙ z in
-    record {
-      answers = rw (list-refusal (length out), is_true (says_le listing_size (length out)) h, e);
-      bytes = u.bytes ∙ sets-eq (text_of f) out 0 (omega arith) ∙ ap (λ k. text_of f ++ drop k out) (z ∙ sym e);
-      suffices = g;
-    }
+  put_length : {y : Result ⊤ Refusal} → y ≡ passed (asked 1 (leb listing_size (length out)) 0) → y ≡ passed why
+  put_length e = rw (← list-refusal (length out)) at e
+
+  pub listed_short : (e : Refusal) (y : Result ℕ Refusal) → Err e ≡ passed (asked 1 (leb listing_size (length out)) 0) → IsErrAnd y (λ d. d ≡ e) → Lists f out out y
+  unfolding listed_of out_after size
+  listed_short e y h p =
+      let g : y ≡ answered why _ = answers_err _ why e y (put_length h) p in
+      let k : y ≡ Err why = g ∙ answered_some why _ (refused_by why tt e (put_length h)).1 in
+      record { answers = g; bytes = rw k; suffices = rw k (omega arith) }
+
+  module _ (u : ⊤) (h : Ok u ≡ passed (asked 1 (leb listing_size (length out)) 0)) where
+    pub long-enough : listing_size ≤ length out
+    long-enough = leb→le listing_size (length out) (asked_yes 0 _ 0 (asked-passes _ u h))
+
+    pub listed-text : (out' : Bytes) (n : ℕ) → Put out 0 (text_of f) out' n → n ≤ listing_size → Lists f out out' (Ok n)
+    unfolding listed_of out_after size
+    listed-text out' n w g =
+        let z : 0 + length (text_of f) ≡ length (text_of f) = omega arith in
+        let e : n ≡ length (text_of f) = w.place ∙ z in
+        record {
+          answers = ap Ok e ∙ answers_ok why u (put_length h) _;
+          bytes = w.bytes ∙ sets-eq (text_of f) out 0 (omega (arith, long-enough)) ∙ ap (λ k. text_of f ++ drop k out) (z ∙ sym e);
+          suffices = g;
+        }

@@ -5,9 +5,9 @@ use Rattle.std.proofs.lemmas.List.{set_at}
 use Rattle.plan.specs.Lists.{from}
 use Rattle.plan.proofs.Laws.Columns.{length_from}
 use Rattle.plan.specs.declared.Record.{Record}
-use Rattle.planfile_spec.specs.declared.Reading.{Reading}
+use Rattle.planfile_spec.specs.Read.{Reading, plan_of}
 use Rattle.records.specs.Apart.{no_record}
-use Rattle.records.specs.Together.{record_in, filled}
+use Rattle.records.specs.Together.{record_in, as_reading, filled}
 
 -- ---- record by record
 pub filled-length : (r : Reading) (n : ℕ) (t : List Record) → length (filled r n t) ≡ length t
@@ -22,6 +22,12 @@ filled_none r t = refl
 pub filled_more : (r : Reading) (t : List Record) (c : ℕ) → set (filled r c t) c (record_in r c) ≡ filled r (c + 1) t
 unfolding filled
 filled_more r t c = rw add-one
+
+-- a reading's refusal and allowance have no part in it
+pub filled_cells : (r : Reading) (n : ℕ) (t : List Record) → filled (as_reading (plan_of r).cells) n t ≡ filled r n t
+unfolding filled
+filled_cells r zero t = refl
+filled_cells r (suc n) t = rw (filled_cells r n t)
 
 -- ---- all of them: n records, and the rest as it was
 from_more : (e : ℕ → Record) (k n : ℕ) (rest : List Record) → map e (from k n) ++ e (k + n) ∷ rest ≡ map e (from k (suc n)) ++ rest

@@ -1,9 +1,7 @@
 -- From the questions to the report: for the code. Nothing that a reader must believe stands here. Assumes nothing.
-use Rattle.std.specs.Prelude.{◌≡◌, List, [], ◌∷◌, ◌++◌, ◌&&◌, ℕ, ◌+◌, ◌*◌, ◌≤◌, leb, ℤ, length, take, drop}
+use Rattle.std.specs.Prelude.{◌≡◌, List, [], ◌∷◌, ◌++◌, ◌&&◌, ℕ, ◌+◌, ◌*◌, ◌≤◌, leb, ℤ, length, take, drop, Result, Ok, Err, IsErrAnd}
 use Rattle.std.proofs.Math.Path.{refl, sym, ap}
 use Rattle.std.proofs.Common.{◌∙◌, zero-le, arith, leb→le}
-use Rattle.std.proofs.Math.Decide.{ℕ_discrete}
-use borrow.Author.Tests.{eq-eqb, ne_eqb}
 use Rattle.whole.specs.Whole.{plus}
 use Rattle.plan.specs.Limits.{between, most_cells, most_width, most_allowance, last_row, scratch_size, first_letter, last_letter}
 use Rattle.plan.specs.Lists.{from, some, mem}
@@ -14,8 +12,9 @@ use Rattle.plan.proofs.Laws.Sums.{total-subtree}
 use Rattle.plan.specs.Columns.{table_of}
 use Rattle.plan.specs.Fit.{Fit}
 use Rattle.plan.specs.Questions as calls
-use Rattle.plan.specs.Questions.{Buffer, Given, to_fill, scratch, nothing, none, asked, or_else, every, parent_lower, kind_known, box_sized, label_inside, label_fits, children_allowed, level_low, rows_few, allowance_small, once, each, sequence, puts, put, with_each, kept, number, roomy, all_roomy, enough, in_file, on_labels, holds, ask, ask_all, take_step, take_steps, read, refusal}
-use Rattle.plan.proofs.Laws.Questions.{first-none, both-none, asked_yes, stops, goes_on}
+use Rattle.plan.specs.Questions.{Buffer, Given, to_fill, scratch, nothing, asked, or_else, every, parent_lower, kind_known, box_sized, label_inside, label_fits, children_allowed, level_low, rows_few, allowance_small, once, each, sequence, puts, put, with_each, kept, number, roomy, all_roomy, enough, in_file, on_labels, holds, ask, ask_all, take_step, take_steps, read, refusal, answered}
+use Rattle.plan.proofs.Laws.Questions.{first-none, both-none, asked_yes}
+use Rattle.plan.proofs.Laws.Answered.{answered_none, answered_some, refused_by, not_refused, answers_err}
 use Rattle.plan.proofs.Laws.Kept.{asked_last, asked_true, and_true, none_first, or_assoc, refusal-kept, turn_ends, turn_once}
 use Rattle.plan.proofs.Laws.Steps.{and_left, and_right}
 use Rattle.plan.specs.declared.Refusal.{Refusal}
@@ -26,19 +25,21 @@ use Rattle.least.proofs.Laws.Bounds.{contour-room}
 use Rattle.least.proofs.Laws.Measures.{sheet-width, sheet_rows}
 use Rattle.positions.specs.Written.{written}
 use Rattle.layout.specs.Laid.{Drawable, Drawn}
-use Rattle.layout.specs.declared.Measures.{Measures}
-use Rattle.planfile_spec.specs.declared.Reading.{Reading}
-use Rattle.planfile_spec.specs.Format.{trailer_of, entry, file_given}
-use Rattle.planfile_spec.specs.Reading.{column, columns_of, reading_of}
-use Rattle.planfile_spec.specs.FileSteps.{formed_refusal, header_refusal, body_refusal, file_refusal, blank_reading}
+use Rattle.plan.specs.declared.Measures.{Measures}
+use Rattle.planfile_spec.specs.Read.{answer_of}
+use Rattle.planfile_spec.specs.declared.PlanFile.{PlanFile}
+use Rattle.planfile_spec.specs.Format.{trailer_of, file_given}
+use Rattle.planfile_spec.specs.Reading.{columns_of, reading_of}
+use Rattle.planfile_spec.specs.FileSteps.{formed_refusal, header_refusal, body_refusal, file_refusal}
 use Rattle.planfile_spec.proofs.Laws.File as Law
 use Rattle.planfile_spec.proofs.Laws.File.{cells-length, turn_body}
 use Rattle.planfile_spec.proofs.Laws.Examined.{zero_of, Headed, formed_read, same-table}
+use Rattle.planfile_spec.proofs.Laws.Answer.{read_answer, err_passes}
 use Rattle.planfile_spec.proofs.Laws.ReadThen.{file-layout}
 use Rattle.season.specs.Report.{width_each, rows_each, report}
 use Rattle.season.specs.declared.Report.{Report}
-use Rattle.season.specs.declared.Reported.TheVariants.{Figures, Refused}
-use Rattle.reporting.specs.Reporting.{file_table, own_sheet, figure_of, report_given, report_refusal, reported_of, scratch_left, positions_left, taken, Drafts}
+use Rattle.reporting.specs.Reporting.{file_table, own_sheet, figure_of, report_given, report_refusal, scratch_left, positions_left, file_plan, draft_of, report_of, Drafts}
+use Rattle.reporting.specs.declared.Draft.{Draft}
 
 -- ---- a sheet is at most 262,143 wide, and has at most 256 rows
 pub sheet_bounds : (t : Table) → Fit t → (al : ℕ) → (plus (width t (sheet t al)) ≤ width_each) × (plus (rows t (sheet t al)) ≤ rows_each)
@@ -89,21 +90,6 @@ module _ (f : List ℕ) (room s p : ℕ) where
   abbrev stop : Refusal
   stop = report_refusal f room s p
 
-  module _ (r : Refusal) (z : ¬ (r.number ≡ 0)) where
-    blank : r ≡ stop → blank_reading r ≡ taken f stop
-    unfolding taken columns_of column
-    blank e = rw (← e, ne_eqb r.number 0 z)
-
-    pub long-stops : r ≡ long → blank_reading r ≡ taken f stop
-    long-stops e = blank (stops r _ _ e z ∙ sym refusal_is)
-
-    module _ (a : Refusal) (ea : a ≡ long) (za : a.number ≡ 0) where
-      pub formed_stops : r ≡ formed_refusal f → blank_reading r ≡ taken f stop
-      formed_stops e = blank (goes_on a _ _ r ea za (stops r _ _ e z) ∙ sym refusal_is)
-
-      pub placed-stops : (b : Refusal) → b ≡ formed_refusal f → b.number ≡ 0 → r ≡ placed → blank_reading r ≡ taken f stop
-      placed-stops b eb zb e = blank (goes_on a _ _ r ea za (goes_on b _ _ r eb zb (stops r _ _ e z)) ∙ sym refusal_is)
-
   -- 2 to 4 passed: Read's refusal is that of 5 to 14
   read-rest : (formed_refusal f).number ≡ 0 → refusal read (file_given f (to_fill most_cells ∷ []) nothing) ≡ or_else letters (body_refusal f)
   unfolding file_refusal header_refusal
@@ -111,12 +97,9 @@ module _ (f : List ℕ) (room s p : ℕ) where
       Law.read_refusal f most_cells ∙ ap (λ (x : Refusal). or_else x (file_refusal f)) (asked_true 0 0) ∙ none_first (file_refusal f)
       ∙ or_assoc (formed_refusal f) letters (body_refusal f) ∙ first-none (formed_refusal f) _ z
 
-  pub goes_to_read : (a : Refusal) → a ≡ long → a.number ≡ 0 → (b : Refusal) → b ≡ formed_refusal f → b.number ≡ 0 → (c : Refusal) → c ≡ placed → c.number ≡ 0 → reading_of f most_cells ≡ taken f stop
-  unfolding reading_of taken
-  goes_to_read a ea za b eb zb c ec zc =
-      let e = read-rest (zero_of b _ eb zb) in
-      let q = goes_on a _ _ _ ea za (goes_on b _ _ _ eb zb (goes_on c _ _ _ ec zc e)) ∙ sym refusal_is in
-      rw q
+  pub goes_to_read : (formed_refusal f).number ≡ 0 → answer_of (reading_of f most_cells) ≡ answered (or_else letters (body_refusal f)) (file_plan f)
+  unfolding file_plan
+  goes_to_read z = read_answer f most_cells ∙ ap (λ (r : Refusal). answered r (file_plan f)) (read-rest z)
 
   -- ---- no question refuses the file
   module _ (z : stop.number ≡ 0) where
@@ -150,77 +133,62 @@ module _ (f : List ℕ) (room s p : ℕ) where
     fit = ((layout-asks (file_table f) (trailer_of f).allowance s p).0 (file-layout f file-passes s p scratch-enough positions_enough)).table.fit
 
     -- ---- for the code: the plan that was taken
-    module _ (q : Reading) (e : q ≡ taken f stop) where
-      plan-is : q ≡ columns_of none (trailer_of f).allowance n (entry f)
-      unfolding taken
-      plan-is = e ∙ rw (eq-eqb stop.number 0 z)
+    module _ (q : PlanFile) (e : q ≡ file_plan f) where
+      table_is : table_of q.cells.columns ≡ file_table f
+      unfolding file_plan
+      table_is = ap (λ (x : PlanFile). table_of x.cells.columns) e ∙ same-table f headed
 
-      table_is : table_of q.columns ≡ file_table f
-      table_is = ap (λ (x : Reading). table_of x.columns) plan-is ∙ same-table f headed
-
-      count-is : q.columns.count ≡ n
-      unfolding columns_of
-      count-is = ap (λ (x : Reading). x.columns.count) plan-is
+      count-is : q.cells.columns.count ≡ n
+      unfolding file_plan columns_of
+      count-is = ap (λ (x : PlanFile). x.cells.columns.count) e
 
       allowance_is : q.allowance ≡ (trailer_of f).allowance
-      unfolding columns_of
-      allowance_is = ap (λ (x : Reading). x.allowance) plan-is
+      unfolding file_plan columns_of
+      allowance_is = ap (λ (x : PlanFile). x.allowance) e
 
-      pub plan_few : q.columns.count ≤ most_cells
+      pub plan_few : q.cells.columns.count ≤ most_cells
       plan_few = omega (arith, count-is, count_few)
 
-      pub drawable : (k : ℕ) → k ≡ scratch_size → Drawable (table_of q.columns) k p
+      pub drawable : (k : ℕ) → k ≡ scratch_size → Drawable (table_of q.cells.columns) k p
       drawable k h = rw table_is (record { fit = fit; room = omega (arith, cells-length f, positions_enough); scratch = h })
 
-      module _ (s' : List ℕ) (ps ps' : List ℤ) (m : Measures) (d : Drawn (table_of q.columns) q.allowance s' ps ps' m) where
+      module _ (s' : List ℕ) (ps ps' : List ℤ) (m : Measures) (d : Drawn (table_of q.cells.columns) q.allowance s' ps ps' m) where
         given : Drawn (file_table f) (trailer_of f).allowance s' ps ps' m
         given = rw (table_is, allowance_is) at d
 
         pub measures_small : (m.width ≤ width_each) × (m.rows ≤ rows_each)
         measures_small = rw given.answers (sheet_bounds (file_table f) fit (trailer_of f).allowance)
 
-        pub figures_are : (r : Report) → r ≡ report (record { cells = q.columns.count; width = m.width; rows = m.rows } ∷ []) → r ≡ report (figure_of f ∷ [])
+        pub figures_are : (r : Report) → r ≡ report (record { cells = q.cells.columns.count; width = m.width; rows = m.rows } ∷ []) → r ≡ report (figure_of f ∷ [])
         unfolding figure_of
         figures_are r h = h ∙ rw (count-is, given.answers)
 
 -- ---- the call
-module _ (f : List ℕ) (room : ℕ) (s : List ℕ) (ps : List ℤ) (q : Reading) where
+module _ (f : List ℕ) (room : ℕ) (s : List ℕ) (ps : List ℤ) where
   abbrev stopped : Refusal
   stopped = report_refusal f room (length s) (length ps)
 
-  module _ (e : q ≡ taken f stopped) where
-    pub refused : ¬ (q.refusal.number ≡ 0) → Drafts f room s s ps ps (record { reading = q; answer = Refused q.refusal.number q.refusal.cell })
-    unfolding taken columns_of reported_of scratch_left positions_left
-    refused h = go (ℕ_discrete stopped.number 0)
-      where
-        go : Dec (stopped.number ≡ 0) → Drafts f room s s ps ps (record { reading = q; answer = Refused q.refusal.number q.refusal.cell })
-        go (yes z) =
-            let k : q ≡ columns_of none (trailer_of f).allowance (trailer_of f).count (entry f) = e ∙ rw (eq-eqb stopped.number 0 z) in
-            absurd (h (ap (λ (x : Reading). x.refusal.number) k))
-        go (no z) =
-            let k : q ≡ columns_of stopped 0 0 (entry f) = e ∙ rw (ne_eqb stopped.number 0 z) in
-            let d : q.refusal ≡ stopped = ap (λ (x : Reading). x.refusal) k in
-            record { reading = e; answers = rw (d, ne_eqb stopped.number 0 z); scratch = refl; positions = refl }
+  pub refused : (e : Refusal) (y : Result Draft Refusal) → Err e ≡ answered stopped (file_plan f) → IsErrAnd y (λ d. d ≡ e) → Drafts f room s s ps ps y
+  unfolding report_of scratch_left positions_left
+  refused e y h p =
+      let g = refused_by stopped (file_plan f) e h in
+      let a = answers_err (draft_of f) stopped e y (err_passes stopped (file_plan f) e h) p in
+      let q = a ∙ answered_some stopped (draft_of f) g.1 in
+      record { answers = a; scratch = rw q; positions = rw q }
 
-    pub unrefused : q.refusal.number ≡ 0 → stopped.number ≡ 0
-    unfolding taken columns_of
-    unrefused h = go (ℕ_discrete stopped.number 0)
-      where
-        go : Dec (stopped.number ≡ 0) → stopped.number ≡ 0
-        go (yes z) = z
-        go (no z) =
-            let k : q ≡ columns_of stopped 0 0 (entry f) = e ∙ rw (ne_eqb stopped.number 0 z) in
-            ap (λ (x : Reading). x.refusal.number) (sym k) ∙ h
+  module _ (q : PlanFile) (h : Ok q ≡ answered stopped (file_plan f)) where
+    pub unrefused : (stopped.number ≡ 0) × (q ≡ file_plan f)
+    unrefused = let z = not_refused stopped (file_plan f) q h in (z, cc (h ∙ answered_none stopped (file_plan f) z))
 
-    pub reported : (z : stopped.number ≡ 0) (s' : List ℕ) (ps' : List ℤ) (m : Measures) (d : Drawn (table_of q.columns) q.allowance s' ps ps' m) (r : Report)
-        → r ≡ report (record { cells = q.columns.count; width = m.width; rows = m.rows } ∷ [])
-        → Drafts f room s (s' ++ drop scratch_size s) ps ps' (record { reading = q; answer = Figures r })
-    unfolding reported_of scratch_left positions_left
-    reported z s' ps' m d r h =
-        let k = given f room (length s) (length ps) z q e s' ps ps' m d in
+    pub reported : (s' : List ℕ) (ps' : List ℤ) (m : Measures) (d : Drawn (table_of q.cells.columns) q.allowance s' ps ps' m) (r : Report)
+        → r ≡ report (record { cells = q.cells.columns.count; width = m.width; rows = m.rows } ∷ [])
+        → Drafts f room s (s' ++ drop scratch_size s) ps ps' (Ok (record { plan = q; report = r }))
+    unfolding draft_of report_of scratch_left positions_left
+    reported s' ps' m d r k =
+        let (z, e) = unrefused in
+        let g = given f room (length s) (length ps) z q e s' ps ps' m d in
         record {
-          reading = e;
-          answers = rw (eq-eqb stopped.number 0 z) (ap Figures (figures_are f room (length s) (length ps) z q e s' ps ps' m d r h));
-          scratch = rw k.scratch;
-          positions = k.positions ∙ ap (λ i. written ps (own_sheet f) i) (cells-length f);
+          answers = rw (figures_are f room (length s) (length ps) z q e s' ps ps' m d r k, e) (sym (answered_none stopped (draft_of f) z));
+          scratch = rw g.scratch;
+          positions = g.positions ∙ ap (λ i. written ps (own_sheet f) i) (cells-length f);
         }

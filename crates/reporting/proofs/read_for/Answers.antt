@@ -1,24 +1,37 @@
-use mathlib.Core.Path.{ap, ◌∙◌}
-use Prim.Native.Nat.{◌*◌}
+use mathlib.Core.Path.{ap, sym, ◌∙◌}
 use native.Mathlib.Omega.{arith}
-use lib.Dec.{leb}
-use Rattle.plan.specs.Questions.{asked}
-use Rattle.planfile_spec.specs.declared.Trailer.{Trailer}
-use Rattle.planfile_spec.proofs.Laws.Examined.{zero_of, formed_read}
-use Rattle.reporting.proofs.Laws.Reporting.{long-stops, formed_stops, placed-stops, goes_to_read}
+use Rattle.plan.specs.Questions.{answered}
+use Rattle.plan.proofs.Laws.Answered.{err_stops, ok_goes_on, passes}
+use Rattle.planfile_spec.proofs.Laws.Examined.{formed_read}
+use Rattle.reporting.specs.Reporting.{file_plan}
+use Rattle.reporting.proofs.Laws.Reporting.{refusal_is, goes_to_read}
 use Rattle.reporting.proofs.read_for.Goals as goal
 
-pub returns-then-long-ne0 : goal.returns-then-long-ne0
-returns-then-long-ne0 c = c.refused.ensures ∙ long-stops c.args.file.now c.args.room c.args.scratch c.args.positions _ c.if-long-ne0.true (c.asked-long.ensures ∙ ap (λ x. asked 1 x 0) c.long_enough.ensures)
+pub returns-in_err-asked : goal.returns-in_err-asked
+returns-in_err-asked c =
+    err_stops _ _ _ _ (rw c.long_enough.ensures at c.in_err-asked.ensures.numbered (omega arith)) c.from_residual.ensures.1 _
+    ∙ ap (λ r. answered r (file_plan c.args.file.now)) (sym (refusal_is c.args.file.now c.args.room c.args.scratch c.args.positions))
 
-pub returns-then-formed-ne0 : goal.returns-then-formed-ne0
-returns-then-formed-ne0 c = c.refused-then-formed-ne0.ensures ∙ formed_stops c.args.file.now c.args.room c.args.scratch c.args.positions _ c.if-formed-ne0.true _ (c.asked-long.ensures ∙ ap (λ x. asked 1 x 0) c.long_enough.ensures) c.if-long-ne0.false c.formed_refusal-formed.ensures
+pub returns-in_err-formed_refusal : goal.returns-in_err-formed_refusal
+returns-in_err-formed_refusal c =
+    ok_goes_on _ _ (rw c.long_enough.ensures at c.in_ok-asked.ensures.numbered (omega arith)) _ _ _
+    (err_stops _ _ _ _ c.in_err-formed_refusal.ensures c.from_residual-in_err-formed_refusal.ensures.1 _)
+    ∙ ap (λ r. answered r (file_plan c.args.file.now)) (sym (refusal_is c.args.file.now c.args.room c.args.scratch c.args.positions))
 
 pub trailer-t-requires : goal.trailer-t-requires
-trailer-t-requires c = omega (arith, (formed_read c.args.file.now (zero_of _ _ c.formed_refusal-formed.ensures c.if-formed-ne0.false)).long)
+trailer-t-requires c = omega (arith, (formed_read c.args.file.now (passes _ _ c.in_ok-formed_refusal.ensures)).long)
 
-pub returns-then-placed-ne0 : goal.returns-then-placed-ne0
-returns-then-placed-ne0 c = c.refused-then-placed-ne0.ensures ∙ placed-stops c.args.file.now c.args.room c.args.scratch c.args.positions _ c.if-placed-ne0.true _ (c.asked-long.ensures ∙ ap (λ x. asked 1 x 0) c.long_enough.ensures) c.if-long-ne0.false _ c.formed_refusal-formed.ensures c.if-formed-ne0.false (c.asked-placed.ensures ∙ ap (λ (t : Trailer). asked 1 (leb (2 * t.count) c.args.positions) 0) c.trailer-t.ensures)
+pub returns-in_err-asked-2 : goal.returns-in_err-asked-2
+returns-in_err-asked-2 c =
+    ok_goes_on _ _ (rw c.long_enough.ensures at c.in_ok-asked.ensures.numbered (omega arith)) _ _ _
+    (ok_goes_on _ _ c.in_ok-formed_refusal.ensures _ _ _
+    (err_stops _ _ _ _ (rw (c.from.ensures, c.trailer-t.ensures) at c.in_err-asked-2.ensures.numbered (omega arith)) c.from_residual-in_err-asked-2.ensures.1 _))
+    ∙ ap (λ r. answered r (file_plan c.args.file.now)) (sym (refusal_is c.args.file.now c.args.room c.args.scratch c.args.positions))
 
 pub returns : goal.returns
-returns c = c.read.ensures ∙ goes_to_read c.args.file.now c.args.room c.args.scratch c.args.positions _ (c.asked-long.ensures ∙ ap (λ x. asked 1 x 0) c.long_enough.ensures) c.if-long-ne0.false _ c.formed_refusal-formed.ensures c.if-formed-ne0.false _ (c.asked-placed.ensures ∙ ap (λ (t : Trailer). asked 1 (leb (2 * t.count) c.args.positions) 0) c.trailer-t.ensures) c.if-placed-ne0.false
+returns c =
+    ok_goes_on _ _ (rw c.long_enough.ensures at c.in_ok-asked.ensures.numbered (omega arith)) _ _ _
+    (ok_goes_on _ _ c.in_ok-formed_refusal.ensures _ _ _
+    (ok_goes_on _ _ (rw (c.from.ensures, c.trailer-t.ensures) at c.in_ok-asked-2.ensures.numbered (omega arith)) _ _ _
+    (c.read.ensures ∙ goes_to_read c.args.file.now c.args.room c.args.scratch c.args.positions (passes _ _ c.in_ok-formed_refusal.ensures))))
+    ∙ ap (λ r. answered r (file_plan c.args.file.now)) (sym (refusal_is c.args.file.now c.args.room c.args.scratch c.args.positions))

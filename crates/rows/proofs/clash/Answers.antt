@@ -1,13 +1,12 @@
-use borrow.Author.Rules.{rules}
-use native.Mathlib.Omega.{arith}
 use mathlib.Core.Path.{◌≡◌, refl}
+use native.Mathlib.Omega.{arith}
 use Rattle.rows.specs.Rows.{clash_to}
 use Rattle.rows.proofs.Laws.Rows.{clash_to-more}
 use Rattle.rows.proofs.clash.Goals as goal
 
 pub loop-j-init : goal.loop-j-init
 unfolding clash_to
-loop-j-init c = (search rules, refl)
+loop-j-init c = refl
 
 pub needed-requires : goal.needed-requires
 needed-requires c =
@@ -16,7 +15,7 @@ needed-requires c =
 pub loop-j-preserved : goal.loop-j-preserved
 loop-j-preserved c =
     let a = c.args in
-    (search rules, cc (clash_to-more a.rows.now a.k a.x c.loop-j.j))
+    cc (clash_to-more a.rows.now a.k a.x c.loop-j.j)
 
 pub returns : goal.returns
 returns c =

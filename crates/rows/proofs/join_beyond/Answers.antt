@@ -1,4 +1,3 @@
-use borrow.Author.Rules.{rules}
 use native.Mathlib.Omega.{arith}
 use Prim.Native.Nat.{◌≤◌, ◌+◌, ◌*◌}
 use mathlib.Core.Path.{◌≡◌, refl}
@@ -9,7 +8,7 @@ use Rattle.rows.proofs.join_beyond.Goals as goal
 
 pub loop-j-init : goal.loop-j-init
 unfolding put_to
-loop-j-init c = (search rules, search rules, refl)
+loop-j-init c = refl
 
 pub returns : goal.returns
 returns c =
@@ -19,11 +18,11 @@ returns c =
 pub overflow_add-r : goal.overflow_add-r
 overflow_add-r c =
     let a = c.args in
-    let same = unread a.rows.now c.loop-j.rows a.at _ _ c.loop-j.j c.loop-j.invariant.2 (omega arith) (omega arith) (a.at + 3) (omega arith) in
+    let same = unread a.rows.now c.loop-j.rows a.at _ _ c.loop-j.j c.loop-j.invariant (omega arith) (omega arith) (a.at + 3) (omega arith) in
     omega (arith, c.extent_at.ensures, same, c.requires.2 (64 * c.loop-j.j + (a.at + 3)), c.requires.3)
 
 pub loop-j-preserved : goal.loop-j-preserved
 loop-j-preserved c =
     let a = c.args in
     let f : 64 * c.loop-j.j ≤ length a.rows.now = omega arith in
-    (search rules, search rules, beyond-more a.rows.now c.loop-j.rows a.at a.x c.loop-j.j c.loop-j.invariant.2 (omega arith) f c.extent_at-l.ensures c.extent_at.ensures refl c.put_row.ensures)
+    beyond-more a.rows.now c.loop-j.rows a.at a.x c.loop-j.j c.loop-j.invariant (omega arith) f c.extent_at-l.ensures c.extent_at.ensures refl c.put_row.ensures

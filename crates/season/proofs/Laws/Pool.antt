@@ -1,5 +1,6 @@
 -- What the pool's questions establish, and the figures of both together. Assumes nothing.
-use Rattle.std.specs.Prelude.{◌≡◌, refl, List, [], ◌∷◌, ◌++◌, ℕ, ◌+◌, ◌*◌, ◌≤◌, min, max, T, eqb, leb, length}
+use Rattle.std.specs.Prelude.{◌≡◌, refl, List, [], ◌∷◌, ◌++◌, ℕ, ◌+◌, ◌*◌, ◌≤◌, min, max, T, eqb, leb, length, Result, Ok, Err, IsErrAnd, Option, None, Some, unwrap_or, cond, ◌<◌}
+use Rattle.std.specs.Option.{SomeIff}
 use Rattle.std.proofs.Common.{sym, ◌∙◌, arith, leb→le, eqb→eq}
 use Rattle.std.proofs.Math.Path.{ap}
 use Rattle.std.proofs.Math.Decide.{ℕ_discrete}
@@ -10,10 +11,8 @@ use Rattle.plan.proofs.Laws.Kept.{asked_last}
 use Rattle.plan.proofs.Laws.Steps.{and_left, and_right}
 use Rattle.plan.specs.declared.Refusal.{Refusal}
 use Rattle.season.specs.declared.Report.{Report}
-use Rattle.season.specs.declared.Reported.{Reported}
-use Rattle.season.specs.declared.Reported.TheVariants.{Figures, Refused}
 use Rattle.season.specs.Report.{most_plans, cells_each, width_each, area_each, Figure, narrowest, report}
-use Rattle.season.specs.Pool.{Small, narrower, pooled, empty, sound, sequence, number, holds, first_no, pool_refusal, pool, adds}
+use Rattle.season.specs.Pool.{Small, narrower, pooled, empty, sound, sequence, number, holds, first_no, pool_refusal, adds}
 use Rattle.season.proofs.Laws.Report.{length-after, summed-after, widest-after}
 
 -- ---- question 22 passed
@@ -40,8 +39,8 @@ sound_empty r h z =
     let h6 : T (empty r) = rw (eq-eqb r.plans 0 z) at h5 in
     eqb→eq r.least 0 (and_left (eqb r.least 0) _ h6)
 
-pub asked_small : (a : Report) (r : Refusal) → r ≡ asked 22 (sound a) 0 → r.number ≡ 0 → Small a
-asked_small a r e z = sound_small a (asked_yes 21 (sound a) 0 (ap (λ (x : Refusal). x.number) (sym e) ∙ z))
+pub asked_small : (a : Report) → (asked 22 (sound a) 0).number ≡ 0 → Small a
+asked_small a z = sound_small a (asked_yes 21 (sound a) 0 z)
 
 -- ---- the questions, as the code puts them
 module _ (a b : Report) where
@@ -49,33 +48,22 @@ module _ (a b : Report) where
   unfolding pool_refusal first_no sequence number holds
   refusal_is = ap (λ (x : Refusal). or_else (asked 22 (sound a) 0) (or_else (asked 22 (sound b) 0) x)) (asked_last 3 (leb (a.plans + b.plans) most_plans) 0)
 
-  module _ (r : Refusal) (e : r ≡ pool_refusal a b) where
-    pub refuses : ¬ (r.number ≡ 0) → Refused r.number r.cell ≡ pool a b
-    unfolding pool
-    refuses h = rw (← e, ne_eqb r.number 0 h)
+  module _ (z : (pool_refusal a b).number ≡ 0) where
+    pub both_small : Small a × Small b
+    both_small =
+        let (p, q) = both-none (asked 22 (sound a) 0) _ (ap (λ (x : Refusal). x.number) (sym refusal_is) ∙ z) in
+        (sound_small a (asked_yes 21 (sound a) 0 p), sound_small b (asked_yes 21 (sound b) 0 (both-none (asked 22 (sound b) 0) _ q).0))
 
-    module _ (z : r.number ≡ 0) where
-      pub both_small : Small a × Small b
-      both_small =
-          let (p, q) = both-none (asked 22 (sound a) 0) _ (ap (λ (x : Refusal). x.number) (sym (e ∙ refusal_is)) ∙ z) in
-          (sound_small a (asked_yes 21 (sound a) 0 p), sound_small b (asked_yes 21 (sound b) 0 (both-none (asked 22 (sound b) 0) _ q).0))
-
-      pub gives : (p : Report) → p ≡ pooled a b → Figures p ≡ pool a b
-      unfolding pool
-      gives p q = rw (q, ← e, eq-eqb r.number 0 z)
-
--- ---- a file's answer added, as the code does it
-pub adds_none : (total answer : Reported) {k c : ℕ} → total ≡ Refused k c → total ≡ adds total answer
+-- ---- a file's answer added, as the code does it: too many plans are the answer
+pub adds-none : (total answer y : Result Report Refusal) {e : Refusal} → total ≡ Err e → IsErrAnd y (λ d. d ≡ e) → y ≡ adds total answer
 unfolding adds
-adds_none total answer e = rw e
+adds-none total answer (Ok v) h p = absurd p
+adds-none total answer (Err d) h p = rw (h, p)
 
-pub adds-nothing : (total answer : Reported) {a : Report} {k c : ℕ} → total ≡ Figures a → answer ≡ Refused k c → Figures a ≡ adds total answer
-unfolding adds
-adds-nothing total answer e f = rw (e, f)
-
-pub adds-pool : (total answer : Reported) {a b : Report} → total ≡ Figures a → answer ≡ Figures b → pool a b ≡ adds total answer
-unfolding adds
-adds-pool total answer e f = rw (e, f)
+-- a quotient or a remainder that the library gives, by nothing or a number
+pub given_or_none : (o : Option ℕ) (n v : ℕ) → SomeIff o (0 < n) v → unwrap_or o 0 ≡ cond (eqb n 0) 0 v
+given_or_none None n v h = rw (eq-eqb n 0 (omega (arith, h)))
+given_or_none (Some x) n v h = rw (ne_eqb n 0 (λ (e : n ≡ 0). omega (arith, h.0))) h.1
 
 -- ---- the least of two, where either may have no plan
 narrower-both : (p l q m : ℕ) → 1 ≤ p → 1 ≤ q → narrower p l q m ≡ min l m

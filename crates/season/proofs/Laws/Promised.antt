@@ -1,16 +1,15 @@
 -- E14's promises about reports and pools. Assumes nothing.
-use Rattle.std.specs.Prelude.{◌≡◌, List, [], ◌∷◌, ◌++◌, Bool, true, false, ◌&&◌, cond, ℕ, ◌+◌, ◌≤◌, ◌<◌, T, eqb, leb}
+use Rattle.std.specs.Prelude.{◌≡◌, List, [], ◌∷◌, ◌++◌, Bool, true, false, ◌&&◌, cond, ◌+◌, ◌≤◌, ◌<◌, T, eqb, leb, Result, Ok, Err}
 use Rattle.std.proofs.Math.Path.{refl, ap}
 use Rattle.std.proofs.Common.{sym, ◌∙◌, subst, append-nil, append_assoc, arith}
 use Rattle.std.proofs.Math.Decide.{dec_le}
 use borrow.Author.Tests.{ne_eqb, le-leb, lt-leb}
 use Rattle.std.proofs.Math.ListN.{length}
-use Rattle.plan.specs.Questions.{asked, or_else}
+use Rattle.plan.specs.Questions.{asked, or_else, answered}
+use Rattle.plan.specs.declared.Refusal.{Refusal}
 use Rattle.season.specs.declared.Report.{Report}
-use Rattle.season.specs.declared.Reported.{Reported}
-use Rattle.season.specs.declared.Reported.TheVariants.{Figures, Refused}
 use Rattle.season.specs.Report.{most_plans, Figure, summed, narrowest, widest, quotient, remainder, report, nothing, Plans}
-use Rattle.season.specs.Pool.{pooled, empty, sound, pool, adds, gathered, folder, Files}
+use Rattle.season.specs.Pool.{pooled, empty, sound, pool, refuses, adds, gathered, folder, Files}
 use Rattle.season.proofs.Laws.Report.{length-after, plans_after, report-none, sums}
 use Rattle.season.proofs.Laws.Pool.{sound_empty, refusal_is, pooled_joins, pooled_turned}
 
@@ -19,14 +18,14 @@ true_is true h = refl
 true_is false h = absurd h
 
 -- the answer, from those to the questions
-abbrev told : (x y z : Bool) → Report → Reported
-told true true true p = Figures p
-told true true false p = Refused 4 0
-told true false z p = Refused 22 0
-told false y z p = Refused 22 0
+abbrev told : (x y z : Bool) → Report → Result Report Refusal
+told true true true p = Ok p
+told true true false p = refuses 4
+told true false z p = refuses 22
+told false y z p = refuses 22
 
 pool-told : (a b : Report) (x y z : Bool) → sound a ≡ x → sound b ≡ y → leb (a.plans + b.plans) most_plans ≡ z → pool a b ≡ told x y z (pooled a b)
-unfolding pool asked or_else
+unfolding pool asked or_else answered
 pool-told a b true true true p q r = rw (refusal_is a b, p, q, r)
 pool-told a b true true false p q r = rw (refusal_is a b, p, q, r)
 pool-told a b true false z p q r = rw (refusal_is a b, p, q)
@@ -49,14 +48,14 @@ pool_turned a b = go (sound a) (sound b) (leb (a.plans + b.plans) most_plans) re
     go false false z p q r = pool-told a b false false z p q r ∙ sym (pool-told b a false false z q p (e ∙ r))
 
 -- more than 1,024 plans: 4
-pub pool_many : (a b : Report) → T (sound a) → T (sound b) → most_plans < a.plans + b.plans → pool a b ≡ Refused 4 0
+pub pool_many : (a b : Report) → T (sound a) → T (sound b) → most_plans < a.plans + b.plans → pool a b ≡ refuses 4
 pool_many a b p q h = pool-told a b true true false (true_is _ p) (true_is _ q) (lt-leb _ _ h)
 
 -- a report that 22 refuses, first or second, however many plans there are
-pub pool-wrong : (a b : Report) → sound a && sound b ≡ false → pool a b ≡ Refused 22 0
+pub pool-wrong : (a b : Report) → sound a && sound b ≡ false → pool a b ≡ refuses 22
 pool-wrong a b h = go (sound a) (sound b) refl refl h
   where
-    go : (x y : Bool) → sound a ≡ x → sound b ≡ y → x && y ≡ false → pool a b ≡ Refused 22 0
+    go : (x y : Bool) → sound a ≡ x → sound b ≡ y → x && y ≡ false → pool a b ≡ refuses 22
     go true true p q k = absurd (subst (λ (b : Bool). T b) k tt)
     go true false p q k = pool-told a b true false _ p q refl
     go false y p q k = pool-told a b false y _ p q refl
@@ -75,22 +74,22 @@ report-sound xs h k = rw (is_true xs h k) tt
         unfold sound report in rw (le-leb (length xs) most_plans k, le-leb _ _ s.cells, le-leb _ _ s.widths, le-leb _ _ s.areas) (last xs)
 
 -- ---- THE promises
-pub pool_joins : (xs ys : List Figure) → Plans xs → Plans ys → length xs + length ys ≤ most_plans → pool (report xs) (report ys) ≡ Figures (report (xs ++ ys))
+pub pool_joins : (xs ys : List Figure) → Plans xs → Plans ys → length xs + length ys ≤ most_plans → pool (report xs) (report ys) ≡ Ok (report (xs ++ ys))
 pool_joins xs ys h k l =
     pool-told (report xs) (report ys) true true true (true_is _ (report-sound xs h (omega arith))) (true_is _ (report-sound ys k (omega arith))) (unfold report in le-leb _ _ l)
-    ∙ ap Figures (pooled_joins xs ys)
+    ∙ ap Ok (pooled_joins xs ys)
 
 -- no plan changes nothing
-pub pool-none : (xs : List Figure) → Plans xs → length xs ≤ most_plans → (pool nothing (report xs) ≡ Figures (report xs)) × (pool (report xs) nothing ≡ Figures (report xs))
+pub pool-none : (xs : List Figure) → Plans xs → length xs ≤ most_plans → (pool nothing (report xs) ≡ Ok (report xs)) × (pool (report xs) nothing ≡ Ok (report xs))
 pool-none xs h l =
-    let e : pool nothing (report xs) ≡ Figures (report xs) = rw report-none at (pool_joins [] xs Plans.no_plan h (omega arith)) in
+    let e : pool nothing (report xs) ≡ Ok (report xs) = rw report-none at (pool_joins [] xs Plans.no_plan h (omega arith)) in
     (e, pool_turned (report xs) nothing ∙ e)
 
 -- ---- a folder, file by file
-stays : (k c : ℕ) (rs : List Reported) → gathered (Refused k c) rs ≡ Refused k c
+stays : (e : Refusal) (rs : List (Result Report Refusal)) → gathered (Err e) rs ≡ Err e
 unfolding gathered adds
-stays k c [] = refl
-stays k c (r ∷ rs) = stays k c rs
+stays e [] = refl
+stays e (r ∷ rs) = stays e rs
 
 one : {x : Figure} {xs : List Figure} → Plans (x ∷ xs) → Plans (x ∷ [])
 one (Plans.more c w r h) = Plans.more c w r Plans.no_plan
@@ -98,17 +97,17 @@ one (Plans.more c w r h) = Plans.more c w r Plans.no_plan
 others : {x : Figure} {xs : List Figure} → Plans (x ∷ xs) → Plans xs
 others (Plans.more c w r h) = h
 
-gathers : {rs : List Reported} {xs : List Figure} → Files rs xs → (ys : List Figure) → Plans ys → Plans xs → length ys + length xs ≤ most_plans → gathered (Figures (report ys)) rs ≡ Figures (report (ys ++ xs))
+gathers : {rs : List (Result Report Refusal)} {xs : List Figure} → Files rs xs → (ys : List Figure) → Plans ys → Plans xs → length ys + length xs ≤ most_plans → gathered (Ok (report ys)) rs ≡ Ok (report (ys ++ xs))
 unfolding gathered adds
-gathers Files.no_file ys h k l = sym (ap (λ (zs : List Figure). Figures (report zs)) (append-nil ys))
+gathers Files.no_file ys h k l = sym (ap (λ (zs : List Figure). Ok (report zs)) (append-nil ys))
 gathers (Files.plan {x = x} {rs = rs} {xs = xs} fs) ys h k l =
     let n = length-after ys (x ∷ []) in
-    ap (λ (t : Reported). gathered t rs) (pool_joins ys (x ∷ []) h (one k) (omega arith))
+    ap (λ (t : Result Report Refusal). gathered t rs) (pool_joins ys (x ∷ []) h (one k) (omega arith))
     ∙ gathers fs (ys ++ (x ∷ [])) (plans_after h (one k)) (others k) (omega (arith, n))
-    ∙ ap (λ (zs : List Figure). Figures (report zs)) (append_assoc ys (x ∷ []) xs)
+    ∙ ap (λ (zs : List Figure). Ok (report zs)) (append_assoc ys (x ∷ []) xs)
 gathers (Files.refused fs) ys h k l = gathers fs ys h k l
 
-passes : {rs : List Reported} {xs : List Figure} → Files rs xs → (ys : List Figure) → Plans ys → Plans xs → length ys ≤ most_plans → most_plans < length ys + length xs → gathered (Figures (report ys)) rs ≡ Refused 4 0
+passes : {rs : List (Result Report Refusal)} {xs : List Figure} → Files rs xs → (ys : List Figure) → Plans ys → Plans xs → length ys ≤ most_plans → most_plans < length ys + length xs → gathered (Ok (report ys)) rs ≡ refuses 4
 unfolding gathered adds
 passes Files.no_file ys h k m l = absurd (omega arith)
 passes (Files.plan {x = x} {rs = rs} {xs = xs} fs) ys h k m l = go (dec_le (length ys + 1) most_plans) (λ p q. passes fs (ys ++ (x ∷ [])) (plans_after h (one k)) (others k) p q)
@@ -116,16 +115,16 @@ passes (Files.plan {x = x} {rs = rs} {xs = xs} fs) ys h k m l = go (dec_le (leng
     n : length (ys ++ (x ∷ [])) ≡ length ys + 1
     n = omega (arith, length-after ys (x ∷ []))
 
-    go : Dec (length ys + 1 ≤ most_plans) → (length (ys ++ (x ∷ [])) ≤ most_plans → most_plans < length (ys ++ (x ∷ [])) + length xs → gathered (Figures (report (ys ++ (x ∷ [])))) rs ≡ Refused 4 0)
-        → gathered (pool (report ys) (report (x ∷ []))) rs ≡ Refused 4 0
-    go (yes d) f = ap (λ (t : Reported). gathered t rs) (pool_joins ys (x ∷ []) h (one k) (omega arith)) ∙ f (omega (arith, n)) (omega (arith, n))
+    go : Dec (length ys + 1 ≤ most_plans) → (length (ys ++ (x ∷ [])) ≤ most_plans → most_plans < length (ys ++ (x ∷ [])) + length xs → gathered (Ok (report (ys ++ (x ∷ [])))) rs ≡ refuses 4)
+        → gathered (pool (report ys) (report (x ∷ []))) rs ≡ refuses 4
+    go (yes d) f = ap (λ (t : Result Report Refusal). gathered t rs) (pool_joins ys (x ∷ []) h (one k) (omega arith)) ∙ f (omega (arith, n)) (omega (arith, n))
     go (no d) f =
-        ap (λ (t : Reported). gathered t rs) (pool_many (report ys) (report (x ∷ [])) (report-sound ys h m) (report-sound (x ∷ []) (one k) (omega arith)) (unfold report in omega arith))
-        ∙ stays 4 0 rs
+        ap (λ (t : Result Report Refusal). gathered t rs) (pool_many (report ys) (report (x ∷ [])) (report-sound ys h m) (report-sound (x ∷ []) (one k) (omega arith)) (unfold report in omega arith))
+        ∙ stays _ rs
 passes (Files.refused fs) ys h k m l = passes fs ys h k m l
 
-pub folder-report : (rs : List Reported) (xs : List Figure) → Files rs xs → Plans xs → length xs ≤ most_plans → folder rs ≡ Figures (report xs)
+pub folder-report : (rs : List (Result Report Refusal)) (xs : List Figure) → Files rs xs → Plans xs → length xs ≤ most_plans → folder rs ≡ Ok (report xs)
 folder-report rs xs fs h l = rw report-none at (gathers fs [] Plans.no_plan h (omega arith))
 
-pub folder_many : (rs : List Reported) (xs : List Figure) → Files rs xs → Plans xs → most_plans < length xs → folder rs ≡ Refused 4 0
+pub folder_many : (rs : List (Result Report Refusal)) (xs : List Figure) → Files rs xs → Plans xs → most_plans < length xs → folder rs ≡ refuses 4
 folder_many rs xs fs h l = rw report-none at (passes fs [] Plans.no_plan h (omega arith) (omega arith))

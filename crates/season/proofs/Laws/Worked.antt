@@ -1,12 +1,12 @@
 -- The worked rows, computed. Assumes nothing.
 use Rattle.std.specs.Prelude.{refl}
-use Rattle.plan.specs.Questions.{asked, or_else}
+use Rattle.plan.specs.Questions.{asked, or_else, answered}
 use Rattle.season.specs.Report.{summed, narrowest, widest, quotient, remainder, report, nothing}
 use Rattle.season.specs.Pool.{narrower, pooled, empty, sound, sequence, number, holds, first_no, pool_refusal, pool, adds, gathered, Files}
 use Rattle.season.specs.Worked.{Rows}
 
 pub worked : Rows
-unfolding summed narrowest widest quotient remainder report nothing narrower pooled empty sound sequence number holds first_no pool_refusal pool adds gathered asked or_else
+unfolding summed narrowest widest quotient remainder report nothing narrower pooled empty sound sequence number holds first_no pool_refusal pool adds gathered asked or_else answered
 worked =
     record {
       three = refl;

@@ -1,12 +1,14 @@
-use Rattle.std.proofs.Common.{◌∙◌}
-use Rattle.season.proofs.Laws.Pool.{adds_none, adds-nothing, adds-pool}
+use Rattle.season.specs.Pool.{adds}
+use Rattle.season.proofs.Laws.Pool.{adds-none}
 use Rattle.season.proofs.add.Goals as goal
 
-pub returns-in_default : goal.returns-in_default
-returns-in_default c = adds_none _ _ c.in_default.is
+pub returns-in_err-so_far : goal.returns-in_err-so_far
+returns-in_err-so_far c = adds-none _ _ _ (c.in_err-so_far.was) c.from_residual.ensures.1
 
-pub returns-in_default-answer : goal.returns-in_default-answer
-returns-in_default-answer c = adds-nothing _ _ c.in-Figures.is c.in_default-answer.is
+pub returns-in-Ok : goal.returns-in-Ok
+unfolding adds
+returns-in-Ok c = rw (c.in_ok-so_far.was, c.in-Ok.is) c.pool.ensures
 
-pub returns : goal.returns
-returns c = c.pool.ensures ∙ adds-pool _ _ c.in-Figures.is c.in-Figures-answer.is
+pub returns-in-Err : goal.returns-in-Err
+unfolding adds
+returns-in-Err c = rw (c.in_ok-so_far.was, c.in-Err.is)

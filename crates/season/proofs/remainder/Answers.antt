@@ -1,11 +1,8 @@
-use borrow.Author.Tests.{eq-eqb, ne_eqb}
+use mathlib.Core.Path.{◌∙◌}
 use Rattle.season.specs.Report.{remainder}
+use Rattle.season.proofs.Laws.Pool.{given_or_none}
 use Rattle.season.proofs.remainder.Goals as goal
-
-pub returns-then-n-eq0 : goal.returns-then-n-eq0
-unfolding remainder
-returns-then-n-eq0 c = rw (eq-eqb _ _ c.if-n-eq0.true)
 
 pub returns : goal.returns
 unfolding remainder
-returns c = rw (ne_eqb _ _ c.if-n-eq0.false)
+returns c = c.unwrap_or.ensures ∙ given_or_none _ _ _ c.checked_rem.ensures

@@ -8,25 +8,10 @@ pub link_of-s-requires : goal.link_of-s-requires
 link_of-s-requires c =
     (omega (arith, c.requires.is, c.requires.links_long), omega arith)
 
-pub offset_bounds-first-f : goal.offset_bounds-first-f
-offset_bounds-first-f c = omega (arith, c.requires.is)
-
-pub bounds-first-f : goal.bounds-first-f
-bounds-first-f c = c.requires.is
-
-pub overflow_add-elder : goal.overflow_add-elder
-overflow_add-elder c = omega (arith, c.requires.small)
-
 pub loop-s-init : goal.loop-s-init
 loop-s-init c =
     let a = c.args in
     shares_start a.links.now a.size.now (cols a.first.now a.end.now a.from.now a.to.now) a.f c.requires c.link_of-s.ensures refl
-
-pub offset_bounds-size-s : goal.offset_bounds-size-s
-offset_bounds-size-s c = omega (arith, c.loop-s.invariant.few)
-
-pub bounds-size-s : goal.bounds-size-s
-bounds-size-s c = omega (arith, c.loop-s.invariant.few)
 
 pub overflow_add-after : goal.overflow_add-after
 overflow_add-after c =
@@ -39,24 +24,6 @@ link_of-next-requires c =
     let g = c.loop-s.invariant in
     (omega (arith, c.requires.links_long, g.few), omega arith)
 
-pub offset_bounds-first-s : goal.offset_bounds-first-s
-offset_bounds-first-s c = omega (arith, c.loop-s.invariant.few)
-
-pub bounds-first-s : goal.bounds-first-s
-bounds-first-s c = omega (arith, c.loop-s.invariant.few)
-
-pub offset_bounds-end-s : goal.offset_bounds-end-s
-offset_bounds-end-s c = omega (arith, c.loop-s.invariant.few)
-
-pub bounds-end-s : goal.bounds-end-s
-bounds-end-s c = omega (arith, c.loop-s.invariant.few)
-
-pub offset_bounds-from-s : goal.offset_bounds-from-s
-offset_bounds-from-s c = omega (arith, c.loop-s.invariant.few)
-
-pub bounds-from-s : goal.bounds-from-s
-bounds-from-s c = omega (arith, c.loop-s.invariant.few)
-
 pub size_at-requires : goal.size_at-requires
 size_at-requires c =
     let a = c.args in
@@ -68,12 +35,6 @@ overflow_add-to c =
     let a = c.args in
     let g = c.loop-s.invariant in
     omega (arith, c.size_at.ensures, shares_fit a.links.now a.size.now (cols a.first.now a.end.now a.from.now a.to.now) a.f c.requires g c.loop-s-test.true c.link_of-next.ensures)
-
-pub offset_bounds-to-s : goal.offset_bounds-to-s
-offset_bounds-to-s c = omega (arith, c.loop-s.invariant.few)
-
-pub bounds-to-s : goal.bounds-to-s
-bounds-to-s c = omega (arith, c.loop-s.invariant.few)
 
 pub loop-s-smaller : goal.loop-s-smaller
 loop-s-smaller c =

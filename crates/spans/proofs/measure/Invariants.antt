@@ -3,6 +3,3 @@ use Rattle.spans.proofs.measure.Given as goal
 
 abbrev pub invariant-loop-c : goal.invariant-loop-c
 invariant-loop-c l = Folding l.t l.c l.size
-
-abbrev pub decreases-loop-c : goal.decreases-loop-c
-decreases-loop-c l = l.c

@@ -11,7 +11,7 @@ pub parent_of-f-requires : goal.parent_of-f-requires
 parent_of-f-requires c = (omega arith, parent_lower c.args.t c.requires _ (omega arith) (omega arith))
 
 pub loop-c-preserved : goal.loop-c-preserved
-loop-c-preserved c = sinking_turns c.args.t c.requires c.loop-c.invariant c.loop-c-test.true c.parent_of-f.ensures.0 c.greater.ensures
+loop-c-preserved c = sinking_turns c.args.t c.requires c.loop-c.invariant c.loop-c-test.true c.parent_of-f.ensures.0 c.max.ensures
 
 pub returns : goal.returns
 returns c = sinking_ends c.args.t c.requires c.loop-c.invariant c.loop-c-test.false

@@ -3,6 +3,3 @@ use Rattle.spans.proofs.sink.Given as goal
 
 abbrev pub invariant-loop-c : goal.invariant-loop-c
 invariant-loop-c l = Sinking l.t l.initial.bottoms l.c l.bottoms
-
-abbrev pub decreases-loop-c : goal.decreases-loop-c
-decreases-loop-c l = l.c

@@ -1,5 +1,5 @@
 -- A sheet that Layout gives is no wider than specs/Sizes.antt says. Assumes nothing.
-use Rattle.std.specs.Prelude.{◌≡◌, List, ℕ, ◌+◌, ◌≤◌, ℤ, pos, ◌≤ℤ◌}
+use Rattle.std.specs.Prelude.{List, ℕ, ◌+◌, ◌≤◌, ℤ, pos, ◌≤ℤ◌, Ok}
 use Rattle.std.proofs.Common.{arith}
 use Rattle.whole.specs.Whole.{plus}
 use Rattle.whole.proofs.Laws.Whole.{whole, narrow, sum}
@@ -15,8 +15,7 @@ use Rattle.contours.specs.Sheet.{whole_contour, sheet}
 use Rattle.least.proofs.Laws.Measures.{left-edge, right-edge}
 use Rattle.least.proofs.Laws.Bounds.{contour-room}
 use Rattle.layout.specs.Laid.{Lays}
-use Rattle.layout.specs.declared.Laid.{Laid}
-use Rattle.layout.specs.declared.Laid.TheVariants.{Sheet}
+use Rattle.plan.specs.declared.Measures.{Measures}
 use Rattle.layout.proofs.Laws.Laid.{sheet-asks, sheet-wide}
 use Rattle.strip.specs.Sizes.{most_wide}
 
@@ -33,8 +32,7 @@ sheet-narrow t fit al =
     omega (whole, right-edge t sound al 0 a o i (below_root t sound a i), left-edge t sound al 0 b o j (below_root t sound b j), sum ((sheet t al).x 0) (pos R), sum ((sheet t al).x b) (pos L), sum ((sheet t al).x b) (pos (L + R)))) in
     omega (whole, narrow (width t (sheet t al)), r, n, fit.not_too_many)
 
-pub laid_narrow : (t : Table) (al : ℕ) (s s' : List ℕ) (ps ps' : List ℤ) (r : Laid) (w h : ℕ) → Lays t al s s' ps ps' r → r ≡ Sheet w h → w ≤ most_wide
-laid_narrow t al s s' ps ps' r w h l e =
-    let m : Lays t al s s' ps ps' (Sheet w h) = rw e at l in
-    let k = sheet-narrow t (sheet-asks t al s s' ps ps' w h m).table.fit al in
-    omega (whole, sheet-wide t al s s' ps ps' w h m, k)
+pub laid_narrow : (t : Table) (al : ℕ) (s s' : List ℕ) (ps ps' : List ℤ) (m : Measures) → Lays t al s s' ps ps' (Ok m) → m.width ≤ most_wide
+laid_narrow t al s s' ps ps' m l =
+    let k = sheet-narrow t (sheet-asks t al s s' ps ps' m l).table.fit al in
+    omega (whole, sheet-wide t al s s' ps ps' m l, k)

@@ -1,8 +1,7 @@
 -- E8's sentences, of what Strip leaves in the bytes lent to it. Assumes nothing.
-use Rattle.std.specs.Prelude.{◌≡◌, refl, List, ◌++◌, Bool, true, false, ◌↔◌, ℕ, ◌+◌, ◌*◌, ◌-◌, ◌/◌, ◌%◌, ◌^◌, ◌<◌, ℤ, pos, ◌+ℤ◌, length, get_or, ◌≤ℤ◌, ◌<ℤ◌}
+use Rattle.std.specs.Prelude.{◌≡◌, refl, List, ◌++◌, Bool, true, false, ◌↔◌, ℕ, ◌+◌, ◌*◌, ◌-◌, ◌/◌, ◌%◌, ◌^◌, ◌<◌, ℤ, pos, ◌+ℤ◌, length, get_or, ◌≤ℤ◌, ◌<ℤ◌, Result, Ok, Err, ⊤}
 use Rattle.std.proofs.Common.{sym, ap, ◌∙◌, arith, length-append}
 use Rattle.std.proofs.Math.Decide.{ℕ_discrete}
-use borrow.Author.Tests.{eq-eqb, ne_eqb}
 use Rattle.whole.specs.Says.{Says}
 use Rattle.plan.specs.Plan.{Table, Sound}
 use Rattle.plan.specs.Questions.{strip, none, refusal, strip_given}
@@ -16,6 +15,7 @@ use Rattle.raster.specs.Points.{dot}
 use Rattle.raster.specs.Boundary.{OnSome}
 use Rattle.raster.specs.Strip.{digit, strip_of}
 use Rattle.raster.proofs.Laws.Bytes.{strip_bit, strip_cut}
+use Rattle.plan.proofs.Laws.Answered.{answered_none, answered_some}
 use Rattle.strips.specs.Stripped.{bytes_after, Strips}
 use Rattle.strips.proofs.Laws.Points.{says_printed, dot-beyond, dot-below}
 
@@ -24,23 +24,23 @@ digit_says : {b : Bool} {P : Type 0} → Says b P → (digit b ≡ 1) ↔ P
 digit_says {b = true} s = (λ e. s.read tt, λ h. refl)
 digit_says {b = false} s = (λ e. absurd (omega arith), λ h. absurd (s.show h))
 
-module _ (t : Table) (ps : List ℤ) (row first : ℕ) (bs bs' : List ℕ) (r : Refusal) (g : Strips t ps row first bs bs' r) where
+module _ (t : Table) (ps : List ℤ) (row first : ℕ) (bs bs' : List ℕ) (r : Result ⊤ Refusal) (g : Strips t ps row first bs bs' r) where
   abbrev why : Refusal
   why = refusal strip (strip_given t ps)
 
   -- a refusal leaves the bytes as they were
-  pub unchanged : ¬ (why.number ≡ 0) → (r ≡ why) × (bs' ≡ bs)
+  pub unchanged : ¬ (why.number ≡ 0) → (r ≡ Err why) × (bs' ≡ bs)
   unfolding bytes_after
-  unchanged z = (g.answers, g.bytes ∙ rw (g.answers, ne_eqb why.number 0 z))
+  unchanged z = let e = g.answers ∙ answered_some why tt z in (e, g.bytes ∙ rw e)
 
-  printed-bytes : why.number ≡ 0 → bs' ≡ strip_of t (placed ps) row first (length bs)
+  printed-bytes : why.number ≡ 0 → (r ≡ Ok tt) × (bs' ≡ strip_of t (placed ps) row first (length bs))
   unfolding bytes_after
-  printed-bytes z = g.bytes ∙ rw (g.answers, eq-eqb why.number 0 z)
+  printed-bytes z = let e = g.answers ∙ answered_none why tt z in (e, g.bytes ∙ rw e)
 
   module _ (z : why ≡ none) where
     -- every byte is the strip's
-    pub gives : (r ≡ none) × (bs' ≡ strip_of t (placed ps) row first (length bs))
-    gives = (g.answers ∙ z, printed-bytes (ap (λ (x : Refusal). x.number) z))
+    pub gives : (r ≡ Ok tt) × (bs' ≡ strip_of t (placed ps) row first (length bs))
+    gives = printed-bytes (ap (λ (x : Refusal). x.number) z)
 
     sound : Sound t
     sound = (lent_fit t (length ps) (both-none _ _ (ap (λ (x : Refusal). x.number) (sym (strip-refusal t ps) ∙ z))).0).fit.sound
@@ -62,13 +62,13 @@ module _ (t : Table) (ps : List ℤ) (row first : ℕ) (bs bs' : List ℕ) (r : 
       below w = bit ∙ ap digit (dot-below t (placed ps) sound row (first + (8 * i + j)) w)
 
 -- "A strip cut between any two of its bytes gives two strips that join into the whole"; refused, all three stay as they were
-pub joins : (t : Table) (ps : List ℤ) (row first : ℕ) (cs ds cs' ds' whole : List ℕ) (q r s : Refusal)
+pub joins : (t : Table) (ps : List ℤ) (row first : ℕ) (cs ds cs' ds' whole : List ℕ) (q r s : Result ⊤ Refusal)
     → Strips t ps row first cs cs' q → Strips t ps row (first + 8 * length cs) ds ds' r → Strips t ps row first (cs ++ ds) whole s → whole ≡ cs' ++ ds'
 joins t ps row first cs ds cs' ds' whole q r s a b w = go (ℕ_discrete (refusal strip (strip_given t ps)).number 0)
   where
     go : Dec ((refusal strip (strip_given t ps)).number ≡ 0) → whole ≡ cs' ++ ds'
     go (yes z) =
-        rw (printed-bytes t ps row first cs cs' q a z, printed-bytes t ps row (first + 8 * length cs) ds ds' r b z)
-        (printed-bytes t ps row first (cs ++ ds) whole s w z ∙ ap (strip_of t (placed ps) row first) (length-append cs ds) ∙ strip_cut t (placed ps) row first (length cs) (length ds))
+        rw ((printed-bytes t ps row first cs cs' q a z).1, (printed-bytes t ps row (first + 8 * length cs) ds ds' r b z).1)
+        ((printed-bytes t ps row first (cs ++ ds) whole s w z).1 ∙ ap (strip_of t (placed ps) row first) (length-append cs ds) ∙ strip_cut t (placed ps) row first (length cs) (length ds))
     go (no z) =
         rw ((unchanged t ps row first cs cs' q a z).1, (unchanged t ps row (first + 8 * length cs) ds ds' r b z).1) (unchanged t ps row first (cs ++ ds) whole s w z).1

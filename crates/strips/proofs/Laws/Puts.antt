@@ -1,6 +1,7 @@
 -- What each step of the code adds to the picture. Assumes nothing.
-use Rattle.std.specs.Prelude.{◌≡◌, refl, List, [], ◌∷◌, Bool, false, ◌&&◌, ◌||◌, ◌⊎◌, ℕ, zero, suc, ◌+◌, ◌-◌, ◌/◌, ◌%◌, ◌≤◌, ◌<◌, min, max, eqb, leb, ltb, length, get_or, set}
-use Rattle.std.proofs.Common.{sym, ◌∙◌, ap, inl, inr, arith, length-set, get_or-set_same, get_or-set_other}
+use Rattle.std.specs.Prelude.{◌≡◌, refl, List, [], ◌∷◌, Bool, false, ◌&&◌, ◌||◌, ◌⊎◌, ℕ, zero, suc, ◌+◌, ◌-◌, ◌/◌, ◌%◌, ◌≤◌, ◌<◌, min, max, eqb, leb, ltb, length, set, replicate}
+use Rattle.std.proofs.Common.{sym, ◌∙◌, ap, inl, inr, arith, length-set}
+use Rattle.std.proofs.lemmas.List.{get_or-replicate, length-replicate}
 use Rattle.std.proofs.Math.Decide.{ℕ_discrete}
 use Rattle.std.specs.Int.Bits.{bit_and}
 use Rattle.whole.proofs.Laws.Says.{says_lt, that_is, both, either, says_le, says_eq, same_test, is_false}
@@ -23,24 +24,10 @@ or_past bs i m h = sym (set_past bs i _ h)
 pub and_of : (a b : ℕ) (f g : ℕ → Bool) → a ≡ byte f → b ≡ byte g → bit_and a b ≡ byte (λ i. f i && g i)
 and_of a b f g d e = rw (d, e) (and_pack f g 8)
 
--- ---- cleared, up to byte i
-pub record Cleared (bs₀ bs : List ℕ) (i : ℕ) : Type 0 where
-  pub long : length bs ≡ length bs₀
-  pub zeros : (k : ℕ) → k < i → get_or bs k 0 ≡ 0
-
-pub cleared-starts : (bs : List ℕ) → Cleared bs bs 0
-cleared-starts bs = record { long = refl; zeros = λ k h. absurd (omega arith) }
-
-pub cleared-turns : {bs₀ bs : List ℕ} {i : ℕ} → Cleared bs₀ bs i → i < length bs → Cleared bs₀ (set bs i 0) (i + 1)
-cleared-turns {bs₀} {bs} {i} c h = record { long = length-set bs i 0 ∙ c.long; zeros = λ k l. go k l (ℕ_discrete k i) }
-  where
-    go : (k : ℕ) → k < i + 1 → Dec (k ≡ i) → get_or (set bs i 0) k 0 ≡ 0
-    go k l (yes e) = rw e (get_or-set_same bs i 0 0 h)
-    go k l (no e) = get_or-set_other bs i k 0 0 e ∙ c.zeros k (omega arith)
-
-pub cleared-ends : {bs₀ bs : List ℕ} {i : ℕ} → Cleared bs₀ bs i → length bs ≤ i → Painted bs (length bs₀) (λ k j. false)
+-- ---- zeros
+pub cleared : (bs cs : List ℕ) → cs ≡ replicate (length bs) 0 → Painted cs (length bs) (λ k j. false)
 unfolding pack
-cleared-ends c h = record { long = c.long; at = λ k l. c.zeros k (omega (arith, c.long)) }
+cleared bs cs e = rw e (record { long = length-replicate (length bs) 0; at = λ k l. get_or-replicate (length bs) k 0 0 l })
 
 -- ---- filled, from byte a to before byte k
 pub record Filled (bs₀ bs : List ℕ) (a stop k : ℕ) : Type 0 where

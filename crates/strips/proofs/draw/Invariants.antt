@@ -1,10 +1,6 @@
 use Rattle.strips.proofs.Laws.Sheet.{Drawing}
 use lib.ListN.{length}
-use Prim.Native.Nat.{◌-◌}
 use Rattle.strips.proofs.draw.Given as goal
 
 abbrev pub invariant-loop-c : goal.invariant-loop-c
-invariant-loop-c l = Drawing l.t l.positions l.left l.from l.at (length l.initial.bytes) l.bytes l.c
-
-abbrev pub decreases-loop-c : goal.decreases-loop-c
-decreases-loop-c l = l.n - l.c
+invariant-loop-c l = Drawing l.t l.positions l.left l.from l.at (length l.fn.bytes) l.bytes l.c

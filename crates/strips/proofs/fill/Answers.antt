@@ -8,4 +8,4 @@ pub loop-k-preserved : goal.loop-k-preserved
 loop-k-preserved c = filled-turns c.loop-k.invariant c.loop-k-test.true
 
 pub returns : goal.returns
-returns c = filled-ends c.loop-k.invariant c.lesser-stop.ensures c.requires c.loop-k-test.false
+returns c = filled-ends c.loop-k.invariant c.min-stop.ensures c.requires c.loop-k-test.false

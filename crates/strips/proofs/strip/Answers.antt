@@ -1,11 +1,12 @@
+use Rattle.plan.proofs.Laws.Answered.{passes}
 use Rattle.strips.proofs.Laws.Stripped.{accepted, refused_leaves, drawn_leaves}
 use Rattle.strips.proofs.strip.Goals as goal
 
-pub returns-then-no-ne0 : goal.returns-then-no-ne0
-returns-then-no-ne0 c = refused_leaves _ _ _ _ _ c.refuse-no.ensures _ c.if-no-ne0.true
+pub returns-in_err-refuse : goal.returns-in_err-refuse
+returns-in_err-refuse c = refused_leaves _ _ _ _ _ _ _ c.in_err-refuse.ensures c.from_residual.ensures.1
 
 pub draw-requires : goal.draw-requires
-draw-requires c = accepted _ _ _ c.refuse-no.ensures c.if-no-ne0.false
+draw-requires c = accepted _ _ (passes _ _ c.in_ok-refuse.ensures)
 
 pub returns : goal.returns
-returns c = drawn_leaves _ _ _ _ _ c.refuse-no.ensures _ _ c.if-no-ne0.false c.draw.ensures
+returns c = drawn_leaves _ _ _ _ _ _ _ c.in_ok-refuse.ensures c.draw.ensures

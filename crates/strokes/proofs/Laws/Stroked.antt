@@ -1,6 +1,6 @@
 -- What holds where no question refuses a stroke. Nothing that a reader must believe stands here. Assumes nothing.
 use Rattle.std.specs.Prelude.{◌≡◌, List, ℕ, ◌*◌, ◌≤◌, ◌<◌, T, length, ℤ}
-use Rattle.std.proofs.Common.{sym, ◌∙◌, ap, subst, arith, ltb→lt, eq-eqb, ne_eqb}
+use Rattle.std.proofs.Common.{sym, ◌∙◌, ap, subst, arith, ltb→lt}
 use Rattle.plan.specs.Fit.{Fit}
 use Rattle.plan.specs.Near.{Near}
 use Rattle.plan.specs.Plan.{Table}
@@ -16,9 +16,6 @@ use Rattle.plan.proofs.Laws.Tables.{length-is, count_few, count-some}
 use Rattle.plan.specs.declared.Columns.{Columns}
 use Rattle.plan.specs.declared.Page.{Page}
 use Rattle.plan.specs.declared.Refusal.{Refusal}
-use Rattle.pen.specs.declared.Stroke.{Stroke}
-use Rattle.strokes.specs.declared.Stroked.TheVariants.{Drawn, Refused}
-use Rattle.strokes.specs.Stroked.{unless}
 
 -- a table, positions, a page and a number that no question refuses
 pub record Passed (t : Table) (ps : List ℤ) (g : Page) (s : ℕ) : Type 0 where
@@ -35,21 +32,14 @@ passed t ps g s z =
     let h = lent_fit t (length ps) lent in
     record { fit = h.fit; near = near-accepted ps (length t) h.room near; page = asked_yes 16 _ 0 paged; number = ltb→lt s (strokes_of (length t)) (asked_yes 17 _ 0 last) }
 
-pub accepted : (t : Columns) (ps : List ℤ) (g : Page) (s : ℕ) (q : Refusal) → q ≡ refusal stroke (stroke_given (table_of t) ps g s) → q.number ≡ 0
+pub accepted : (t : Columns) (ps : List ℤ) (g : Page) (s : ℕ) → (refusal stroke (stroke_given (table_of t) ps g s)).number ≡ 0
     → Fit (table_of t) × Near ps t.count × (s < strokes_of t.count)
-accepted t ps g s q e z =
-    let h = passed (table_of t) ps g s (ap (λ (x : Refusal). x.number) (sym e) ∙ z) in
+accepted t ps g s z =
+    let h = passed (table_of t) ps g s z in
     (h.fit, subst (λ (n : ℕ). Near ps n) (length-is t) h.near, subst (λ (n : ℕ). s < strokes_of n) (length-is t) h.number)
 
 -- the count of a table that the first questions pass
-pub lent_counts : (t : Columns) (p : ℕ) (q : Refusal) → q ≡ lent_refusal (table_of t) p → q.number ≡ 0 → (1 ≤ t.count) × (t.count ≤ 256) × (2 * t.count ≤ p)
-lent_counts t p q e z =
-    let h = lent_fit (table_of t) p (ap (λ (x : Refusal). x.number) (sym e) ∙ z) in
+pub lent_counts : (t : Columns) (p : ℕ) → (lent_refusal (table_of t) p).number ≡ 0 → (1 ≤ t.count) × (t.count ≤ 256) × (2 * t.count ≤ p)
+lent_counts t p z =
+    let h = lent_fit (table_of t) p z in
     (count-some t h.fit, count_few t h.fit, omega (arith, h.room, length-is t))
-
--- the refusal, or the answer
-pub unless-refused : (r q : Refusal) (a : Stroke) → q ≡ r → ¬ (q.number ≡ 0) → Refused q.number q.cell ≡ unless r a
-unless-refused r q a e h = rw (← e, ne_eqb q.number 0 h)
-
-pub unless-none : (r q : Refusal) (a b : Stroke) → q ≡ r → q.number ≡ 0 → b ≡ a → Drawn b ≡ unless r a
-unless-none r q a b e h k = rw (← e, eq-eqb q.number 0 h, k)

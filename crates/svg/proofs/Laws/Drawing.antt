@@ -10,6 +10,7 @@ use Rattle.plan.specs.Pages.{fair}
 use Rattle.plan.specs.Questions.{strokes_of}
 use Rattle.plan.proofs.Laws.Columns.{table-length}
 use Rattle.plan.specs.declared.Page.{Page}
+use Rattle.plan.specs.declared.Refusal.{Refusal}
 use Rattle.plan.specs.Columns.{table_of}
 use Rattle.plan.proofs.Laws.Tables.{length-is, count-some}
 use Rattle.plan.specs.declared.Columns.{Columns}
@@ -18,8 +19,8 @@ use Rattle.least.proofs.Laws.Columns.{sheet-inside}
 use Rattle.positions.specs.Written.{written}
 use Rattle.positions.proofs.Laws.Written.{written_agree}
 use Rattle.layout.specs.Laid.{Drawn}
-use Rattle.layout.specs.declared.Measures.{Measures}
-use Rattle.planfile_spec.specs.declared.Reading.{Reading}
+use Rattle.plan.specs.declared.Measures.{Measures}
+use Rattle.planfile_spec.specs.Read.{Reading}
 use Rattle.planfile_spec.specs.Reading.{reading_of}
 use Rattle.listing.specs.Printed.{Bytes, refused_line}
 use Rattle.listing.specs.Put.{Put}
@@ -131,10 +132,6 @@ unfolding sheet_text
 sheet-put p g f w h x y l el ew eh ex ey q r s t v = rw (← el, ← ew, ← eh, ← ex, ← ey) (then q (then r (then s (then t v))))
 
 module _ (p : Reading) (f : Bytes) (g : Page) (e : p ≡ reading_of f most_cells) where
-  pub drawing-refused : ¬ (p.refusal.number ≡ 0) → drawing_of f g ≡ refused_line p.refusal.number p.refusal.cell
-  unfolding drawing_of
-  drawing-refused n = rw (← e, ne_eqb p.refusal.number 0 n)
-
   pub drawing_unfair : p.refusal.number ≡ 0 → fair g ≡ false → drawing_of f g ≡ refused_line 17 0
   unfolding drawing_of
   drawing_unfair z u = rw (← e, eq-eqb p.refusal.number 0 z, u)
@@ -142,6 +139,10 @@ module _ (p : Reading) (f : Bytes) (g : Page) (e : p ≡ reading_of f most_cells
   pub drawing-sheet : p.refusal.number ≡ 0 → fair g ≡ true → drawing_of f g ≡ sheet_text p g f
   unfolding drawing_of
   drawing-sheet z u = rw (← e, eq-eqb p.refusal.number 0 z, u)
+
+pub drawing-refused : (f : Bytes) (r : Refusal) (g : Page) → r ≡ (reading_of f most_cells).refusal → ¬ (r.number ≡ 0) → drawing_of f g ≡ refused_line r.number r.cell
+unfolding drawing_of
+drawing-refused f r g e n = rw (← e, ne_eqb r.number 0 n)
 
 -- a test that is turned round
 pub unfair : (r b : Bool) → r ≡ b → not r ≡ true → b ≡ false

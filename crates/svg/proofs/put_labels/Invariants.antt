@@ -1,4 +1,4 @@
-use Prim.Native.Nat.{◌+◌, ◌-◌, ◌*◌, ◌≤◌}
+use Prim.Native.Nat.{◌+◌, ◌*◌, ◌≤◌}
 use mathlib.Core.Path.{◌≡◌}
 use lib.ListN.{length}
 use Rattle.listing.specs.Put.{Put}
@@ -10,7 +10,4 @@ use Rattle.svg_labels.specs.Sizes.{label_size}
 use Rattle.svg.proofs.put_labels.Given as goal
 
 abbrev pub invariant-loop-c : goal.invariant-loop-c
-invariant-loop-c l = (l.c ≤ l.n) × (length l.out ≡ length l.initial.out) × (l.next ≤ l.at + label_size * l.c) × Put l.initial.out l.at (labels_text (strokes (table_of l.t) (placed l.positions) l.page) l.file l.c) l.out l.next
-
-abbrev pub decreases-loop-c : goal.decreases-loop-c
-decreases-loop-c l = l.n - l.c
+invariant-loop-c l = (length l.out ≡ length l.initial.out) × (l.next ≤ l.at + label_size * l.c) × Put l.initial.out l.at (labels_text (strokes (table_of l.t) (placed l.positions) l.page) l.file l.c) l.out l.next

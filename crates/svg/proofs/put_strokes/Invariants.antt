@@ -1,4 +1,4 @@
-use Prim.Native.Nat.{◌+◌, ◌-◌, ◌*◌, ◌≤◌}
+use Prim.Native.Nat.{◌+◌, ◌*◌, ◌≤◌}
 use mathlib.Core.Path.{◌≡◌}
 use lib.ListN.{length, take}
 use Rattle.listing.specs.Put.{Put}
@@ -10,7 +10,4 @@ use Rattle.svg_strokes.specs.Sizes.{stroke_size}
 use Rattle.svg.proofs.put_strokes.Given as goal
 
 abbrev pub invariant-loop-s : goal.invariant-loop-s
-invariant-loop-s l = (l.s ≤ l.n) × (length l.out ≡ length l.initial.out) × (l.next ≤ l.at + stroke_size * l.s) × Put l.initial.out l.at (strokes_text (take l.s (strokes (table_of l.t) (placed l.positions) l.page))) l.out l.next
-
-abbrev pub decreases-loop-s : goal.decreases-loop-s
-decreases-loop-s l = l.n - l.s
+invariant-loop-s l = (length l.out ≡ length l.initial.out) × (l.next ≤ l.at + stroke_size * l.s) × Put l.initial.out l.at (strokes_text (take l.s (strokes (table_of l.t) (placed l.positions) l.page))) l.out l.next

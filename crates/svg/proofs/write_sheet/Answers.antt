@@ -1,5 +1,6 @@
 use native.Mathlib.Omega.{arith}
 use Rattle.printing.proofs.Laws.Taken.{taken_few, taken_drawable}
+use Rattle.planfile_spec.specs.Read.{reading}
 use Rattle.svg.proofs.Laws.Drawing.{taken_fit, taken-near, drawn_ours, wide_is, high_is, ours_are, sheet-put}
 use borrow.Author.Rules.{rules}
 use Rattle.svg.proofs.write_sheet.Goals as goal
@@ -24,7 +25,7 @@ put_text-requires c = omega (arith, c.requires.1, c.put_head-a.ensures.1, c.put_
 
 pub returns : goal.returns
 returns c = (
-  sheet-put c.args.plan c.args.page c.args.file.now _ _ _ _ _ (ours_are _ _ _ (drawn_ours _ _ c.requires.0 c.draw_over_zeros-sheet.ensures)) (wide_is _ _ c.requires.0 c.draw_over_zeros-sheet.ensures) (high_is _ _ c.requires.0 c.draw_over_zeros-sheet.ensures) c.side-wide.ensures c.side-high.ensures
+  sheet-put (reading c.args.plan) c.args.page c.args.file.now _ _ _ _ _ (ours_are _ _ _ (drawn_ours _ _ c.requires.0 c.draw_over_zeros-sheet.ensures)) (wide_is _ _ c.requires.0 c.draw_over_zeros-sheet.ensures) (high_is _ _ c.requires.0 c.draw_over_zeros-sheet.ensures) c.side-wide.ensures c.side-high.ensures
       c.put_head-a.ensures.0 c.put_strokes-b.ensures.0 c.put_labels_head-c.ensures.0 c.put_labels-d.ensures.0 c.put_text.ensures,
   omega (arith, c.put_head-a.ensures.1, c.put_strokes-b.ensures.1, c.put_labels_head-c.ensures.1, c.put_labels-d.ensures.1, c.put_text.ensures.place, taken_few _ _ c.requires.0),
 )

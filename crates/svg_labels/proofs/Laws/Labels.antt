@@ -1,6 +1,6 @@
 -- The labels, as the code writes them. Nothing that a reader must believe stands here. Assumes nothing.
-use Rattle.std.specs.Prelude.{◌≡◌, refl, List, [], ◌∷◌, ◌++◌, ℕ, ◌+◌, ◌≤◌, ◌<◌, Float, length, get_or, take}
-use Rattle.std.proofs.Common.{sym, ◌∙◌, ap, append-nil, append_assoc, add-one, eq-eqb, ne_eqb, take-suc, take_all}
+use Rattle.std.specs.Prelude.{◌≡◌, refl, List, [], ◌∷◌, ◌++◌, ℕ, ◌+◌, ◌≤◌, ◌<◌, Float, length, get_or, take, true, false, eqb}
+use Rattle.std.proofs.Common.{sym, ◌∙◌, ap, append-nil, append_assoc, add-one, ne_eqb, take-suc, take_all}
 use Rattle.listing.specs.Printed.{Bytes}
 use Rattle.listing.specs.Put.{Put}
 use Rattle.listing.proofs.Laws.Put.{then, put-none}
@@ -30,15 +30,15 @@ letters-done l {n = n} p h = rw (take_all n l h) at p
 
 pub letter_amp : (b : ℕ) → b ≡ 38 → letter b ≡ amp_word
 unfolding letter
-letter_amp b e = rw (eq-eqb b 38 e)
+letter_amp b e = rw e
 
-pub letter_lt : (b : ℕ) → ¬ (b ≡ 38) → b ≡ 60 → letter b ≡ lt_word
+pub letter_lt : (b : ℕ) → b ≡ 60 → letter b ≡ lt_word
 unfolding letter
-letter_lt b n e = rw (ne_eqb b 38 n, eq-eqb b 60 e)
+letter_lt b e = rw e
 
-pub letter_gt : (b : ℕ) → ¬ (b ≡ 38) → ¬ (b ≡ 60) → b ≡ 62 → letter b ≡ gt_word
+pub letter_gt : (b : ℕ) → b ≡ 62 → letter b ≡ gt_word
 unfolding letter
-letter_gt b n m e = rw (ne_eqb b 38 n, ne_eqb b 60 m, eq-eqb b 62 e)
+letter_gt b e = rw e
 
 pub letter-plain : (b : ℕ) → ¬ (b ≡ 38) → ¬ (b ≡ 60) → ¬ (b ≡ 62) → letter b ≡ b ∷ []
 unfolding letter
@@ -49,19 +49,19 @@ pub put_as : {a b : List ℕ} {i k : ℕ} (s t : List ℕ) → t ≡ s → Put a
 put_as s t e p = rw e p
 
 -- ---- a label
-pub label-empty : (s : Stroke) (l : Bytes) → length l ≡ 0 → label_text s l ≡ []
+pub label-empty : (s : Stroke) (l : Bytes) → true ≡ eqb (length l) 0 → label_text s l ≡ []
 unfolding label_text
-label-empty s l e = rw (eq-eqb (length l) 0 e)
+label-empty s l e = rw (← e)
 
-module _ (s : Stroke) (l : Bytes) (n : ¬ (length l ≡ 0)) where
+module _ (s : Stroke) (l : Bytes) (n : false ≡ eqb (length l) 0) where
   pub label-move : (x y : Float) → s ≡ Move x y → label_text s l ≡ []
   unfolding label_text at_line
-  label-move x y e = rw (ne_eqb (length l) 0 n, e)
+  label-move x y e = rw (← n, e)
 
   pub label-line : (x y : Float) → s ≡ Line x y → label_text s l ≡ label_at x y l
   unfolding label_text at_line
-  label-line x y e = rw (ne_eqb (length l) 0 n, e)
+  label-line x y e = rw (← n, e)
 
   pub label_lift : s ≡ Lift → label_text s l ≡ []
   unfolding label_text at_line
-  label_lift e = rw (ne_eqb (length l) 0 n, e)
+  label_lift e = rw (← n, e)

@@ -3,17 +3,20 @@ use native.Mathlib.Omega.{arith}
 use Rattle.svg_labels.proofs.Laws.Labels.{letters-start, letters-more, letters-done}
 use Rattle.svg_labels.proofs.put_letters.Goals as goal
 
-pub loop-i-init : goal.loop-i-init
-loop-i-init c = (omega arith, refl, omega arith, letters-start c.args.label.now _ _)
+pub loop-letter-init : goal.loop-letter-init
+loop-letter-init c = (refl, omega arith, letters-start c.args.label.now _ _)
 
 pub put_letter-next-requires : goal.put_letter-next-requires
-put_letter-next-requires c = let i = c.loop-i.invariant in omega (arith, c.requires, i.0, i.1, i.2, c.loop-i-test.true)
+put_letter-next-requires c = let i = c.loop-letter.invariant in omega (arith, c.requires, i.0, i.1, c.loop-letter-test.true)
 
-pub loop-i-preserved : goal.loop-i-preserved
-loop-i-preserved c =
-    let i = c.loop-i.invariant in
-    let h = c.loop-i-test.true in
-    (omega arith, omega (arith, i.1), omega (arith, i.2, c.put_letter-next.ensures.1), letters-more _ i.3 h c.put_letter-next.ensures.0)
+pub loop-letter-preserved : goal.loop-letter-preserved
+loop-letter-preserved c =
+    let i = c.loop-letter.invariant in
+    let h = c.loop-letter-test.true in
+    (omega (arith, i.0), omega (arith, i.1, c.put_letter-next.ensures.1), letters-more _ i.2 h c.put_letter-next.ensures.0)
 
 pub returns : goal.returns
-returns c = let i = c.loop-i.invariant in (letters-done _ i.3 c.loop-i-test.false, omega (arith, i.0, i.2))
+returns c =
+    let i = c.loop-letter.invariant in
+    let h = c.loop-letter-test.false in
+    (letters-done _ i.2 h, omega (arith, i.1, c.loop-letter.auto.letter-index-end))

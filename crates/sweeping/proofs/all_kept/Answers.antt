@@ -12,26 +12,23 @@ returns-then-not-alone c = said-no (λ k. fails c.alone.ensures (c.if-not-alone.
 pub order_of-order-requires : goal.order_of-order-requires
 order_of-order-requires c = ready _ _ c.requires.0 c.requires.1
 
-pub rights_of-high-requires : goal.rights_of-high-requires
-rights_of-high-requires c = (ready _ _ c.requires.0 c.requires.1).few
+pub sides_of-sides-requires : goal.sides_of-sides-requires
+sides_of-sides-requires c = ready _ _ c.requires.0 c.requires.1
 
 pub gather-requires : goal.gather-requires
-gather-requires c = (ready _ _ c.requires.0 c.requires.1, c.rights_of-high.ensures.long)
-
-pub lefts_of-low-requires : goal.lefts_of-low-requires
-lefts_of-low-requires c = ready _ _ c.requires.0 c.requires.1
+gather-requires c = (ready _ _ c.requires.0 c.requires.1, c.sides_of-sides.ensures.0.long)
 
 pub gather-requires-2 : goal.gather-requires-2
-gather-requires-2 c = (ready _ _ c.requires.0 c.requires.1, c.lefts_of-low.ensures.long)
+gather-requires-2 c = (ready _ _ c.requires.0 c.requires.1, c.sides_of-sides.ensures.1.long)
 
 pub beside-requires : goal.beside-requires
-beside-requires c = record { ready = (ready _ _ c.requires.0 c.requires.1, c.order_of-order.ensures); small = (small _ _ c.requires.0 c.requires.1 c.rights_of-high.ensures c.lefts_of-low.ensures c.gather.ensures c.gather-2.ensures, c.requires.2) }
+beside-requires c = record { ready = (ready _ _ c.requires.0 c.requires.1, c.order_of-order.ensures); small = (small _ _ c.requires.0 c.requires.1 c.sides_of-sides.ensures.0 c.sides_of-sides.ensures.1 c.gather.ensures c.gather-2.ensures, c.requires.2) }
 
 pub returns-then-not-beside : goal.returns-then-not-beside
-returns-then-not-beside c = said-no (λ k. fails c.beside.ensures (c.if-not-beside.true) (kept-beside _ _ c.requires.0 c.requires.1 c.rights_of-high.ensures c.lefts_of-low.ensures c.gather.ensures c.gather-2.ensures _ k))
+returns-then-not-beside c = said-no (λ k. fails c.beside.ensures (c.if-not-beside.true) (kept-beside _ _ c.requires.0 c.requires.1 c.sides_of-sides.ensures.0 c.sides_of-sides.ensures.1 c.gather.ensures c.gather-2.ensures _ k))
 
 pub sweep-requires : goal.sweep-requires
 sweep-requires c = (ready _ _ c.requires.0 c.requires.1, c.order_of-order.ensures, rows _ _ c.requires.0 c.requires.1 (holds c.alone.ensures (c.if-not-alone.false)))
 
 pub returns : goal.returns
-returns c = said _ (λ e. decided _ _ c.requires.0 c.requires.1 c.rights_of-high.ensures c.lefts_of-low.ensures c.gather.ensures c.gather-2.ensures _ (holds c.alone.ensures (c.if-not-alone.false)) (holds c.beside.ensures (c.if-not-beside.false)) (holds c.sweep.ensures e)) (λ k. is_true c.sweep.ensures (kept-clear _ _ c.requires.0 c.requires.1 _ k))
+returns c = said _ (λ e. decided _ _ c.requires.0 c.requires.1 c.sides_of-sides.ensures.0 c.sides_of-sides.ensures.1 c.gather.ensures c.gather-2.ensures _ (holds c.alone.ensures (c.if-not-alone.false)) (holds c.beside.ensures (c.if-not-beside.false)) (holds c.sweep.ensures e)) (λ k. is_true c.sweep.ensures (kept-clear _ _ c.requires.0 c.requires.1 _ k))

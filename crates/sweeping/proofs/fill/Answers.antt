@@ -1,16 +1,13 @@
 use Rattle.sweeping.proofs.Passing.{not_both}
-use Rattle.sweeping.proofs.Filling.{filling-starts, filling-turns, filling-stops, filling-ends}
+use Rattle.sweeping.proofs.Filling.{filling-turns, filling-stops, filling-ends}
 use mathlib.Core.Path.{refl}
 use Rattle.sweeping.proofs.fill.Goals as goal
 
-pub loop-y-init : goal.loop-y-init
-loop-y-init c = filling-starts _ _ _ _ _ c.requires.1 c.requires.2 c.requires.3 c.requires.4
-
 pub returns-then-x-rows : goal.returns-then-x-rows
-returns-then-x-rows c = (λ e. not_both e refl, λ e. filling-stops c.loop-y.invariant c.loop-y-test.true c.wide32-r.ensures c.if-x-rows.true)
+returns-then-x-rows c = (λ e. not_both e refl, λ e. filling-stops c.loop-y.invariant c.loop-y-test.true refl c.if-x-rows.true)
 
 pub loop-y-preserved : goal.loop-y-preserved
-loop-y-preserved c = filling-turns c.loop-y.invariant c.requires.0 c.loop-y-test.true c.wide32-r.ensures c.if-x-rows.false
+loop-y-preserved c = filling-turns c.loop-y.invariant c.requires.0 c.loop-y-test.true refl c.if-x-rows.false
 
 pub returns : goal.returns
 returns c = (λ e. filling-ends c.loop-y.invariant c.loop-y-test.false, λ e. not_both refl e)

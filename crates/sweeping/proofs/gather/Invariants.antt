@@ -4,6 +4,3 @@ use Rattle.sweeping.proofs.gather.Given as goal
 
 abbrev pub invariant-loop-c : goal.invariant-loop-c
 invariant-loop-c l = Gathering (view_in l.sights) l.n l.initial.column l.c l.column
-
-abbrev pub decreases-loop-c : goal.decreases-loop-c
-decreases-loop-c l = l.c

@@ -1,10 +1,6 @@
 use Rattle.sweeping.proofs.Passing.{Ordering}
 use Rattle.looking_sights.specs.Sights.{view_in}
-use Prim.Native.Nat.{◌-◌}
 use Rattle.sweeping.proofs.order_of.Given as goal
 
 abbrev pub invariant-loop-c : goal.invariant-loop-c
 invariant-loop-c l = Ordering (view_in l.sights) l.n l.c l.order
-
-abbrev pub decreases-loop-c : goal.decreases-loop-c
-decreases-loop-c l = l.n - l.c

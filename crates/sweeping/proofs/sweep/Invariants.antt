@@ -1,10 +1,6 @@
 use Rattle.sweeping.proofs.Filling.{Sweeping}
 use Rattle.looking_sights.specs.Sights.{view_in}
-use Prim.Native.Nat.{◌-◌}
 use Rattle.sweeping.proofs.sweep.Given as goal
 
 abbrev pub invariant-loop-k : goal.invariant-loop-k
 invariant-loop-k l = Sweeping (view_in l.sights) l.n l.last l.k l.rows
-
-abbrev pub decreases-loop-k : goal.decreases-loop-k
-decreases-loop-k l = l.last - l.k

@@ -1,5 +1,5 @@
 -- The transcript as the code writes it, line by line. Nothing that a reader must believe stands here. Assumes nothing.
-use Rattle.std.specs.Prelude.{◌≡◌, refl, List, [], ◌∷◌, ◌++◌, ℕ, ◌+◌, ◌≤◌, ◌<◌, leb, length, get_or, take, drop}
+use Rattle.std.specs.Prelude.{◌≡◌, refl, List, [], ◌∷◌, ◌++◌, ℕ, ◌+◌, ◌≤◌, ◌<◌, leb, length, get_or, take, drop, Result, Ok, Err}
 use Rattle.std.proofs.Math.Path.{sym, ap}
 use Rattle.std.proofs.Common.{◌∙◌, append-nil, append_assoc, add-one, arith, leb→le, length-append, take-suc, get_or-take}
 use Rattle.std.proofs.Math.Decide.{ℕ_discrete}
@@ -15,7 +15,8 @@ use Rattle.plan.proofs.Laws.Questions.{both-none, asked_yes}
 use Rattle.plan.specs.Steps.{counted_refusal}
 use Rattle.plan.proofs.Laws.Calls.{drill-refusal}
 use Rattle.plan.specs.declared.Refusal.{Refusal}
-use Rattle.planfile_spec.specs.declared.Reading.{Reading}
+use Rattle.plan.proofs.Laws.Answered.{answered_none, answered_some, refused_by}
+use Rattle.planfile_spec.specs.Read.{Reading, plan_of, answer_of}
 use Rattle.planfile_spec.specs.Reading.{reading_of}
 use Rattle.listing.specs.Printed.{Bytes, refused_line, step_line, end_line}
 use Rattle.listing.specs.Line.{line_of, text}
@@ -27,10 +28,10 @@ use Rattle.listing.proofs.Laws.Line.{line-text}
 use Rattle.moves.specs.Drill.{Outcome, finished, spent, wrong, full, drill_of}
 use Rattle.moves.proofs.Laws.Beyond.{used_few, records_few}
 use Rattle.moves.proofs.Laws.Steps.{steps_are}
-use Rattle.following.specs.Drilled.{told_as, drill_told, drilled_of, list_after, Drills}
+use Rattle.following.specs.Drilled.{told_as, drill_told, list_after, Drills}
 use Rattle.following.proofs.Laws.Drilled.{asks}
 use Rattle.following.specs.declared.Drilled.{Drilled}
-use Rattle.following.specs.declared.Drilled.TheVariants.{Finished, Spent, Wrong, Full, Refused}
+use Rattle.following.specs.declared.Drilled.TheVariants.{Finished, Spent, Wrong, Full}
 use Rattle.transcript.specs.Transcript.{finished_word, spent_word, wrong_word, full_word, steps_text, told_lines, transcript_of, records_in, used_in, Recorded, Tellable}
 
 -- ---- the lines of steps
@@ -70,50 +71,54 @@ pub put_alone : (t : List ℕ) {a d : List ℕ} {k : ℕ} (l : Line) → l ≡ l
 put_alone t l e v = let q : text l ≡ t = rw e (line-text t) in rw q at v
 
 -- ---- the answers, case by case
-module _ {r : Drilled} {u n : ℕ} where
-  pub in_finished : r ≡ Finished u n → (records_in r ≡ n) × (used_in r ≡ u)
+module _ {r : Result Drilled Refusal} {u n : ℕ} where
+  pub in_finished : r ≡ Ok (Finished u n) → (records_in r ≡ n) × (used_in r ≡ u)
   unfolding records_in used_in
   in_finished e = (rw e, rw e)
 
-  pub in_spent : r ≡ Spent u n → (records_in r ≡ n) × (used_in r ≡ u)
+  pub in_spent : r ≡ Ok (Spent u n) → (records_in r ≡ n) × (used_in r ≡ u)
   unfolding records_in used_in
   in_spent e = (rw e, rw e)
 
-  pub in_wrong : r ≡ Wrong u n → (records_in r ≡ n) × (used_in r ≡ u)
+  pub in_wrong : r ≡ Ok (Wrong u n) → (records_in r ≡ n) × (used_in r ≡ u)
   unfolding records_in used_in
   in_wrong e = (rw e, rw e)
 
-  pub in_full : r ≡ Full u n → (records_in r ≡ n) × (used_in r ≡ u)
+  pub in_full : r ≡ Ok (Full u n) → (records_in r ≡ n) × (used_in r ≡ u)
   unfolding records_in used_in
   in_full e = (rw e, rw e)
 
-pub tell_needs : (p : Reading) (xs : List ℕ) {r : Drilled} {u n : ℕ} → Tellable p xs r → (records_in r ≡ n) × (used_in r ≡ u) → Recorded p n xs × (u ≤ most_answers)
+pub tell_needs : (p : Reading) (xs : List ℕ) {r : Result Drilled Refusal} {u n : ℕ} → Tellable p xs r → (records_in r ≡ n) × (used_in r ≡ u) → Recorded p n xs × (u ≤ most_answers)
 tell_needs p xs {u = u} {n = n} h e = let x = rw e.0 at h.recorded in let y = rw e.1 at h.few in (x, y)
 
 -- the lines of an answer, from those of its case
-module _ (f xs : List ℕ) {r : Drilled} {a b : List ℕ} {k m u n : ℕ} where
-  pub tell_finished : r ≡ Finished u n → Put a 0 (steps_text f (take n xs) ++ end_line finished_word u n) b k × (k ≤ m) → Put a 0 (told_lines f (take (records_in r) xs) r) b k × (k ≤ m)
+module _ (f xs : List ℕ) {r : Result Drilled Refusal} {a b : List ℕ} {k m u n : ℕ} where
+  pub tell_finished : r ≡ Ok (Finished u n) → Put a 0 (steps_text f (take n xs) ++ end_line finished_word u n) b k × (k ≤ m) → Put a 0 (told_lines f (take (records_in r) xs) r) b k × (k ≤ m)
   unfolding told_lines records_in
   tell_finished e h = rw e h
 
-  pub tell_spent : r ≡ Spent u n → Put a 0 (steps_text f (take n xs) ++ end_line spent_word u n) b k × (k ≤ m) → Put a 0 (told_lines f (take (records_in r) xs) r) b k × (k ≤ m)
+  pub tell_spent : r ≡ Ok (Spent u n) → Put a 0 (steps_text f (take n xs) ++ end_line spent_word u n) b k × (k ≤ m) → Put a 0 (told_lines f (take (records_in r) xs) r) b k × (k ≤ m)
   unfolding told_lines records_in
   tell_spent e h = rw e h
 
-  pub tell_wrong : r ≡ Wrong u n → Put a 0 (steps_text f (take n xs) ++ end_line wrong_word u n) b k × (k ≤ m) → Put a 0 (told_lines f (take (records_in r) xs) r) b k × (k ≤ m)
+  pub tell_wrong : r ≡ Ok (Wrong u n) → Put a 0 (steps_text f (take n xs) ++ end_line wrong_word u n) b k × (k ≤ m) → Put a 0 (told_lines f (take (records_in r) xs) r) b k × (k ≤ m)
   unfolding told_lines records_in
   tell_wrong e h = rw e h
 
-  pub tell_full : r ≡ Full u n → Put a 0 (steps_text f (take n xs) ++ end_line full_word u n) b k × (k ≤ m) → Put a 0 (told_lines f (take (records_in r) xs) r) b k × (k ≤ m)
+  pub tell_full : r ≡ Ok (Full u n) → Put a 0 (steps_text f (take n xs) ++ end_line full_word u n) b k × (k ≤ m) → Put a 0 (told_lines f (take (records_in r) xs) r) b k × (k ≤ m)
   unfolding told_lines records_in
   tell_full e h = rw e h
 
-pub tell_refused : (f xs : List ℕ) {r : Drilled} {a b : List ℕ} {k u n : ℕ} (l : Line) → r ≡ Refused u n → l ≡ line_of (refused_line u n) → Put a 0 (text l) b k → Put a 0 (told_lines f (take (records_in r) xs) r) b k
+pub tell_refused : (f xs : List ℕ) {r : Result Drilled Refusal} {e : Refusal} {a b : List ℕ} {k m : ℕ} → r ≡ Err e → Put a 0 (refused_line e.number e.cell) b k × (k ≤ m) → Put a 0 (told_lines f (take (records_in r) xs) r) b k × (k ≤ m)
 unfolding told_lines
-tell_refused f xs {u = u} {n = n} l e q v = rw e (put_alone (refused_line u n) l q v)
+tell_refused f xs e h = rw e h
+
+-- an answer by what is in it
+pub within : {r : Result Drilled Refusal} {x a : Drilled} → r ≡ Ok x → x ≡ a → r ≡ Ok a
+within e q = e ∙ ap Ok q
 
 -- ---- the drill's answer
-told-records : (o : Outcome) (u n : ℕ) → (records_in (told_as o u n) ≡ n) × (used_in (told_as o u n) ≡ u)
+told-records : (o : Outcome) (u n : ℕ) → (records_in (Ok (told_as o u n)) ≡ n) × (used_in (Ok (told_as o u n)) ≡ u)
 unfolding records_in used_in
 told-records finished u n = (refl, refl)
 told-records spent u n = (refl, refl)
@@ -121,11 +126,11 @@ told-records wrong u n = (refl, refl)
 told-records full u n = (refl, refl)
 
 -- what the lines need, and that they are the transcript
-pub record Answered (p : Reading) (f bs xs : List ℕ) (r : Drilled) : Type 0 where
+pub record Answered (p : Reading) (f bs xs : List ℕ) (r : Result Drilled Refusal) : Type 0 where
   pub tellable : Tellable p xs r
   pub is : told_lines f (take (records_in r) xs) r ≡ transcript_of f bs
 
-module _ (p : Reading) (f bs xs xs' : List ℕ) (r : Drilled) (h : Taken p f) (size : length xs ≡ most_steps) (g : Drills (read_table p) bs xs xs' r) where
+module _ (p : Reading) (f bs xs xs' : List ℕ) (r : Result Drilled Refusal) (h : Taken p f) (size : length xs ≡ most_steps) (g : Drills (read_table p) bs xs xs' r) where
   abbrev t : Table
   t = read_table p
 
@@ -141,7 +146,7 @@ module _ (p : Reading) (f bs xs xs' : List ℕ) (r : Drilled) (h : Taken p f) (s
 
   module _ (z : why.number ≡ 0) where
     fit : Fit t
-    fit = (asks t bs xs refl z).0
+    fit = (asks t bs xs z).0
 
     few_answers : length bs ≤ most_answers
     few_answers =
@@ -149,9 +154,8 @@ module _ (p : Reading) (f bs xs xs' : List ℕ) (r : Drilled) (h : Taken p f) (s
         let (one, rest) = both-none (asked 1 (leb most_steps (length xs)) 0) _ y in
         leb→le (length bs) most_answers (asked_yes 20 _ 0 (both-none (counted_refusal t) _ rest).1)
 
-    is-told : r ≡ drill_told (drill_of t bs)
-    unfolding drilled_of
-    is-told = g.answer ∙ rw (eq-eqb why.number 0 z)
+    is-told : r ≡ Ok (drill_told (drill_of t bs))
+    is-told = g.answer ∙ answered_none why _ z
 
     is-list : xs' ≡ (drill_of t bs).steps ++ drop (length (drill_of t bs).steps) xs
     unfolding list_after
@@ -186,18 +190,17 @@ module _ (p : Reading) (f bs xs xs' : List ℕ) (r : Drilled) (h : Taken p f) (s
           is = ap (λ (x : List ℕ). told_lines f x r) first_are ∙ sym taken-text;
         }
 
-  refused-lines : (ss ys : List ℕ) → r ≡ Refused why.number why.cell → told_lines f ss r ≡ told_lines f ys r
+  refused-lines : (ss ys : List ℕ) → r ≡ Err why → told_lines f ss r ≡ told_lines f ys r
   unfolding told_lines
   refused-lines ss ys e = rw e
 
-  refused_none : r ≡ Refused why.number why.cell → (records_in r ≡ 0) × (used_in r ≡ 0)
+  refused_none : r ≡ Err why → (records_in r ≡ 0) × (used_in r ≡ 0)
   unfolding records_in used_in
   refused_none e = (rw e, rw e)
 
   answered-refused : ¬ (why.number ≡ 0) → Answered p f bs xs' r
-  unfolding drilled_of
   answered-refused z =
-      let e : r ≡ Refused why.number why.cell = g.answer ∙ rw (ne_eqb why.number 0 z) in
+      let e : r ≡ Err why = g.answer ∙ answered_some why _ z in
       let k = refused_none e in
       record {
         tellable = record { recorded = record { few = omega (arith, k.0); long = omega (arith, k.0); cells = λ i l. absurd (omega (arith, k.0)) }; few = omega (arith, k.1) };
@@ -208,13 +211,14 @@ module _ (p : Reading) (f bs xs xs' : List ℕ) (r : Drilled) (h : Taken p f) (s
   answered = elim (ℕ_discrete why.number 0) [ yes z ↦ answered-told z | no z ↦ answered-refused z ]
 
 -- of a file that Read refuses
-unread : (p : Reading) (f bs : List ℕ) → p ≡ reading_of f most_cells → ¬ (p.refusal.number ≡ 0) → refused_line p.refusal.number p.refusal.cell ≡ transcript_of f bs
+unread : (f bs : List ℕ) (e : Refusal) → e ≡ (reading_of f most_cells).refusal → ¬ ((reading_of f most_cells).refusal.number ≡ 0) → refused_line e.number e.cell ≡ transcript_of f bs
 unfolding transcript_of
-unread p f bs e z = rw (← e, ne_eqb p.refusal.number 0 z)
+unread f bs e q z = rw (q, ne_eqb (reading_of f most_cells).refusal.number 0 z)
 
-pub unread-done : (p : Reading) (f bs : List ℕ) → p ≡ reading_of f most_cells → ¬ (p.refusal.number ≡ 0) → {a b : List ℕ} {k : ℕ} (l : Line) → l ≡ line_of (refused_line p.refusal.number p.refusal.cell)
-    → Put a 0 (text l) b k → Put a 0 (transcript_of f bs) b k
-unread-done p f bs e z l q v = rw (← unread p f bs e z) (put_alone (refused_line p.refusal.number p.refusal.cell) l q v)
+pub unread-done : (f bs : List ℕ) (e : Refusal) → Err e ≡ answer_of (reading_of f most_cells) → {a b : List ℕ} {k m : ℕ} → Put a 0 (refused_line e.number e.cell) b k × (k ≤ m) → Put a 0 (transcript_of f bs) b k × (k ≤ m)
+unread-done f bs e h v =
+    let g = refused_by (reading_of f most_cells).refusal (plan_of (reading_of f most_cells)) e h in
+    rw (← unread f bs e g.0 g.1) v
 
-pub answered-done : (p : Reading) (f bs xs : List ℕ) (r : Drilled) → Answered p f bs xs r → {a b : List ℕ} {k m : ℕ} → Put a 0 (told_lines f (take (records_in r) xs) r) b k × (k ≤ m) → Put a 0 (transcript_of f bs) b k × (k ≤ m)
+pub answered-done : (p : Reading) (f bs xs : List ℕ) (r : Result Drilled Refusal) → Answered p f bs xs r → {a b : List ℕ} {k m : ℕ} → Put a 0 (told_lines f (take (records_in r) xs) r) b k × (k ≤ m) → Put a 0 (transcript_of f bs) b k × (k ≤ m)
 answered-done p f bs xs r h v = rw h.is at v

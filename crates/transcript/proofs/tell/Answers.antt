@@ -1,46 +1,42 @@
 use Rattle.std.proofs.Common.{arith}
-use Rattle.printing.proofs.Laws.Taken.{put_short}
-use Rattle.transcript.proofs.Laws.Transcript.{in_finished, in_spent, in_wrong, in_full, tell_needs, tell_finished, tell_spent, tell_wrong, tell_full, tell_refused}
+use Rattle.transcript.proofs.Laws.Transcript.{within, in_finished, in_spent, in_wrong, in_full, tell_needs, tell_finished, tell_spent, tell_wrong, tell_full, tell_refused}
 use Rattle.transcript.proofs.tell.Goals as goal
 
 pub put_drill-requires : goal.put_drill-requires
 put_drill-requires c =
     let s = c.requires in
-    let k = tell_needs _ _ s.1 (in_finished c.in-Finished.is) in
+    let k = tell_needs _ _ s.1 (in_finished (within c.in-Ok-Finished.is (rw c.in-Ok-Finished.is at c.in-Ok-Finished.field-0-is))) in
     (s.0, k.0, s.2, omega arith, k.1)
 
-pub put_drill-requires-in-Spent : goal.put_drill-requires-in-Spent
-put_drill-requires-in-Spent c =
+pub returns-in-Ok-Finished : goal.returns-in-Ok-Finished
+returns-in-Ok-Finished c = tell_finished _ c.args.list.now (within c.in-Ok-Finished.is (rw c.in-Ok-Finished.is at c.in-Ok-Finished.field-0-is)) c.put_drill.ensures
+
+pub put_drill-requires-in-Ok-Spent : goal.put_drill-requires-in-Ok-Spent
+put_drill-requires-in-Ok-Spent c =
     let s = c.requires in
-    let k = tell_needs _ _ s.1 (in_spent c.in-Spent.is) in
+    let k = tell_needs _ _ s.1 (in_spent (within c.in-Ok-Spent.is (rw c.in-Ok-Spent.is at c.in-Ok-Spent.field-0-is))) in
     (s.0, k.0, s.2, omega arith, k.1)
 
-pub put_drill-requires-in-Wrong : goal.put_drill-requires-in-Wrong
-put_drill-requires-in-Wrong c =
+pub returns-in-Ok-Spent : goal.returns-in-Ok-Spent
+returns-in-Ok-Spent c = tell_spent _ c.args.list.now (within c.in-Ok-Spent.is (rw c.in-Ok-Spent.is at c.in-Ok-Spent.field-0-is)) c.put_drill-in-Ok-Spent.ensures
+
+pub put_drill-requires-in-Ok-Wrong : goal.put_drill-requires-in-Ok-Wrong
+put_drill-requires-in-Ok-Wrong c =
     let s = c.requires in
-    let k = tell_needs _ _ s.1 (in_wrong c.in-Wrong.is) in
+    let k = tell_needs _ _ s.1 (in_wrong (within c.in-Ok-Wrong.is (rw c.in-Ok-Wrong.is at c.in-Ok-Wrong.field-0-is))) in
     (s.0, k.0, s.2, omega arith, k.1)
 
-pub put_drill-requires-in-Full : goal.put_drill-requires-in-Full
-put_drill-requires-in-Full c =
+pub returns-in-Ok-Wrong : goal.returns-in-Ok-Wrong
+returns-in-Ok-Wrong c = tell_wrong _ c.args.list.now (within c.in-Ok-Wrong.is (rw c.in-Ok-Wrong.is at c.in-Ok-Wrong.field-0-is)) c.put_drill-in-Ok-Wrong.ensures
+
+pub put_drill-requires-in-Ok-Full : goal.put_drill-requires-in-Ok-Full
+put_drill-requires-in-Ok-Full c =
     let s = c.requires in
-    let k = tell_needs _ _ s.1 (in_full c.in-Full.is) in
+    let k = tell_needs _ _ s.1 (in_full (within c.in-Ok-Full.is (rw c.in-Ok-Full.is at c.in-Ok-Full.field-0-is))) in
     (s.0, k.0, s.2, omega arith, k.1)
 
-pub returns-in-Finished : goal.returns-in-Finished
-returns-in-Finished c = tell_finished _ c.args.list.now c.in-Finished.is c.put_drill.ensures
+pub returns-in-Ok-Full : goal.returns-in-Ok-Full
+returns-in-Ok-Full c = tell_full _ c.args.list.now (within c.in-Ok-Full.is (rw c.in-Ok-Full.is at c.in-Ok-Full.field-0-is)) c.put_drill-in-Ok-Full.ensures
 
-pub returns-in-Spent : goal.returns-in-Spent
-returns-in-Spent c = tell_spent _ c.args.list.now c.in-Spent.is c.put_drill-in-Spent.ensures
-
-pub returns-in-Wrong : goal.returns-in-Wrong
-returns-in-Wrong c = tell_wrong _ c.args.list.now c.in-Wrong.is c.put_drill-in-Wrong.ensures
-
-pub returns-in-Full : goal.returns-in-Full
-returns-in-Full c = tell_full _ c.args.list.now c.in-Full.is c.put_drill-in-Full.ensures
-
-pub returns-in-Refused : goal.returns-in-Refused
-returns-in-Refused c =
-    let l = c.refused_line.ensures in
-    let v = c.put_line.ensures in
-    (tell_refused _ c.args.list.now _ c.in-Refused.is l.0 v, omega (arith, put_short _ v l.1))
+pub returns-in-Err : goal.returns-in-Err
+returns-in-Err c = tell_refused _ c.args.list.now c.in-Err.is c.put_refusal.ensures

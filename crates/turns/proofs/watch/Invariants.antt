@@ -1,6 +1,6 @@
 use Rattle.walk.proofs.Laws.Walked.{Keeps}
 use Rattle.walk.proofs.Laws.Machine.{most_turns, turns}
-use Rattle.walk.specs.Machine.{chart}
+use Rattle.walk.specs.Machine.{chart_of}
 use Rattle.walk.specs.Opened.{Visiting}
 use Rattle.walk.specs.Turns.{state_of}
 use Rattle.joining.specs.Joining.{memory_of}
@@ -8,8 +8,8 @@ use Rattle.turns.proofs.watch.Given as goal
 
 abbrev pub invariant-loop-at : goal.invariant-loop-at
 invariant-loop-at g l =
-    Keeps (chart l.links l.widths l.depths l.tops l.allowance) l.initial.rows (state_of l.at.open_cells.cells l.at.open_cells.count l.at.next l.rows l.marks)
-    × Visiting (chart l.links l.widths l.depths l.tops l.allowance) (memory_of l.initial.rows l.initial.marks) l.at.open_cells.cells l.at.open_cells.count l.at.next l.rows l.marks
+    Keeps (chart_of l.b) l.initial.rows (state_of l.at.open_cells.cells l.at.open_cells.count l.at.next l.rows l.marks)
+    × Visiting (chart_of l.b) (memory_of l.initial.rows l.initial.marks) l.at.open_cells.cells l.at.open_cells.count l.at.next l.rows l.marks
 
 abbrev pub decreases-loop-at : goal.decreases-loop-at
-decreases-loop-at g l = turns (chart l.links l.widths l.depths l.tops l.allowance) most_turns (state_of l.at.open_cells.cells l.at.open_cells.count l.at.next l.rows l.marks)
+decreases-loop-at g l = turns (chart_of l.b) most_turns (state_of l.at.open_cells.cells l.at.open_cells.count l.at.next l.rows l.marks)

@@ -4,12 +4,12 @@ use Prim.Native.Nat.{◌+◌, ◌-◌}
 use native.Mathlib.Omega.{arith}
 use Rattle.walk.proofs.Laws.Falls.{turn_found, visiting_turn}
 use Rattle.walk.specs.Turns.{state_of}
-use Rattle.walk.specs.Machine.{Chart, chart, Turning}
+use Rattle.walk.specs.Machine.{Chart, chart_of, Turning}
 use Rattle.walk.proofs.turn.Goals as goal
 use Rattle.walk.proofs.turn.Goals.{Start}
 
 abbrev board : Start → Chart
-board s = let a = s.args in chart a.links.now a.widths.now a.depths.now a.tops.now a.allowance
+board s = chart_of s.args.b.now
 
 pub descend-level-requires : goal.descend-level-requires
 descend-level-requires c = record { cells_len = search rules; falls = c.requires.falls }

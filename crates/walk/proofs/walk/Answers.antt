@@ -4,7 +4,7 @@ use Rattle.walk.proofs.Laws.Visits.{visited}
 use Rattle.walk.proofs.Laws.Walked.{keeps_start, keeps_turning, keeps_turn, keeps_less, keeps_end}
 use Rattle.walk.specs.Turns.{state_of}
 use Rattle.walk.proofs.Laws.Turns.{stack_of-length}
-use Rattle.walk.specs.Machine.{Chart, chart, State}
+use Rattle.walk.specs.Machine.{Chart, chart_of, State}
 use Rattle.joining.specs.Joining.{memory_of}
 use lib.ListN.{length}
 use mathlib.Core.Path.{◌≡◌, refl, ◌∙◌}
@@ -15,7 +15,7 @@ use Rattle.walk.proofs.walk.Goals.{At-loop-at, Start}
 
 -- the walk at the head of a turn, that a cell is open there, and the cells that the turn opens
 abbrev board : Start → Chart
-board s = let a = s.args in chart a.links.now a.widths.now a.depths.now a.tops.now a.allowance
+board s = chart_of s.args.b.now
 
 abbrev state : At-loop-at → State
 state l = state_of l.loop-at.at.open_cells.cells l.loop-at.at.open_cells.count l.loop-at.at.next l.loop-at.rows l.loop-at.marks
@@ -24,11 +24,11 @@ some : (l : At-loop-at) → 0 < l.loop-at.at.open_cells.count → 0 < length (st
 some l h = rw (stack_of-length l.loop-at.at.open_cells.cells l.loop-at.at.open_cells.count) h
 
 abbrev board-at : At-loop-at → Chart
-board-at l = let a = l.args in chart a.links.now a.widths.now a.depths.now a.tops.now a.allowance
+board-at l = chart_of l.args.b.now
 
 falls : (l : At-loop-at) → 0 < l.loop-at.at.open_cells.count
-    → Fell (board-at l) l.args.rows.now (state l).memory (state l).stack (state l).next (fallen l.args.links.now 32 (state l).next (state l).stack)
-    × Falls l.args.links.now 32 (length (state l).stack) (state l).next
+    → Fell (board-at l) l.args.rows.now (state l).memory (state l).stack (state l).next (fallen l.args.b.now.links.now 32 (state l).next (state l).stack)
+    × Falls l.args.b.now.links.now 32 (length (state l).stack) (state l).next
 falls l h = fall (board-at l) l.args.rows.now (state l).memory (state l).next (state l).stack (some l h) l.loop-at.invariant.0
 
 pub begin-at-requires : goal.begin-at-requires

@@ -1,5 +1,5 @@
 -- What is asked of positions that hold our sheet, and what is found of them. Assumes nothing.
-use Rattle.std.specs.Prelude.{◌≡◌, refl, Bool, true, false, List, ℕ, ◌≤◌, length, ℤ, ◌≤ℤ◌}
+use Rattle.std.specs.Prelude.{◌≡◌, refl, Bool, true, false, List, ℕ, ◌≤◌, length, ℤ, ◌≤ℤ◌, Option, Some, None, IsSome}
 use Rattle.std.proofs.Common.{sym, ◌∙◌, arith}
 use Rattle.whole.proofs.Laws.Whole.{whole}
 use Rattle.plan.specs.Limits.{most_allowance}
@@ -19,7 +19,12 @@ use Rattle.why_spec.specs.Measures.{extent, across, Demanded}
 use Rattle.why_spec.specs.Links.{Reason}
 use Rattle.why_spec.specs.Search.{because, reason}
 use Rattle.why_spec.proofs.Theorems.{width_is, why-found, reason-same}
-use Rattle.why_search.specs.Explains.{told, Chained, Explains}
+use Rattle.why_search.specs.Explains.{told, Chained, Explains, Explained}
+use Rattle.why_search.specs.declared.Chain.{Chain}
+
+-- the chain is THE reason of our sheet
+abbrev pub Ours : Table → ℕ → List ℤ → Chain → Type 0
+Ours t al ps c = (reason t al (across t) (sheet t al) ≡ told t al (placed ps) c.count c.cells) × Chained t al (placed ps) c.count c.cells c.rules
 
 -- where no question of Check's refuses
 module _ (t : Table) (al : ℕ) (ps : List ℤ) (z : refusal check (check_given t al ps) ≡ none) where
@@ -60,3 +65,9 @@ module _ (t : Table) (al : ℕ) (ps : List ℤ) (z : refusal check (check_given 
     explained false count cells rules e =
         let f = fit in
         absurd (let z : ◌≡◌ {A = ℕ} 0 1 = cc (e.no refl, why-found t f.some_cell f.sound al (across t) Demanded.the_width (placed ps) keeps narrow) in omega arith)
+
+    pub there : (c : Option Chain) → Explained t al (placed ps) c → IsSome c
+    there (Some c) x = refl
+    there None x =
+        let f = fit in
+        cc (x, why-found t f.some_cell f.sound al (across t) Demanded.the_width (placed ps) keeps narrow)

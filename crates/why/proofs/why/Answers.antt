@@ -1,11 +1,14 @@
-use Rattle.why.proofs.Laws.Shows.{is-refused, is-asked, is-shown}
+use Rattle.why.proofs.Laws.Shows.{shows_refused, is-asked, is-explained, is-shown}
 use Rattle.why.proofs.why.Goals as goal
 
-pub returns-in-Refused : goal.returns-in-Refused
-returns-in-Refused c = is-refused c.args.t _ c.layout-laid.ensures c.in-Refused.is
+pub returns-in_err-measures : goal.returns-in_err-measures
+returns-in_err-measures c = shows_refused _ _ _ _ _ _ _ c.in_err-measures.ensures c.from_residual.ensures.1
 
-pub explain-chain-requires : goal.explain-chain-requires
-explain-chain-requires c = is-asked c.args.t _ c.layout-laid.ensures c.in_default.is
+pub explain-requires : goal.explain-requires
+explain-requires c = is-asked c.args.t _ c.in_ok-measures.ensures
+
+pub unwrap-chain-requires : goal.unwrap-chain-requires
+unwrap-chain-requires c = is-explained c.args.t _ c.in_ok-measures.ensures _ c.explain.ensures
 
 pub returns : goal.returns
-returns c = is-shown c.args.t _ c.layout-laid.ensures c.in_default.is c.explain-chain.ensures
+returns c = is-shown c.args.t _ c.in_ok-measures.ensures _ c.explain.ensures c.unwrap-chain.ensures

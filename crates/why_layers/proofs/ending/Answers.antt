@@ -1,10 +1,8 @@
-use Rattle.why_layers.proofs.Seeking.{seeking_starts, seeking_stops, seeking_turns, seeking_ends}
+use Rattle.why_layers.proofs.Seeking.{seeking_stops, seeking_turns, seeking_ends}
+use native.Mathlib.Omega.{arith}
 use mathlib.Core.Path.{◌∙◌, sym}
 use Rattle.why_layers.specs.Marks.{ending}
 use Rattle.why_layers.proofs.ending.Goals as goal
-
-pub loop-e-init : goal.loop-e-init
-loop-e-init c = seeking_starts _ _
 
 pub returns-then-at_end : goal.returns-then-at_end
 unfolding ending
@@ -15,4 +13,4 @@ loop-e-preserved c = seeking_turns c.loop-e.invariant c.loop-e-test.true (sym c.
 
 pub returns : goal.returns
 unfolding ending
-returns c = seeking_ends c.loop-e.invariant c.loop-e-test.false
+returns c = seeking_ends c.loop-e.invariant (omega arith) c.loop-e-test.false

@@ -1,10 +1,8 @@
-use Rattle.why_layers.proofs.Seeking.{seeking_starts, seeking_stops, seeking_turns, seeking_ends, ready}
+use Rattle.why_layers.proofs.Seeking.{seeking_stops, seeking_turns, seeking_ends, ready}
+use native.Mathlib.Omega.{arith}
 use mathlib.Core.Path.{◌∙◌, sym}
 use Rattle.why_layers.specs.Marks.{source}
 use Rattle.why_layers.proofs.source.Goals as goal
-
-pub loop-a-init : goal.loop-a-init
-loop-a-init c = seeking_starts _ _
 
 pub leads_on-requires : goal.leads_on-requires
 leads_on-requires c = let h = c.requires in ready _ _ _ _ _ h.0 c.loop-a-test.true h.1 h.2
@@ -18,4 +16,4 @@ loop-a-preserved c = seeking_turns c.loop-a.invariant c.loop-a-test.true (sym c.
 
 pub returns : goal.returns
 unfolding source
-returns c = seeking_ends c.loop-a.invariant c.loop-a-test.false
+returns c = seeking_ends c.loop-a.invariant (omega arith) c.loop-a-test.false

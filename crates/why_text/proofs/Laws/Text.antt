@@ -1,5 +1,5 @@
 -- From what is drawn and found to what is printed. Assumes nothing.
-use Rattle.std.specs.Prelude.{◌≡◌, Bool, ℕ, ◌+◌, ◌*◌, ◌^◌, ◌≤◌, ◌<◌, length, ℤ, pos, ◌+ℤ◌}
+use Rattle.std.specs.Prelude.{◌≡◌, true, Option, Some, IsSome, Err, ℕ, ◌+◌, ◌*◌, ◌^◌, ◌≤◌, ◌<◌, length, ℤ, pos, ◌+ℤ◌}
 use Rattle.std.proofs.Math.Path.{refl}
 use Rattle.std.proofs.Common.{sym, ap, ◌∙◌, subst}
 use mathlib.Core.List.{List, [], ◌∷◌, ◌++◌, append-nil, append_assoc}
@@ -25,8 +25,10 @@ use Rattle.rules.specs.Rules.{S1}
 use Rattle.contours.specs.Sheet.{sheet}
 use Rattle.least.proofs.Theorems.{sheet-accepted}
 use Rattle.layout.specs.Laid.{Drawn}
-use Rattle.layout.specs.declared.Measures.{Measures}
-use Rattle.planfile_spec.specs.declared.Reading.{Reading}
+use Rattle.plan.specs.declared.Measures.{Measures}
+use Rattle.planfile_spec.specs.Read.{Reading, answer_of}
+use Rattle.planfile_spec.proofs.Laws.Answer.{read_refused}
+use Rattle.plan.specs.declared.Refusal.{Refusal}
 use Rattle.planfile_spec.specs.Reading.{reading_of}
 use Rattle.listing.specs.Printed.{Bytes, refused_line, lines_joined}
 use Rattle.listing.specs.Put.{Put}
@@ -37,7 +39,8 @@ use Rattle.printing.proofs.Laws.Printing.{drawn_placed, drawn_measured}
 use Rattle.printing.proofs.Laws.Taken.{taken_few, taken-layout}
 use Rattle.why_spec.specs.Links.{Link, adds_up}
 use Rattle.why_search.specs.Stops.{steps}
-use Rattle.why_search.specs.Explains.{told, Explains}
+use Rattle.why_search.specs.Explains.{told, Explained}
+use Rattle.why_search.specs.declared.Chain.{Chain}
 use Rattle.why_lines.specs.Printed.{head_line, last_line, link_lines, reason_lines}
 use Rattle.why_lines.specs.Steps.{x_of, steps_text, end_line, Few}
 use Rattle.why.proofs.Laws.Ours as found
@@ -137,9 +140,12 @@ module _ (p : Reading) (f : Bytes) (h : Taken p f) {s' : List ℕ} {ps ps' : Lis
     (found.keeps (read_table p) p.allowance ps' unrefused same).s1,
   )
 
-  pub plan_reasoned : {b : Bool} {count : ℕ} {cells rules : List ℕ} → Explains (read_table p) p.allowance (placed ps') b count cells rules → Reasoned p.columns p.allowance r.width ps' count cells rules
-  plan_reasoned {b} {count} {cells} {rules} e =
-      let x = found.explained (read_table p) p.allowance ps' unrefused same b count cells rules e in
+  pub plan_chain : (o : Option Chain) → Explained (read_table p) p.allowance (placed ps') o → IsSome o
+  plan_chain o e = found.there (read_table p) p.allowance ps' unrefused same o e
+
+  pub plan_reasoned : (o : Option Chain) {c : Chain} → Explained (read_table p) p.allowance (placed ps') o → o ≡ Some c → Reasoned p.columns p.allowance r.width ps' c.count c.cells c.rules
+  plan_reasoned o {c} e q =
+      let x = found.explained (read_table p) p.allowance ps' unrefused same true c.count c.cells c.rules (rw q at e) in
       record {
         fit = plan-asked.0;
         near = plan-asked.1;
@@ -153,6 +159,10 @@ module _ (p : Reading) (f : Bytes) (h : Taken p f) {s' : List ℕ} {ps ps' : Lis
   unfolding why_text why_lines
   plan-text u = let e = h.is in let z = h.passes in rw (← e, eq-eqb p.refusal.number 0 z) u
 
-pub refusal-text : (p : Reading) (f : Bytes) → p ≡ reading_of f most_cells → ¬ (p.refusal.number ≡ 0) → {a b : List ℕ} {k : ℕ} → Put a 0 (refused_line p.refusal.number p.refusal.cell) b k → Put a 0 (why_text f) b k
+pub refusal-text : (f : Bytes) (r : Refusal) → Err r ≡ answer_of (reading_of f most_cells) → {a b : List ℕ} {k : ℕ} → Put a 0 (refused_line r.number r.cell) b k → Put a 0 (why_text f) b k
 unfolding why_text why_lines lines_joined
-refusal-text p f h n u = rw (← h, ne_eqb p.refusal.number 0 n, append-nil _) u
+refusal-text f r h u =
+    let p = reading_of f most_cells in
+    let (q, n) = read_refused f most_cells r h in
+    let m : ¬ (p.refusal.number ≡ 0) = rw q at n in
+    rw (ne_eqb p.refusal.number 0 m, append-nil _) (rw q at u)

@@ -1,6 +1,10 @@
 use native.Mathlib.Omega.{arith}
+use Rattle.printing.proofs.Laws.Taken.{taken}
 use Rattle.why_text.proofs.Laws.Text.{refusal-text}
 use Rattle.why_text.proofs.write_reason.Goals as goal
 
-pub returns-then-refusal-ne0 : goal.returns-then-refusal-ne0
-returns-then-refusal-ne0 c = (refusal-text _ _ c.read-plan.ensures c.if-refusal-ne0.true c.put_refused.ensures.0, omega (arith, c.put_refused.ensures.1))
+pub write_plan-requires : goal.write_plan-requires
+write_plan-requires c = (taken _ _ c.in-Ok.ensures, c.requires)
+
+pub returns-in-Err : goal.returns-in-Err
+returns-in-Err c = (refusal-text _ _ c.in-Err.ensures c.put_refused.ensures.0, omega (arith, c.put_refused.ensures.1))

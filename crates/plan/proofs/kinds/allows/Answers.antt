@@ -4,10 +4,10 @@ use mathlib.Core.Path.{◌∙◌, sym}
 use borrow.Author.Rules.{rules}
 use Rattle.plan.proofs.kinds.allows.Goals as goal
 
-pub returns-in-Known : goal.returns-in-Known
+pub returns-in-Some : goal.returns-in-Some
 unfolding allows
-returns-in-Known c = c.between.ensures ∙ sym (allows-known _ _ _ c.in-Known.k c.about.ensures c.in-Known.is)
+returns-in-Some c = c.between.ensures ∙ sym (allows-known _ _ _ c.in-Some.k c.about.ensures c.in-Some.is)
 
-pub returns-in-Unknown : goal.returns-in-Unknown
+pub returns-in-None : goal.returns-in-None
 unfolding allows about
-returns-in-Unknown c = search rules
+returns-in-None c = search rules

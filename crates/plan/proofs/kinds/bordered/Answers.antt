@@ -4,9 +4,9 @@ use Rattle.plan.specs.Kinds.{bordered, about}
 use borrow.Author.Rules.{rules}
 use Rattle.plan.proofs.kinds.bordered.Goals as goal
 
-pub returns-in-Known : goal.returns-in-Known
-returns-in-Known c = sym (bordered-known _ _ _ _ c.in-Known.k c.about.ensures c.in-Known.is)
+pub returns-in-Some : goal.returns-in-Some
+returns-in-Some c = sym (bordered-known _ _ _ _ c.in-Some.k c.about.ensures c.in-Some.is)
 
-pub returns-in-Unknown : goal.returns-in-Unknown
+pub returns-in-None : goal.returns-in-None
 unfolding bordered about
-returns-in-Unknown c = search rules
+returns-in-None c = search rules

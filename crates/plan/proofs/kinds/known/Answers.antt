@@ -1,11 +1,7 @@
-use Rattle.plan.specs.Kinds.{known, about}
-use borrow.Author.Rules.{rules}
+use mathlib.Core.Path.{ap, ◌∙◌}
+use Rattle.std.specs.Prelude.{is_some}
+use Rattle.plan.proofs.Laws.Kinds.{known-some}
 use Rattle.plan.proofs.kinds.known.Goals as goal
 
-pub returns-in-Known : goal.returns-in-Known
-unfolding known about
-returns-in-Known c = search rules
-
-pub returns-in-Unknown : goal.returns-in-Unknown
-unfolding known about
-returns-in-Unknown c = search rules
+pub returns : goal.returns
+returns c = c.is_some.ensures ∙ ap is_some c.about.ensures ∙ known-some _

@@ -5,23 +5,20 @@ use Rattle.why_search.proofs.search.search.Goals as goal
 pub first_marks-marks-requires : goal.first_marks-marks-requires
 first_marks-marks-requires c = c.requires.0.few
 
-pub loop-m-init : goal.loop-m-init
-loop-m-init c = (c.requires.0.few, searching_starts _ _ _ _ _ _ c.first_marks-marks.ensures)
+pub loop-count-init : goal.loop-count-init
+loop-count-init c = searching_starts _ _ _ _ _ _ c.first_marks-marks.ensures
 
-pub ending-last-requires : goal.ending-last-requires
-ending-last-requires c = c.requires.0.few
+pub ending-requires : goal.ending-requires
+ending-requires c = c.requires.0.few
 
-pub overflow_sub-result : goal.overflow_sub-result
-overflow_sub-result c = let h = c.loop-m.invariant.1.is in omega arith
-
-pub returns-then-last-n : goal.returns-then-last-n
-returns-then-last-n c = searching_stops _ _ _ _ _ _ _ _ c.loop-m.invariant.1 c.loop-m-test.true c.ending-last.ensures c.if-last-n.true
+pub returns-in-Some : goal.returns-in-Some
+returns-in-Some c = searching_stops _ _ _ _ _ _ _ _ c.loop-count.invariant c.loop-count-test.true c.in-Some.ensures
 
 pub next_marks-marks-requires : goal.next_marks-marks-requires
-next_marks-marks-requires c = let h = c.requires in (h.0, h.1, omega (arith, h.0.few, c.loop-m-test.true))
+next_marks-marks-requires c = let h = c.requires in (h.0, h.1, omega (arith, h.0.few, c.loop-count-test.true))
 
-pub loop-m-preserved : goal.loop-m-preserved
-loop-m-preserved c = (c.loop-m.invariant.0, searching_turns _ _ _ _ _ _ _ _ _ c.loop-m.invariant.1 c.loop-m-test.true c.ending-last.ensures c.if-last-n.false c.next_marks-marks.ensures)
+pub loop-count-preserved : goal.loop-count-preserved
+loop-count-preserved c = searching_turns _ _ _ _ _ _ _ _ c.loop-count.invariant (omega (arith, c.loop-count-test.true)) c.in_default.ensures c.next_marks-marks.ensures
 
 pub returns : goal.returns
-returns c = searching_ends _ _ _ _ _ _ _ c.loop-m.invariant.1 c.loop-m-test.false
+returns c = searching_ends _ _ _ _ _ _ _ c.loop-count.invariant (omega (arith, c.loop-count-test.false))

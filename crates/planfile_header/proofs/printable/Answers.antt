@@ -1,8 +1,0 @@
-use borrow.Author.Tests.{lt-leb, le-leb}
-use Rattle.planfile_header.proofs.printable.Goals as goal
-
-pub returns-then-letter-lt-FIRST_LETTER : goal.returns-then-letter-lt-FIRST_LETTER
-returns-then-letter-lt-FIRST_LETTER c = rw (lt-leb _ _ c.if-letter-lt-FIRST_LETTER.true)
-
-pub returns : goal.returns
-returns c = rw (le-leb _ _ c.if-letter-lt-FIRST_LETTER.false)
