@@ -1,13 +1,13 @@
-// The questions put to a table, each answered: nothing, or the refusal. None asks about a rank: the definitions hold whatever the ranks are.
+// The questions put to a table, each answered: nothing, or the refusal. None asks about a rank: the contracts hold whatever the ranks qs are.
 #![tactic(auto)]
 
 pub mod tree;
 
-ghost use Rattle.std.specs.Prelude.{◌≡◌, ◌&&◌, ◌+◌, ◌*◌, ◌^◌, ◌≤◌, ◌<◌, leb, length, get_or, pos};
+ghost use Rattle.std.specs.Prelude.{◌≡◌, List, ◌&&◌, ℕ, ◌+◌, ◌*◌, ◌^◌, ◌≤◌, ◌<◌, leb, length, get_or, pos};
 ghost use Rattle.plan.specs.Limits.{between, most_cells, most_allowance};
 ghost use Rattle.plan.specs.Trees.{Short, Lower, Flat};
 ghost use Rattle.plan.specs.Questions.{asked, «or_else», lower, sized, near, «at_each», passed, «put_at»};
-ghost use Rattle.plan.specs.Columns.{«table_of»};
+ghost use Rattle.plan.specs.Columns.{table};
 ghost use Rattle.plan.specs.Steps.{cell_refusal, cells_refusal, tree_refusal, table_refusal, counted_refusal, lent_refusal, near_refusal, children_at, levels_at, «rows_at»};
 
 use crate::tree::survey;
@@ -88,7 +88,7 @@ pub fn cell_refusal(
 // Questions 6 to 8, cell by cell.
 pub fn cells_refusal(t: &Columns) -> Result<(), Refusal>
     requires { t.now.count ≤ most_cells }
-    ensures { result ≡ passed (cells_refusal (table_of t.now)) }
+    ensures { (qs : List ℕ) → result ≡ passed (cells_refusal (table t.now.parent t.now.kind t.now.width t.now.depth qs t.now.count)) }
 {
     for c in 0..t.count {
         cell_refusal(
@@ -148,7 +148,7 @@ fn rows_refusal(
 pub fn tree_refusal(t: &Columns) -> Result<(), Refusal>
     requires lower { Lower t.now.parent t.now.count }
     requires flat { Flat t.now.depth t.now.count }
-    ensures { result ≡ passed (tree_refusal (table_of t.now)) }
+    ensures { (ws qs : List ℕ) → result ≡ passed (tree_refusal (table t.now.parent t.now.kind ws t.now.depth qs t.now.count)) }
 {
     let found = survey(t);
     children_refusal(&t.kind, &found.counts, t.count)?;
@@ -159,7 +159,7 @@ pub fn tree_refusal(t: &Columns) -> Result<(), Refusal>
 // Questions 6 to 8 and 11 to 13.
 fn table_refusal(t: &Columns) -> Result<(), Refusal>
     requires { (1 ≤ t.now.count) × (t.now.count ≤ most_cells) }
-    ensures { result ≡ passed (table_refusal (table_of t.now)) }
+    ensures { (qs : List ℕ) → result ≡ passed (table_refusal (table t.now.parent t.now.kind t.now.width t.now.depth qs t.now.count)) }
 {
     cells_refusal(t)?;
     tree_refusal(t)
@@ -177,7 +177,7 @@ pub fn counted(n: usize) -> bool
 
 // Questions 4, 6 to 8 and 11 to 13, put to a lent table by a call without positions.
 pub fn counted_refusal(t: &Columns) -> Result<(), Refusal>
-    ensures { result ≡ passed (counted_refusal (table_of t.now)) }
+    ensures { (qs : List ℕ) → result ≡ passed (counted_refusal (table t.now.parent t.now.kind t.now.width t.now.depth qs t.now.count)) }
 {
     asked(4, counted(t.count), 0)?;
     table_refusal(t)
@@ -185,7 +185,7 @@ pub fn counted_refusal(t: &Columns) -> Result<(), Refusal>
 
 // Questions 4, 1 (of so many positions), 6 to 8 and 11 to 13, put to a lent table.
 pub fn lent_refusal(t: &Columns, positions: usize) -> Result<(), Refusal>
-    ensures { result ≡ passed (lent_refusal (table_of t.now) positions) }
+    ensures { (qs : List ℕ) → result ≡ passed (lent_refusal (table t.now.parent t.now.kind t.now.width t.now.depth qs t.now.count) positions) }
 {
     asked(4, counted(t.count), 0)?;
     asked(1, 2 * t.count <= positions, 0)?;
@@ -231,7 +231,7 @@ pub fn near_refusal(positions: &[i32], n: usize) -> Result<(), Refusal>
 
 // Questions 4 and 6 to 8, put to a lent table that is to be a part of another.
 pub fn part_refusal(t: &Columns) -> Result<(), Refusal>
-    ensures { result ≡ passed (or_else (asked 4 (between 1 most_cells t.now.count) 0) (cells_refusal (table_of t.now))) }
+    ensures { (qs : List ℕ) → result ≡ passed (or_else (asked 4 (between 1 most_cells t.now.count) 0) (cells_refusal (table t.now.parent t.now.kind t.now.width t.now.depth qs t.now.count))) }
 {
     asked(4, counted(t.count), 0)?;
     cells_refusal(t)

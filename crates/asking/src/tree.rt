@@ -1,7 +1,7 @@
 // What the questions and the engines read off a table whose parents are lower than their children.
-ghost use Rattle.std.specs.Prelude.{◌+◌, length};
+ghost use Rattle.std.specs.Prelude.{List, ℕ, ◌+◌, length};
 ghost use Rattle.plan.specs.Plan.{children, level, row};
-ghost use Rattle.plan.specs.Columns.{«table_of»};
+ghost use Rattle.plan.specs.Columns.{table};
 ghost use Rattle.plan.specs.Trees.{Lower, Flat, Column};
 
 use plan::Columns;
@@ -19,9 +19,9 @@ pub struct Surveyed {
 pub fn survey(t: &Columns) -> Surveyed
     requires lower { Lower t.now.parent t.now.count }
     requires flat { Flat t.now.depth t.now.count }
-    ensures { Column result.counts t.now.count (λ c. length (children (table_of t.now) c))
-        × Column result.levels t.now.count (level (table_of t.now))
-        × Column result.rows t.now.count (row (table_of t.now)) }
+    ensures { (ks ws qs : List ℕ) → Column result.counts t.now.count (λ c. length (children (table t.now.parent ks ws t.now.depth qs t.now.count) c))
+        × Column result.levels t.now.count (level (table t.now.parent ks ws t.now.depth qs t.now.count))
+        × Column result.rows t.now.count (row (table t.now.parent ks ws t.now.depth qs t.now.count)) }
 {
     let mut counts = [0u16; MOST_CELLS];
     let mut levels = [0u16; MOST_CELLS];

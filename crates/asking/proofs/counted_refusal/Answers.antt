@@ -7,11 +7,11 @@ use Rattle.asking.proofs.counted_refusal.Goals as goal
 
 pub returns-in_err-asked : goal.returns-in_err-asked
 returns-in_err-asked c =
-    err_stops _ _ _ _ (rw c.counted.ensures at c.in_err-asked.ensures.numbered (omega arith)) c.from_residual.ensures.1 _ ∙ ap passed (sym (counted-columns _ _ _ _ _ _))
+    λ qs. err_stops _ _ _ _ (rw c.counted.ensures at c.in_err-asked.ensures.numbered (omega arith)) c.from_residual.ensures.1 _ ∙ ap passed (sym (counted-columns _ _ _ _ qs _))
 
 pub table_refusal-requires : goal.table_refusal-requires
 table_refusal-requires c = counted-read _ _ refl (passes _ _ (rw c.counted.ensures at c.in_ok-asked.ensures.numbered (omega arith)))
 
 pub returns : goal.returns
 returns c =
-    ok_goes_on _ _ (rw c.counted.ensures at c.in_ok-asked.ensures.numbered (omega arith)) _ _ _ c.table_refusal.ensures ∙ ap passed (sym (counted-columns _ _ _ _ _ _))
+    λ qs. ok_goes_on _ _ (rw c.counted.ensures at c.in_ok-asked.ensures.numbered (omega arith)) _ _ _ (c.table_refusal.ensures qs) ∙ ap passed (sym (counted-columns _ _ _ _ qs _))

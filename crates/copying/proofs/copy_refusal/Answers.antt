@@ -55,7 +55,7 @@ returns-in_err-tree_refusal c =
     ok_goes_on _ _ (c.in_ok-asked.ensures.numbered (omega arith)) _ _ _
     (ok_goes_on _ _ (rw c.counted.ensures at c.in_ok-asked-2.ensures.numbered (omega arith)) _ _ _
     (ok_goes_on _ _ (rw c.letters_printable.ensures at c.in_ok-asked-3.ensures.numbered (omega arith)) _ _ _
-    (ok_goes_on _ _ c.in_ok-records_refusal.ensures _ _ _ (err_stops _ _ _ _ c.in_err-tree_refusal.ensures c.from_residual-in_err-tree_refusal.ensures.1 _))))
+    (ok_goes_on _ _ c.in_ok-records_refusal.ensures _ _ _ (err_stops _ _ _ _ (c.in_err-tree_refusal.ensures _ _) c.from_residual-in_err-tree_refusal.ensures.1 _))))
 
 pub returns : goal.returns
 unfolding lettered_steps
@@ -63,4 +63,4 @@ returns c =
     ok_goes_on _ _ (c.in_ok-asked.ensures.numbered (omega arith)) _ _ _
     (ok_goes_on _ _ (rw c.counted.ensures at c.in_ok-asked-2.ensures.numbered (omega arith)) _ _ _
     (ok_goes_on _ _ (rw c.letters_printable.ensures at c.in_ok-asked-3.ensures.numbered (omega arith)) _ _ _
-    (ok_goes_on _ _ c.in_ok-records_refusal.ensures _ _ _ (ok_goes_on _ _ c.in_ok-tree_refusal.ensures _ _ _ c.allowance_refusal.ensures))))
+    (ok_goes_on _ _ c.in_ok-records_refusal.ensures _ _ _ (ok_goes_on _ _ (c.in_ok-tree_refusal.ensures _ _) _ _ _ c.allowance_refusal.ensures))))

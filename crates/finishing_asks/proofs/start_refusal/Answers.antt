@@ -21,12 +21,12 @@ pub returns-in_err-counted_refusal : goal.returns-in_err-counted_refusal
 returns-in_err-counted_refusal c =
     ok_goes_on _ _ (c.in_ok-asked.ensures.numbered (omega arith)) _ _ _
     (ok_goes_on _ _ (c.in_ok-asked-2.ensures.numbered (omega arith)) _ _ _
-    (err_stops _ _ _ _ c.in_err-counted_refusal.ensures c.from_residual-in_err-counted_refusal.ensures.1 _))
+    (err_stops _ _ _ _ (c.in_err-counted_refusal.ensures _) c.from_residual-in_err-counted_refusal.ensures.1 _))
     ∙ ap passed (sym (calls.start-refusal (table_of c.args.t.now) c.args.allowance c.args.scratch c.args.second))
 
 pub returns : goal.returns
 returns c =
     ok_goes_on _ _ (c.in_ok-asked.ensures.numbered (omega arith)) _ _ _
     (ok_goes_on _ _ (c.in_ok-asked-2.ensures.numbered (omega arith)) _ _ _
-    (ok_goes_on _ _ c.in_ok-counted_refusal.ensures _ _ _ c.allowance_refusal.ensures))
+    (ok_goes_on _ _ (c.in_ok-counted_refusal.ensures _) _ _ _ c.allowance_refusal.ensures))
     ∙ ap passed (sym (calls.start-refusal (table_of c.args.t.now) c.args.allowance c.args.scratch c.args.second))

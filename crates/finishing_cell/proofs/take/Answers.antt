@@ -34,24 +34,24 @@ seek-s-requires c =
 
 pub bounds-found-f : goal.bounds-found-f
 bounds-found-f c =
-    (static c.args.t.now c.requires.0.fit (long (goal.at.bounds-found-f c).Start) _ _ _ c.survey-found.ensures.2 c.survey-found.ensures.1 c.links_of-links.ensures c.args.allowance c.args.k c.requires.1 _ _ _ c.seek-s.ensures.0 c.above-f.ensures refl c.args.scratch.now c.args.marks.now c.requires.0.scratch c.requires.0.marks).smallf
+    (static c.args.t.now c.requires.0.fit (long (goal.at.bounds-found-f c).Start) _ _ _ (c.survey-found.ensures _ _ _).2 (c.survey-found.ensures _ _ _).1 c.links_of-links.ensures c.args.allowance c.args.k c.requires.1 _ _ _ c.seek-s.ensures.0 c.above-f.ensures refl c.args.scratch.now c.args.marks.now c.requires.0.scratch c.requires.0.marks).smallf
 
 pub offset_bounds-found-f : goal.offset_bounds-found-f
 offset_bounds-found-f c =
-    omega (arith, (static c.args.t.now c.requires.0.fit (long (goal.at.offset_bounds-found-f c).Start) _ _ _ c.survey-found.ensures.2 c.survey-found.ensures.1 c.links_of-links.ensures c.args.allowance c.args.k c.requires.1 _ _ _ c.seek-s.ensures.0 c.above-f.ensures refl c.args.scratch.now c.args.marks.now c.requires.0.scratch c.requires.0.marks).smallf)
+    omega (arith, (static c.args.t.now c.requires.0.fit (long (goal.at.offset_bounds-found-f c).Start) _ _ _ (c.survey-found.ensures _ _ _).2 (c.survey-found.ensures _ _ _).1 c.links_of-links.ensures c.args.allowance c.args.k c.requires.1 _ _ _ c.seek-s.ensures.0 c.above-f.ensures refl c.args.scratch.now c.args.marks.now c.requires.0.scratch c.requires.0.marks).smallf)
 
 pub above-f-requires : goal.above-f-requires
 above-f-requires c =
-    (static c.args.t.now c.requires.0.fit (long (goal.at.above-f-requires c).Start) _ _ _ c.survey-found.ensures.2 c.survey-found.ensures.1 c.links_of-links.ensures c.args.allowance c.args.k c.requires.1 _ _ _ c.seek-s.ensures.0 refl refl c.args.scratch.now c.args.marks.now c.requires.0.scratch c.requires.0.marks).small
+    (static c.args.t.now c.requires.0.fit (long (goal.at.above-f-requires c).Start) _ _ _ (c.survey-found.ensures _ _ _).2 (c.survey-found.ensures _ _ _).1 c.links_of-links.ensures c.args.allowance c.args.k c.requires.1 _ _ _ c.seek-s.ensures.0 refl refl c.args.scratch.now c.args.marks.now c.requires.0.scratch c.requires.0.marks).small
 
 pub finish-done-requires : goal.finish-done-requires
 finish-done-requires c =
-    static c.args.t.now c.requires.0.fit (long (goal.at.finish-done-requires c).Start) _ _ _ c.survey-found.ensures.2 c.survey-found.ensures.1 c.links_of-links.ensures c.args.allowance c.args.k c.requires.1 _ _ _ c.seek-s.ensures.0 c.above-f.ensures c.from-level.ensures c.args.scratch.now c.args.marks.now c.requires.0.scratch c.requires.0.marks
+    static c.args.t.now c.requires.0.fit (long (goal.at.finish-done-requires c).Start) _ _ _ (c.survey-found.ensures _ _ _).2 (c.survey-found.ensures _ _ _).1 c.links_of-links.ensures c.args.allowance c.args.k c.requires.1 _ _ _ c.seek-s.ensures.0 c.above-f.ensures c.from-level.ensures c.args.scratch.now c.args.marks.now c.requires.0.scratch c.requires.0.marks
 
 pub returns-then-done : goal.returns-then-done
 returns-then-done c =
-    took-yes c.args.t.now c.requires.0.fit (long (goal.at.returns-then-done c).Start) _ _ _ c.survey-found.ensures.2 c.survey-found.ensures.1 c.links_of-links.ensures c.args.allowance c.args.k c.requires.1 _ _ _ c.seek-s.ensures.0 c.above-f.ensures c.from-level.ensures c.args.scratch.now c.args.marks.now c.requires.0.scratch c.requires.0.marks _ c.if-done.true c.finish-done.ensures
+    took-yes c.args.t.now c.requires.0.fit (long (goal.at.returns-then-done c).Start) _ _ _ (c.survey-found.ensures _ _ _).2 (c.survey-found.ensures _ _ _).1 c.links_of-links.ensures c.args.allowance c.args.k c.requires.1 _ _ _ c.seek-s.ensures.0 c.above-f.ensures c.from-level.ensures c.args.scratch.now c.args.marks.now c.requires.0.scratch c.requires.0.marks _ c.if-done.true c.finish-done.ensures
 
 pub returns-else-done : goal.returns-else-done
 returns-else-done c =
-    took-no c.args.t.now c.requires.0.fit (long (goal.at.returns-else-done c).Start) _ _ _ c.survey-found.ensures.2 c.survey-found.ensures.1 c.links_of-links.ensures c.args.allowance c.args.k c.requires.1 _ _ _ c.seek-s.ensures.0 c.above-f.ensures c.from-level.ensures c.args.scratch.now c.args.marks.now c.requires.0.scratch c.requires.0.marks _ c.if-done.false c.finish-done.ensures
+    took-no c.args.t.now c.requires.0.fit (long (goal.at.returns-else-done c).Start) _ _ _ (c.survey-found.ensures _ _ _).2 (c.survey-found.ensures _ _ _).1 c.links_of-links.ensures c.args.allowance c.args.k c.requires.1 _ _ _ c.seek-s.ensures.0 c.above-f.ensures c.from-level.ensures c.args.scratch.now c.args.marks.now c.requires.0.scratch c.requires.0.marks _ c.if-done.false c.finish-done.ensures

@@ -12,10 +12,10 @@ returns-in_err-asked c =
 
 pub returns-in_err-counted_refusal : goal.returns-in_err-counted_refusal
 returns-in_err-counted_refusal c =
-    ok_goes_on _ _ (c.in_ok-asked.ensures.numbered (omega arith)) _ _ _ (err_stops _ _ _ _ c.in_err-counted_refusal.ensures c.from_residual-in_err-counted_refusal.ensures.1 _)
+    ok_goes_on _ _ (c.in_ok-asked.ensures.numbered (omega arith)) _ _ _ (err_stops _ _ _ _ (c.in_err-counted_refusal.ensures _) c.from_residual-in_err-counted_refusal.ensures.1 _)
     ∙ ap passed (sym (calls.frame-refusal (table_of c.args.t.now) c.args.squares c.args.scratch))
 
 pub returns : goal.returns
 returns c =
-    ok_goes_on _ _ (c.in_ok-asked.ensures.numbered (omega arith)) _ _ _ (ok_goes_on _ _ c.in_ok-counted_refusal.ensures _ _ _ (c.asked-2.ensures.numbered (omega arith)))
+    ok_goes_on _ _ (c.in_ok-asked.ensures.numbered (omega arith)) _ _ _ (ok_goes_on _ _ (c.in_ok-counted_refusal.ensures _) _ _ _ (c.asked-2.ensures.numbered (omega arith)))
     ∙ ap passed (sym (calls.frame-refusal (table_of c.args.t.now) c.args.squares c.args.scratch))

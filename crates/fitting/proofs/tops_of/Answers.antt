@@ -5,4 +5,4 @@ pub survey-requires : goal.survey-requires
 survey-requires c = record { lower = fit_lower c.args.t.now c.requires; flat = fit_flat c.args.t.now c.requires }
 
 pub returns : goal.returns
-returns c = c.survey.ensures.2
+returns c = (c.survey.ensures _ _ _).2

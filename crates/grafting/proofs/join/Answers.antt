@@ -24,7 +24,7 @@ tree_refusal-requires-clause-flat c =
 pub returns-in_err-tree_refusal : goal.returns-in_err-tree_refusal
 returns-in_err-tree_refusal c =
     let a = c.args in
-    stopped-later a.first.now a.second.now a.cell a.room _ c.in_ok-ready.ensures _ c.join_columns-t.ensures _ _ c.in_err-tree_refusal.ensures c.from_residual-in_err-tree_refusal.ensures.1
+    stopped-later a.first.now a.second.now a.cell a.room _ c.in_ok-ready.ensures _ c.join_columns-t.ensures _ _ (c.in_err-tree_refusal.ensures _ _) c.from_residual-in_err-tree_refusal.ensures.1
 
 pub accept-requires : goal.accept-requires
 accept-requires c =
@@ -34,4 +34,4 @@ accept-requires c =
 pub returns : goal.returns
 returns c =
     let a = c.args in
-    joins a.first.now a.second.now a.cell a.room _ c.in_ok-ready.ensures _ c.join_columns-t.ensures _ c.in_ok-tree_refusal.ensures _ c.accept.ensures
+    joins a.first.now a.second.now a.cell a.room _ c.in_ok-ready.ensures _ c.join_columns-t.ensures _ (c.in_ok-tree_refusal.ensures _ _) _ c.accept.ensures

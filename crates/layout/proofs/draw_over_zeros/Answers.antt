@@ -9,7 +9,7 @@ survey-requires c = record { lower = fit_lower c.args.t c.requires.0.fit; flat =
 
 pub place-xs-requires : goal.place-xs-requires
 place-xs-requires c =
-    record { fit = c.requires.0.fit; rows = c.survey.ensures.2; scratch = c.requires.1 }
+    record { fit = c.requires.0.fit; rows = (c.survey.ensures _ _ _).2; scratch = c.requires.1 }
 
 pub write_positions-requires : goal.write_positions-requires
 write_positions-requires c =
@@ -30,7 +30,7 @@ pub returns : goal.returns
 returns c =
     let t = c.args.t in
     let f = c.requires.0.fit in
-    let tops = c.survey.ensures.2 in
+    let tops = (c.survey.ensures _ _ _).2 in
     let p = c.place-xs.ensures in
     drawn t f _ tops c.args.allowance _ p.0 _ p.1 c.args.positions.now _ c.write_positions.ensures _ _
     (c.sheet_width.ensures (sheet (table_of t) c.args.allowance) t.parent t.kind t.depth t.rank p.0)

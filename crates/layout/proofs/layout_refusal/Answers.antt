@@ -21,10 +21,10 @@ returns-in_err-asked c =
 
 pub returns-in_err-lent_refusal : goal.returns-in_err-lent_refusal
 returns-in_err-lent_refusal c =
-    ok_goes_on _ _ (c.in_ok-asked.ensures.numbered (omega arith)) _ _ _ (err_stops _ _ _ _ c.in_err-lent_refusal.ensures c.from_residual-in_err-lent_refusal.ensures.1 _)
+    ok_goes_on _ _ (c.in_ok-asked.ensures.numbered (omega arith)) _ _ _ (err_stops _ _ _ _ (c.in_err-lent_refusal.ensures _) c.from_residual-in_err-lent_refusal.ensures.1 _)
     ∙ put (goal.at.returns-in_err-lent_refusal c).Start
 
 pub returns : goal.returns
 returns c =
-    ok_goes_on _ _ (c.in_ok-asked.ensures.numbered (omega arith)) _ _ _ (ok_goes_on _ _ c.in_ok-lent_refusal.ensures _ _ _ c.allowance_refusal.ensures)
+    ok_goes_on _ _ (c.in_ok-asked.ensures.numbered (omega arith)) _ _ _ (ok_goes_on _ _ (c.in_ok-lent_refusal.ensures _) _ _ _ c.allowance_refusal.ensures)
     ∙ put (goal.at.returns c).Start

@@ -25,8 +25,8 @@ tree_refusal-requires-clause-flat c =
 pub returns-in_err-tree_refusal : goal.returns-in_err-tree_refusal
 unfolding columns_refusal
 returns-in_err-tree_refusal c =
-    ok_goes_on _ _ c.in_ok-records_refusal.ensures _ _ _ (err_stops _ _ _ _ c.in_err-tree_refusal.ensures c.from_residual-in_err-tree_refusal.ensures.1 _)
+    ok_goes_on _ _ c.in_ok-records_refusal.ensures _ _ _ (err_stops _ _ _ _ (c.in_err-tree_refusal.ensures _ _) c.from_residual-in_err-tree_refusal.ensures.1 _)
 
 pub returns : goal.returns
 unfolding columns_refusal
-returns c = ok_goes_on _ _ c.in_ok-records_refusal.ensures _ _ _ (ok_goes_on _ _ c.in_ok-tree_refusal.ensures _ _ _ c.allowance_refusal.ensures)
+returns c = ok_goes_on _ _ c.in_ok-records_refusal.ensures _ _ _ (ok_goes_on _ _ (c.in_ok-tree_refusal.ensures _ _) _ _ _ c.allowance_refusal.ensures)

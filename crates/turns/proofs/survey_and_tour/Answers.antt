@@ -9,4 +9,4 @@ pub survey-found-requires-clause-flat : goal.survey-found-requires-clause-flat
 survey-found-requires-clause-flat g c = fit_flat c.args.t c.requires
 
 pub tour-requires : goal.tour-requires
-tour-requires g c = record { fit = c.requires; rows = c.survey-found.ensures.2; scratch = refl }
+tour-requires g c = record { fit = c.requires; rows = (c.survey-found.ensures _ _ _).2; scratch = refl }

@@ -1,10 +1,11 @@
+use mathlib.Core.List.{[]}
 use mathlib.Core.Path.{◌≡◌, refl, ◌∙◌}
 use Prim.Native.Nat.{◌-◌}
 use native.Mathlib.Omega.{arith}
 use lib.ListN.{get_or, replicate, get_or-replicate, length-set}
 use Rattle.plan.specs.Limits.{most_cells}
 use Rattle.plan.specs.Plan.{level, row}
-use Rattle.plan.specs.Columns.{table_of}
+use Rattle.plan.specs.Columns.{table}
 use Rattle.plan.proofs.Laws.Trees.{parent_few, seen, seen_most, seen_more, seen-children, level_small, level_value, level-more, row_value, row_more, row_small, first-only}
 use Rattle.asking.proofs.tree.survey.Goals as goal
 
@@ -17,8 +18,8 @@ loop-c-init c =
       levels_long = refl;
       rows_long = refl;
       children_seen = λ f h. get_or-replicate most_cells f 0 0 h;
-      levels_found = first-only (replicate most_cells 0) (level (table_of t)) refl;
-      rows_found = first-only (replicate most_cells 0) (row (table_of t)) refl;
+      levels_found = λ ks ws qs. first-only (replicate most_cells 0) (level (table t.parent ks ws t.depth qs t.count)) refl;
+      rows_found = λ ks ws qs. first-only (replicate most_cells 0) (row (table t.parent ks ws t.depth qs t.count)) refl;
     }
 
 pub overflow_add-counts : goal.overflow_add-counts
@@ -31,21 +32,21 @@ pub overflow_add-levels : goal.overflow_add-levels
 overflow_add-levels c =
     let l = c.loop-c in
     let t = c.args.t.now in
-    omega (arith, c.requires.lower.few, level_value t.parent t.kind t.width t.depth t.rank t.count c.requires.lower l.levels l.c l.auto.c c.loop-c-test.true l.invariant.levels_long l.invariant.levels_found, level_small t.parent t.kind t.width t.depth t.rank t.count c.requires.lower l.c)
+    omega (arith, c.requires.lower.few, level_value t.parent [] [] t.depth [] t.count c.requires.lower l.levels l.c l.auto.c c.loop-c-test.true l.invariant.levels_long (l.invariant.levels_found [] [] []), level_small t.parent [] [] t.depth [] t.count c.requires.lower l.c)
 
 pub overflow_add-rows : goal.overflow_add-rows
 overflow_add-rows c =
     let l = c.loop-c in
     let t = c.args.t.now in
     let less = c.loop-c-test.true in
-    omega (arith, c.requires.lower.few, c.requires.flat.flat l.c less, row_value t.parent t.kind t.width t.depth t.rank t.count c.requires.lower l.rows l.c l.auto.c less l.invariant.rows_long l.invariant.rows_found, row_small t.parent t.kind t.width t.depth t.rank t.count c.requires.lower c.requires.flat l.c less)
+    omega (arith, c.requires.lower.few, c.requires.flat.flat l.c less, row_value t.parent [] [] t.depth [] t.count c.requires.lower l.rows l.c l.auto.c less l.invariant.rows_long (l.invariant.rows_found [] [] []), row_small t.parent [] [] t.depth [] t.count c.requires.lower c.requires.flat l.c less)
 
 pub overflow_add-rows-in-loop-c : goal.overflow_add-rows-in-loop-c
 overflow_add-rows-in-loop-c c =
     let l = c.loop-c in
     let t = c.args.t.now in
     let less = c.loop-c-test.true in
-    omega (arith, c.requires.lower.few, c.requires.flat.flat l.c less, row_value t.parent t.kind t.width t.depth t.rank t.count c.requires.lower l.rows l.c l.auto.c less l.invariant.rows_long l.invariant.rows_found, row_small t.parent t.kind t.width t.depth t.rank t.count c.requires.lower c.requires.flat l.c less)
+    omega (arith, c.requires.lower.few, c.requires.flat.flat l.c less, row_value t.parent [] [] t.depth [] t.count c.requires.lower l.rows l.c l.auto.c less l.invariant.rows_long (l.invariant.rows_found [] [] []), row_small t.parent [] [] t.depth [] t.count c.requires.lower c.requires.flat l.c less)
 
 pub loop-c-preserved : goal.loop-c-preserved
 loop-c-preserved c =
@@ -58,16 +59,16 @@ loop-c-preserved c =
       levels_long = simp length-set i.levels_long;
       rows_long = simp length-set i.rows_long;
       children_seen = seen_more t.parent l.counts t.count l.c c.requires.lower l.auto.c less i.counts_long i.children_seen;
-      levels_found = level-more t.parent t.kind t.width t.depth t.rank t.count c.requires.lower l.levels l.c l.auto.c less i.levels_long i.levels_found;
-      rows_found = row_more t.parent t.kind t.width t.depth t.rank t.count c.requires.lower l.rows l.c l.auto.c less i.rows_long i.rows_found;
+      levels_found = λ ks ws qs. level-more t.parent ks ws t.depth qs t.count c.requires.lower l.levels l.c l.auto.c less i.levels_long (i.levels_found ks ws qs);
+      rows_found = λ ks ws qs. row_more t.parent ks ws t.depth qs t.count c.requires.lower l.rows l.c l.auto.c less i.rows_long (i.rows_found ks ws qs);
     }
 
 pub returns : goal.returns
-returns c =
+returns c = λ ks ws qs.
     let l = c.loop-c in
     let t = c.args.t.now in
     let e : l.c ≡ t.count = omega (arith, c.requires.lower, l.auto.c, l.auto.c-end, c.loop-c-test.false) in (
-      record { long = l.invariant.counts_long; each = λ f h. l.invariant.children_seen f (omega (arith, c.requires.lower.few)) ∙ rw e (seen-children t.parent t.kind t.width t.depth t.rank t.count f) },
-      record { long = l.invariant.levels_long; each = λ x h. l.invariant.levels_found x (omega arith) },
-      record { long = l.invariant.rows_long; each = λ x h. l.invariant.rows_found x (omega arith) },
+      record { long = l.invariant.counts_long; each = λ f h. l.invariant.children_seen f (omega (arith, c.requires.lower.few)) ∙ rw e (seen-children t.parent ks ws t.depth qs t.count f) },
+      record { long = l.invariant.levels_long; each = λ x h. l.invariant.levels_found ks ws qs x (omega arith) },
+      record { long = l.invariant.rows_long; each = λ x h. l.invariant.rows_found ks ws qs x (omega arith) },
     )
