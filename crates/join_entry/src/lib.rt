@@ -17,7 +17,7 @@ fn hang(
     ensures { Hangs first.now second.now cell table.old table.new result }
 {
     let joined = grafting::join(first, second, cell, table.len())?;
-    fill(&joined, table);
+    fill(&joined, joined.columns.count, table);
     Ok(joined.columns.count as u16)
 }
 

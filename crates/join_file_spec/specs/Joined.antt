@@ -41,7 +41,9 @@ module _ (f : List ℕ) (c : ℕ) (g : List ℕ) where
   -- the lent output after it. Of a joined file: the file, the rest as it was. Of a refusal: as it was
   unfoldable pub joined_after : Result ℕ JoinError → (out : List ℕ) → List ℕ
   joined_after (Ok n) out = joined_file ++ drop n out
-  joined_after (Err e) out = out
+  joined_after (Err (FirstRefused r)) out = out
+  joined_after (Err (SecondRefused r)) out = out
+  joined_after (Err (Refused r)) out = out
 
 -- bytes of the file that is given
 unfoldable pub size : Result ℕ JoinError → ℕ

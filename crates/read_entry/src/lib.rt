@@ -18,7 +18,7 @@ pub fn read(file: &[u8], table: &mut [Record]) -> Result<ReadPlan, Refusal>
     ensures { Reads file.now table.old table.new result }
 {
     let plan = planfile::read(file, table.len())?;
-    fill(&plan.cells, table);
+    fill(&plan.cells, plan.cells.columns.count, table);
     Ok(ReadPlan {
         count: plan.cells.columns.count as u16,
         allowance: plan.allowance,

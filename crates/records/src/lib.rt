@@ -51,9 +51,9 @@ pub fn lettered_of(table: &[Record]) -> Lettered
     ensures { result ≡ lent_lettered table.now }
 {
     let count = table.len();
-    let n = clip(count);
+    let taken = clip(count);
     let mut t = empty(count);
-    for c in 0..n {
+    for c in 0..taken {
         let r = record_at(table, c);
         t.columns.parent[c] = r.parent;
         t.columns.kind[c] = r.kind;
@@ -74,12 +74,12 @@ pub fn columns_of(table: &[Record]) -> Columns
     t.columns
 }
 
-// Writes the records of the cells, and leaves the rest.
-pub fn fill(t: &Lettered, table: &mut [Record])
-    requires { (t.now.columns.count ≤ length table.old) × (t.now.columns.count ≤ most_cells) }
-    ensures { table.new ≡ filled (as_reading t.now) t.now.columns.count table.old }
+// Writes the records of cells 0 to n - 1, and leaves the rest.
+pub fn fill(t: &Lettered, n: usize, table: &mut [Record])
+    requires { (n ≤ length table.old) × (n ≤ most_cells) }
+    ensures { table.new ≡ filled (as_reading t.now) n table.old }
 {
-    for c in 0..t.columns.count {
+    for c in 0..n {
         table[c] = Record {
             parent: t.columns.parent[c],
             kind: t.columns.kind[c],

@@ -19,7 +19,7 @@ pub fn report(
     ensures { Reports file.now table.old table.new scratch.old scratch.new positions.old positions.new result }
 {
     let draft = reporting::report(file, table.len(), scratch, positions)?;
-    fill(&draft.plan.cells, table);
+    fill(&draft.plan.cells, draft.plan.cells.columns.count, table);
     Ok(draft.report)
 }
 

@@ -6,7 +6,7 @@ pub returns-in_err-plan : goal.returns-in_err-plan
 returns-in_err-plan c = refused_reads _ _ _ _ (c.in_err-plan.ensures) c.from_residual.ensures.1
 
 pub fill-requires : goal.fill-requires
-fill-requires c = count_fits c.args.file.now c.args.table.now _ c.in_ok-plan.ensures
+fill-requires c = omega (arith, count_fits c.args.file.now c.args.table.now _ c.in_ok-plan.ensures)
 
 pub overflow_cast-result : goal.overflow_cast-result
 overflow_cast-result c = record { fits = omega (arith, count_fits c.args.file.now c.args.table.now _ c.in_ok-plan.ensures) }
