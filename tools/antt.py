@@ -319,7 +319,7 @@ def owner_of(line):
     if not m[1]:
         return m[3]
     words = ['Unit' if w == '()' else w[0].upper() + w[1:] for w in re.findall(r'\w+|\(\)', m[2] or '')]
-    return m[3] + m[1] + ''.join(words)
+    return m[3][0].upper() + m[3][1:] + m[1] + ''.join(words)
 
 
 def rt_functions(text):

@@ -3,17 +3,18 @@ use Rattle.std.specs.Prelude.{◌≡◌, cond, List, [], ◌++◌, ℕ, ◌≤�
 use Rattle.plan.specs.Limits.{most_file}
 use Rattle.content.specs.Clean.{clean}
 use Rattle.outline_spec.specs.Understood.{Understood, fault, plan, understood}
+use Rattle.outline_spec.specs.Faults.{fault_number}
 use Rattle.outline_spec.specs.Refused.{content_refusal}
 use Rattle.compose.specs.declared.ComposeError.{ComposeError}
 use Rattle.compose.specs.declared.ComposeError.TheVariants.{Refused, Wrong}
 
--- the length of the file; or the refusal, or the line that is not understood and its fault
+-- the length of the file; or the refusal, or the line that is not understood and the number of its fault
 abbrev pub Composed : Type 0
 Composed = Result ℕ ComposeError
 
--- by what the text says: the line and its fault; or Copy's answer about the content: the length of its clean copy, or the refusal
+-- by what the text says: the line and the number of its fault; or Copy's answer about the content: the length of its clean copy, or the refusal
 unfoldable pub composed_by : Understood → (output : ℕ) → Composed
-composed_by (fault n f) room = Err (Wrong (record { line = n; fault = f }))
+composed_by (fault n f) room = Err (Wrong n (fault_number f))
 composed_by (plan c) room =
     let r = content_refusal c room in
     cond (eqb r.number 0) (Ok (length (clean c))) (Err (Refused r))

@@ -3,6 +3,7 @@
 
 ghost use Rattle.std.specs.Prelude.{◌≡◌, ◌+◌, ◌-◌, ◌≤◌, ◌<◌, length, take, drop};
 ghost use Rattle.listing.specs.Put.{Put};
+ghost use Rattle.outline_spec.specs.Faults.{fault_number};
 ghost use Rattle.outline_spec.specs.Understood.{first};
 ghost use Rattle.compose.specs.declared.ComposeError.TheVariants.{Refused, Wrong};
 ghost use Rattle.compose.specs.Steps.{line_long, past_line, record_from, note};
@@ -41,11 +42,11 @@ pub struct Misread {
     pub fault: Fault,
 }
 
-// Why no file is written: the output or the plan is refused; or a line is not understood.
+// Why no file is written: the output or the plan is refused; or a line is not understood, with the number of what is wrong with it.
 #[derive(Clone, Copy, Drop)]
 pub enum ComposeError {
     Refused(Refusal),
-    Wrong(Misread),
+    Wrong { line: usize, fault: u8 },
 }
 
 impl From<Refusal> for ComposeError {
@@ -57,10 +58,13 @@ impl From<Refusal> for ComposeError {
 }
 
 impl From<Misread> for ComposeError {
-    ghost from_gives = { λ m e. e ≡ Wrong m };
+    ghost from_gives = { λ m e. e ≡ Wrong m.line (fault_number m.fault) };
 
     fn from(m: Misread) -> ComposeError {
-        ComposeError::Wrong(m)
+        ComposeError::Wrong {
+            line: m.line,
+            fault: u8::from(m.fault),
+        }
     }
 }
 

@@ -3,7 +3,7 @@
 
 ghost use Rattle.std.specs.Prelude.{◌+◌, ◌≤◌, length};
 ghost use Rattle.listing.specs.Put.{Put};
-ghost use Rattle.outline_spec.specs.Faults.{advice, fault_line};
+ghost use Rattle.outline_spec.specs.Faults.{advice, fault_of, fault_line};
 
 use decimals::{put_byte, put_decimal, put_text};
 use outline_spec::Fault;
@@ -70,14 +70,14 @@ fn put_advice(fault: Fault, out: &mut [u8], at: usize) -> usize
     }
 }
 
-// The line, from the buffer's first byte on: `line`, its number, and what to do.
-pub fn put_fault(line: usize, fault: Fault, out: &mut [u8]) -> usize
+// The line, from the buffer's first byte on: `line`, its number, and what to do about the fault of this number.
+pub fn put_fault(line: usize, fault: u8, out: &mut [u8]) -> usize
     requires { 192 ≤ length out.old }
-    ensures { Put out.old 0 (fault_line line fault) out.new result × (result ≤ 192) }
+    ensures { Put out.old 0 (fault_line line (fault_of fault)) out.new result × (result ≤ 192) }
 {
     let a = put_text(b"line ", out, 0);
     let b = put_decimal(line as u64, out, a);
     let c = put_text(b": ", out, b);
-    let d = put_advice(fault, out, c);
+    let d = put_advice(Fault::from(fault), out, c);
     put_byte(LINE_FEED, out, d)
 }

@@ -62,9 +62,9 @@ fn write_plan<R: Env + Files>(
             let line = listing::refused_line(u32::from(refusal.number), u32::from(refusal.cell));
             trouble(err, &line.bytes[..line.length]);
         }
-        Err(ComposeError::Wrong(misread)) => {
+        Err(ComposeError::Wrong { line, fault }) => {
             let mut told = [0u8; 192];
-            let length = put_fault(misread.line, misread.fault, &mut told);
+            let length = put_fault(line, fault, &mut told);
             trouble(err, &told[..length]);
         }
     }

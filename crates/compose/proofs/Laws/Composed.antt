@@ -16,6 +16,7 @@ use Rattle.content.specs.Content.{content}
 use Rattle.content.specs.Clean.{labels, clean, copy, copy_refusal}
 use Rattle.content.proofs.Laws.Promised.{copy_passed, copy_small}
 use Rattle.copying.specs.Copied.{copied_of, output_after, Copies}
+use Rattle.outline_spec.specs.Faults.{fault_number}
 use Rattle.outline_spec.specs.Refused.{content_refusal}
 use Rattle.outline_spec.specs.Understood.{Understood, plan, understood}
 use Rattle.compose.specs.Meaning.{items_in, meaning}
@@ -46,12 +47,12 @@ module _ (text letters : List ℕ) (out : List ℕ) (room : most_file ≤ length
   composed_is = rw (le-leb most_file (length out) room) refl
 
   -- a fault
-  wrong-is : (m : Misread) → Understands text letters (Err m) → Composes text out out (Err (Wrong m))
+  wrong-is : (m : Misread) → Understands text letters (Err m) → Composes text out out (Err (Wrong m.line (fault_number m.fault)))
   unfolding meaning composed_by composed_after size
   wrong-is m h = record { answers = sym (composed_is ∙ ap (λ (x : Understood). composed_by x (length out)) (sym h.answers)); output = refl; suffices = omega arith }
 
-  pub compose_wrong : (m : Misread) → Understands text letters (Err m) → (r : Composed) → IsErrAnd r (λ d. d ≡ Wrong m) → Composes text out out r
-  compose_wrong m h r p = rw (that_error r (Wrong m) p) (wrong-is m h)
+  pub compose_wrong : (m : Misread) → Understands text letters (Err m) → (r : Composed) → IsErrAnd r (λ d. d ≡ Wrong m.line (fault_number m.fault)) → Composes text out out r
+  compose_wrong m h r p = rw (that_error r (Wrong m.line (fault_number m.fault)) p) (wrong-is m h)
 
   -- a content
   module _ (u : Understanding) (h : Understands text letters (Ok u)) where

@@ -193,8 +193,8 @@ module _ (line : Bytes) where
         let q : n ≡ 2 * (n / 2) + 1 = omega arith in
         odd-here (indented 0 line) (blanks_one (indented 0 line) (n / 2) (blanks_two (n / 2) (omega arith) (λ j k. f j (omega arith))) (omega arith) (f (2 * (n / 2)) (omega arith)) (rw q at s))
 
-    pub blanks-even : n % 2 ≡ 0 → Levels line (indented 0 line) (Some (n / 2))
-    blanks-even z = level-here (indented 0 line) (n / 2) (go (ℕ_discrete n (length line))) (omega arith)
+    pub blanks-even : n % 2 ≡ 0 → (l : ℕ) → l ≡ n / 2 → Levels line (indented 0 line) (Some l)
+    blanks-even z l e = rw e (level-here (indented 0 line) (n / 2) (go (ℕ_discrete n (length line))) (omega arith))
       where
         q : 2 * (n / 2) ≡ n
         q = omega arith

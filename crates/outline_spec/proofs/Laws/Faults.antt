@@ -1,5 +1,5 @@
 -- Faults and their numbers. Assumes nothing.
-use Rattle.std.specs.Prelude.{◌≡◌, refl, ℕ, zero, suc, ◌≤◌}
+use Rattle.std.specs.Prelude.{◌≡◌, refl, ℕ, zero, suc, ◌-◌, ◌≤◌, ◌<◌}
 use Rattle.std.proofs.Common.{arith}
 use Rattle.outline_spec.specs.declared.Fault.{Fault}
 use Rattle.outline_spec.specs.declared.Fault.TheVariants.{EmptyText, StrangeByte, LongLine, ManyCells, NoAllowance, OddBlanks, UnknownWord, UnknownField, LargeNumber, OpenLabel, Misplaced}
@@ -34,3 +34,14 @@ number-back (suc (suc (suc (suc (suc (suc (suc (suc (suc zero))))))))) n h = ref
 number-back (suc (suc (suc (suc (suc (suc (suc (suc (suc (suc zero)))))))))) n h = refl
 number-back (suc (suc (suc (suc (suc (suc (suc (suc (suc (suc (suc zero))))))))))) n h = refl
 number-back (suc (suc (suc (suc (suc (suc (suc (suc (suc (suc (suc (suc k)))))))))))) n h = absurd (omega arith)
+
+-- the first and the last of the numbers
+pub fault_first : (k : ℕ) → k < 2 → fault_of k ≡ EmptyText
+unfolding fault_of
+fault_first zero h = refl
+fault_first (suc zero) h = refl
+fault_first (suc (suc k)) h = absurd (omega arith)
+
+pub fault_last : (k : ℕ) → 10 < k → fault_of k ≡ Misplaced
+unfolding fault_of
+fault_last k h = let e : k ≡ suc (suc (suc (suc (suc (suc (suc (suc (suc (suc (suc (k - 11))))))))))) = omega arith in rw e refl
