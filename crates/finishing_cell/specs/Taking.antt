@@ -1,5 +1,5 @@
 -- ONE CELL of a sheet that is being made is finished: what the functions need and give. Nothing that a reader must believe stands here. Assumes nothing.
-use Rattle.std.specs.Prelude.{◌≡◌, List, Option, Some, None, ℕ, zero, suc, ◌<◌, length, get_or, replicate}
+use Rattle.std.specs.Prelude.{◌≡◌, List, Result, Ok, Err, ℕ, zero, suc, ◌<◌, length, get_or, replicate}
 use Rattle.plan.specs.Limits.{scratch_size, second_size}
 use Rattle.plan.specs.Plan.{Table}
 use Rattle.plan.specs.Fit.{Fit}
@@ -18,9 +18,10 @@ unfoldable pub up_of : List ℕ → ℕ → ℕ
 up_of ps zero = 0
 up_of ps (suc p) = get_or ps (suc p) 0
 
--- step number k: the cell that is finished, which is the one at k, or none; where the scratches are those after k steps, it is finished
-pub record Took (t : Table) (al k : ℕ) (m n : Memory) (r : Option ℕ) : Type 0 where
-  pub told : (c : ℕ) → r ≡ Some c → (c ≡ get_or (postorder t) k 0) × (c < length t)
-  pub on : m ≡ made t al k → (r ≡ Some (get_or (postorder t) k 0)) × (n ≡ worked t al (suc k))
-  pub no : r ≡ None → n ≡ m
+-- step number k: the cell at k, which is finished, or could not be; where the scratches are those after k steps, it is finished
+pub record Took (t : Table) (al k : ℕ) (m n : Memory) (r : Result ℕ ℕ) : Type 0 where
+  pub told : (c : ℕ) → r ≡ Ok c → (c ≡ get_or (postorder t) k 0) × (c < length t)
+  pub waits : (c : ℕ) → r ≡ Err c → (c ≡ get_or (postorder t) k 0) × (c < length t)
+  pub on : m ≡ made t al k → (r ≡ Ok (get_or (postorder t) k 0)) × (n ≡ worked t al (suc k))
+  pub no : (c : ℕ) → r ≡ Err c → n ≡ m
   pub clear : suc k ≡ length t → (worked t al (suc k)).rows ≡ replicate scratch_size 0

@@ -38,14 +38,14 @@ fn above(parents: &[u16; MOST_CELLS], c: usize) -> usize
     usize::from(parents[c])
 }
 
-// Cell number k of the order is finished: which it is, or none where the guard does not let it.
+// Cell number k of the order is finished, and told; also where the guard does not let it be finished.
 pub fn take(
     t: &Columns,
     k: usize,
     allowance: u32,
     scratch: &mut [u32],
     marks: &mut [u32],
-) -> Option<usize>
+) -> Result<usize, usize>
     requires { Steppable (table_of t.now) (length scratch.old) (length marks.old) × (k < t.now.count) }
     ensures { Took (table_of t.now) allowance k (memory_of scratch.old marks.old) (memory_of scratch.new marks.new) result }
 {
@@ -63,5 +63,5 @@ pub fn take(
         allowance,
     };
     let done = finish(&b, level, f, c, scratch, marks);
-    if done { Some(c) } else { None }
+    if done { Ok(c) } else { Err(c) }
 }

@@ -54,8 +54,12 @@ pub fn advance(
     if n <= k {
         return None;
     }
-    let c = take(t, k, allowance, scratch, marks)?;
-    conclude(t, allowance, k + 1 == n, scratch, positions);
-    put_count(scratch, (k + 1) as u32);
-    Some(c as u16)
+    match take(t, k, allowance, scratch, marks) {
+        Ok(c) => {
+            conclude(t, allowance, k + 1 == n, scratch, positions);
+            put_count(scratch, (k + 1) as u32);
+            Some(c as u16)
+        }
+        Err(_) => None,
+    }
 }

@@ -6,6 +6,7 @@ use Rattle.drawing_spec.specs.declared.Fault.{Fault}
 use Rattle.drawing_spec.specs.declared.Fault.TheVariants.{NoNumber, NoCell, Twice, Far, Missing, Long}
 use Rattle.drawing_spec.specs.declared.DrawError.{DrawError}
 use Rattle.drawing_spec.specs.declared.DrawError.TheVariants.{Wrong, Refused}
+use Rattle.plan.specs.declared.Refusal.{Refusal}
 use Rattle.mark_spec.specs.declared.Marked.{Marked}
 use Rattle.mark_spec.specs.declared.Marked.TheVariants.{Full, Wide, Broken}
 use Rattle.mark_text.specs.declared.Counts.{Counts}
@@ -66,11 +67,12 @@ pair a b = (decimal a ++ (space ∷ [])) ++ decimal b
 unfoldable pub triple : (a b c : ℕ) → Bytes
 triple a b c = (pair a b ++ (space ∷ [])) ++ decimal c
 
--- ---- the line of a mark
-unfoldable pub marked_line : (name : Bytes) → Marked → Bytes
-marked_line name (Full m) = ((name ++ full_part) ++ pair m.width m.rows) ++ (line_feed ∷ [])
-marked_line name (Wide m l) = ((name ++ wide_part) ++ triple m.width l m.rows) ++ (line_feed ∷ [])
-marked_line name (Broken b) = ((name ++ broken_part) ++ triple b.rule b.a b.b) ++ (line_feed ∷ [])
+-- ---- the line of what Mark answers: a mark, or a refusal with its number and cell
+unfoldable pub marked_line : (name : Bytes) → Result Marked Refusal → Bytes
+marked_line name (Ok (Full m)) = ((name ++ full_part) ++ pair m.width m.rows) ++ (line_feed ∷ [])
+marked_line name (Ok (Wide m l)) = ((name ++ wide_part) ++ triple m.width l m.rows) ++ (line_feed ∷ [])
+marked_line name (Ok (Broken b)) = ((name ++ broken_part) ++ triple b.rule b.a b.b) ++ (line_feed ∷ [])
+marked_line name (Err r) = named_line name r.number r.cell
 
 -- ---- the line of a text that is no drawing of the plan
 -- a line of it, and what is wrong there
@@ -86,8 +88,8 @@ unread_line name (Missing c) = ((name ++ missing_cell_part) ++ decimal c) ++ mis
 unread_line name Long = name ++ long_part
 
 unfoldable pub outcome_line : (name : Bytes) → Result Marked DrawError → Bytes
-outcome_line name (Ok m) = marked_line name m
-outcome_line name (Err (Refused r)) = named_line name r.number r.cell
+outcome_line name (Ok m) = marked_line name (Ok m)
+outcome_line name (Err (Refused r)) = marked_line name (Err r)
 outcome_line name (Err (Wrong f)) = unread_line name f
 
 -- ---- the counts of a sitting

@@ -29,12 +29,13 @@ unfolding text
 words = (refl, refl, refl, refl, refl, refl, refl, refl, refl, refl, refl, refl, refl, refl, refl, refl)
 
 pub marks :
-    (marked_line (text "a") (full_of 25 10) ≡ text "a full 25 10\n")
-    × (marked_line (text "a") (wide_of 26 25 10) ≡ text "a wide 26 25 10\n")
-    × (marked_line (text "a") (broken_of 4 4 11) ≡ text "a broken S4 4 11\n")
+    (marked_line (text "a") (Ok (full_of 25 10)) ≡ text "a full 25 10\n")
+    × (marked_line (text "a") (Ok (wide_of 26 25 10)) ≡ text "a wide 26 25 10\n")
+    × (marked_line (text "a") (Ok (broken_of 4 4 11)) ≡ text "a broken S4 4 11\n")
+    × (marked_line (text "a") (Err (refused_of 15 3)) ≡ text "a refused 15 3\n")
     × (outcome_line (text "a") (Err (Refused (refused_of 15 3))) ≡ text "a refused 15 3\n")
 unfolding text digits decimal line refused_line named_line pair triple marked_line outcome_line
-marks = (refl, refl, refl, refl)
+marks = (refl, refl, refl, refl, refl)
 
 pub faults :
     (unread_line (text "a") (NoNumber 7) ≡ text "a line 7: not three numbers\n")

@@ -1,7 +1,7 @@
 // THE PRINTED MARKS: the line of a drawing, with its name, and the counts of a sitting. Each function writes a text into a buffer and hands its length back.
 #![tactic(auto)]
 
-ghost use Rattle.std.specs.Prelude.{◌+◌, ◌≤◌, ◌++◌, length, ◌≡◌};
+ghost use Rattle.std.specs.Prelude.{◌+◌, ◌≤◌, ◌++◌, length, ◌≡◌, Ok};
 ghost use Rattle.listing.specs.Printed.{decimal};
 ghost use Rattle.listing.specs.Put.{Put};
 ghost use Rattle.mark_text.specs.Text.{long_part, mark_size, counts_size, pair, triple, marked_line, fault_line, unread_line, outcome_line, more, counted, first_counts, last_counts, counts_line};
@@ -11,7 +11,7 @@ ghost use Rattle.drawing_spec.specs.declared.Fault.TheVariants.{Twice, Missing};
 use decimals::{put_byte, put_decimal, put_text};
 use drawing_spec::{DrawError, Fault};
 use mark_spec::Marked;
-use plan::{Breach, Measures};
+use plan::{Breach, Measures, Refusal};
 use summary::write_named;
 
 const SPACE: u8 = 32;
@@ -51,7 +51,7 @@ fn put_triple(a: u64, b: u64, c: u64, out: &mut [u8], at: usize) -> usize
 
 fn write_full(name: &[u8], sheet: Measures, out: &mut [u8]) -> usize
     requires { length name.now + mark_size ≤ length out.old }
-    ensures { Put out.old 0 (marked_line name.now (Full sheet)) out.new result × (result ≤ length name.now + mark_size) }
+    ensures { Put out.old 0 (marked_line name.now (Ok (Full sheet))) out.new result × (result ≤ length name.now + mark_size) }
 {
     let a = put_text(name, out, 0);
     let b = put_text(b" full ", out, a);
@@ -61,7 +61,7 @@ fn write_full(name: &[u8], sheet: Measures, out: &mut [u8]) -> usize
 
 fn write_wide(name: &[u8], sheet: Measures, least: u32, out: &mut [u8]) -> usize
     requires { length name.now + mark_size ≤ length out.old }
-    ensures { Put out.old 0 (marked_line name.now (Wide sheet least)) out.new result × (result ≤ length name.now + mark_size) }
+    ensures { Put out.old 0 (marked_line name.now (Ok (Wide sheet least))) out.new result × (result ≤ length name.now + mark_size) }
 {
     let a = put_text(name, out, 0);
     let b = put_text(b" wide ", out, a);
@@ -71,7 +71,7 @@ fn write_wide(name: &[u8], sheet: Measures, least: u32, out: &mut [u8]) -> usize
 
 fn write_broken(name: &[u8], breach: Breach, out: &mut [u8]) -> usize
     requires { length name.now + mark_size ≤ length out.old }
-    ensures { Put out.old 0 (marked_line name.now (Broken breach)) out.new result × (result ≤ length name.now + mark_size) }
+    ensures { Put out.old 0 (marked_line name.now (Ok (Broken breach))) out.new result × (result ≤ length name.now + mark_size) }
 {
     let i = put_text(name, out, 0);
     let j = put_text(b" broken S", out, i);
@@ -79,15 +79,18 @@ fn write_broken(name: &[u8], breach: Breach, out: &mut [u8]) -> usize
     put_byte(LINE_FEED, out, k)
 }
 
-// The line of a mark.
-pub fn write_marked(name: &[u8], mark: Marked, out: &mut [u8]) -> usize
+// The line of what Mark answers: the mark, or its refusal.
+pub fn write_marked(name: &[u8], mark: Result<Marked, Refusal>, out: &mut [u8]) -> usize
     requires { length name.now + mark_size ≤ length out.old }
     ensures { Put out.old 0 (marked_line name.now mark) out.new result × (result ≤ length name.now + mark_size) }
 {
     match mark {
-        Marked::Full(sheet) => write_full(name, sheet, out),
-        Marked::Wide(sheet, least) => write_wide(name, sheet, least, out),
-        Marked::Broken(breach) => write_broken(name, breach, out),
+        Ok(marked) => match marked {
+            Marked::Full(sheet) => write_full(name, sheet, out),
+            Marked::Wide(sheet, least) => write_wide(name, sheet, least, out),
+            Marked::Broken(breach) => write_broken(name, breach, out),
+        },
+        Err(refusal) => write_named(name, refusal.number as u64, refusal.cell as u64, out),
     }
 }
 
@@ -150,10 +153,10 @@ pub fn write_outcome(name: &[u8], outcome: Result<Marked, DrawError>, out: &mut 
     ensures { Put out.old 0 (outcome_line name.now outcome) out.new result × (result ≤ length name.now + mark_size) }
 {
     match outcome {
-        Ok(mark) => write_marked(name, mark, out),
+        Ok(mark) => write_marked(name, Ok(mark), out),
         Err(error) => match error {
             DrawError::Wrong(fault) => write_unread(name, fault, out),
-            DrawError::Refused(r) => write_named(name, r.number as u64, r.cell as u64, out),
+            DrawError::Refused(refusal) => write_marked(name, Err(refusal), out),
         },
     }
 }

@@ -1,5 +1,5 @@
 -- One step over columns. Nothing that a reader must believe stands here. Assumes nothing.
-use Rattle.std.specs.Prelude.{◌≡◌, refl, ◌≢◌, ◌⊎◌, Bool, true, false, Some, None, ℕ, zero, suc, ◌≤◌, ◌<◌, length, get_or}
+use Rattle.std.specs.Prelude.{◌≡◌, refl, ◌≢◌, ◌⊎◌, Bool, true, false, Ok, Err, ℕ, zero, suc, ◌≤◌, ◌<◌, length, get_or}
 use Rattle.std.proofs.Common.{◌∙◌, sym, inl, inr, arith}
 use Rattle.std.proofs.Math.Path.{ap, subst}
 use mathlib.Core.List.{List}
@@ -190,19 +190,21 @@ module _ (t : Columns) (fit : Fit (table_of t)) (long : Long t) (tops levels ls 
         let out : memory_of (set xs count_at 0) ms ≡ worked tab al k = taken_out tab fit.sound al k xs ms e in
         (refl, h.yes refl ∙ ap (advanced b lv f c) out ∙ advanced-is (worked tab al k) ∙ ap (λ (x : ℕ). finishes tab al x (worked tab al k)) cell ∙ sym (one_more tab b suits k k_in))
 
-    -- and told; else none is
-    pub took-yes : (n : Memory) {r : Bool} → r ≡ true → Finished b lv f c (memory_of xs ms) n r → Took tab al k (memory_of xs ms) n (Some c)
+    -- and told; else it is told that it could not be
+    pub took-yes : (n : Memory) {r : Bool} → r ≡ true → Finished b lv f c (memory_of xs ms) n r → Took tab al k (memory_of xs ms) n (Ok c)
     took-yes n {r} q h = record {
       told = λ d e. let same : c ≡ d = cc in (sym same ∙ cell, omega (arith, same, is));
-      on = λ e. (ap Some cell, (lets n r h e).1);
-      no = λ e. cc;
+      waits = λ d e. cc;
+      on = λ e. (ap Ok cell, (lets n r h e).1);
+      no = λ d e. cc;
       clear = λ e. rw e (ended tab b suits).scratch;
     }
 
-    pub took-no : (n : Memory) {r : Bool} → r ≡ false → Finished b lv f c (memory_of xs ms) n r → Took tab al k (memory_of xs ms) n None
+    pub took-no : (n : Memory) {r : Bool} → r ≡ false → Finished b lv f c (memory_of xs ms) n r → Took tab al k (memory_of xs ms) n (Err c)
     took-no n {r} q h = record {
       told = λ d e. cc;
+      waits = λ d e. let same : c ≡ d = cc in (sym same ∙ cell, omega (arith, same, is));
       on = λ e. absurd (bool_apart (sym (lets n r h e).0 ∙ q));
-      no = λ _. h.no q;
+      no = λ _ _. h.no q;
       clear = λ e. rw e (ended tab b suits).scratch;
     }

@@ -65,12 +65,12 @@ module _ (t : Table) (fit : Fit t) (al : ℕ) (xs ms : List ℕ) (ps : List ℤ)
   }
 
   module _ (l : k < length t) (n : Memory) where
-    pub step_tampered : {r : Option ℕ} → r ≡ None → Took t al k (memory_of xs ms) n r → Advances t al (memory_of xs ms) n ps ps None
-    step_tampered {r} q h =
-        let never : (j : ℕ) → memory_of xs ms ≡ made t al j → ⊥ = (λ j e. let w : None ≡ Some (get_or (postorder t) k 0) = sym q ∙ (h.on (e ∙ ap (made t al) (same j e))).0 in cc) in
-        record { answers = λ j le e. absurd (never j e); memory = λ j le e. absurd (never j e); positions = λ j le e. absurd (never j e); idle = λ e. (h.no q, refl) }
+    pub step_tampered : {r : Result ℕ ℕ} {c : ℕ} → r ≡ Err c → Took t al k (memory_of xs ms) n r → Advances t al (memory_of xs ms) n ps ps None
+    step_tampered {r} {c} q h =
+        let never : (j : ℕ) → memory_of xs ms ≡ made t al j → ⊥ = (λ j e. let w : Err c ≡ Ok (get_or (postorder t) k 0) = sym q ∙ (h.on (e ∙ ap (made t al) (same j e))).0 in cc) in
+        record { answers = λ j le e. absurd (never j e); memory = λ j le e. absurd (never j e); positions = λ j le e. absurd (never j e); idle = λ e. (h.no c q, refl) }
 
-    pub step-done : {r : Option ℕ} {c : ℕ} → r ≡ Some c → Took t al k (memory_of xs ms) n r → (z : Bool) → z ≡ eqb (k + 1) (length t) → (ys zs : List ℕ) (qs : List ℤ) → Concluded t al z n.rows ys ps qs → zs ≡ set ys count_at (k + 1)
+    pub step-done : {r : Result ℕ ℕ} {c : ℕ} → r ≡ Ok c → Took t al k (memory_of xs ms) n r → (z : Bool) → z ≡ eqb (k + 1) (length t) → (ys zs : List ℕ) (qs : List ℤ) → Concluded t al z n.rows ys ps qs → zs ≡ set ys count_at (k + 1)
         → Advances t al (memory_of xs ms) (memory_of zs n.marks) ps qs (Some c)
     unfolding stepped_at finished_after positions_after made
     step-done {r} {c} q h z ez ys zs qs d es = record {

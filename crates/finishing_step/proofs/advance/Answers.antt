@@ -17,15 +17,14 @@ returns-then-n-k c =
 pub take-requires : goal.take-requires
 take-requires c = (c.requires.0, omega (arith, c.if-n-k.false))
 
-pub returns-in_err-c : goal.returns-in_err-c
-returns-in_err-c c =
-    rw c.from_residual.ensures
-    (step_tampered (table_of c.args.t.now) c.requires.0.fit c.args.allowance c.args.scratch.now c.args.marks.now c.args.positions.now _ c.count_of-k.ensures (omega (arith, c.if-n-k.false, length-is c.args.t.now)) _ c.in_err-c.was c.take.ensures)
+pub returns-in-Err : goal.returns-in-Err
+returns-in-Err c =
+    step_tampered (table_of c.args.t.now) c.requires.0.fit c.args.allowance c.args.scratch.now c.args.marks.now c.args.positions.now _ c.count_of-k.ensures (omega (arith, c.if-n-k.false, length-is c.args.t.now)) _ c.in-Err.is c.take.ensures
 
 pub overflow_cast-k : goal.overflow_cast-k
 overflow_cast-k c =
     omega (arith, c.if-n-k.false, c.requires.0.fit.not_too_many, length-is c.args.t.now)
 
-pub returns : goal.returns
-returns c =
-    step-done (table_of c.args.t.now) c.requires.0.fit c.args.allowance c.args.scratch.now c.args.marks.now c.args.positions.now _ c.count_of-k.ensures (omega (arith, c.if-n-k.false, length-is c.args.t.now)) _ c.in_ok-c.was c.take.ensures _ (ap (λ (n : ℕ). eqb (c.count_of-k.result + 1) n) (sym (length-is c.args.t.now))) _ _ _ c.conclude.ensures c.put_count.ensures
+pub returns-in-Ok : goal.returns-in-Ok
+returns-in-Ok c =
+    step-done (table_of c.args.t.now) c.requires.0.fit c.args.allowance c.args.scratch.now c.args.marks.now c.args.positions.now _ c.count_of-k.ensures (omega (arith, c.if-n-k.false, length-is c.args.t.now)) _ c.in-Ok.is c.take.ensures _ (ap (λ (n : ℕ). eqb (c.count_of-k.result + 1) n) (sym (length-is c.args.t.now))) _ _ _ c.conclude.ensures c.put_count.ensures

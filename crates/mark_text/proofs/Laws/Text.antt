@@ -33,15 +33,15 @@ unfolding fault_line
 fault-put name n what p q r s = then (then (then p q) r) s
 
 module _ {a b c d e : List ℕ} {j k l m : ℕ} (name : Bytes) where
-  pub full_put : (n : Measures) → Put a 0 name b j → Put b j full_part c k → Put c k (pair n.width n.rows) d l → Put d l (line_feed ∷ []) e m → Put a 0 (marked_line name (Full n)) e m
+  pub full_put : (n : Measures) → Put a 0 name b j → Put b j full_part c k → Put c k (pair n.width n.rows) d l → Put d l (line_feed ∷ []) e m → Put a 0 (marked_line name (Ok (Full n))) e m
   unfolding marked_line
   full_put n p q r s = line-put name full_part (pair n.width n.rows) p q r s
 
-  pub wide-put : (n : Measures) (h : ℕ) → Put a 0 name b j → Put b j wide_part c k → Put c k (triple n.width h n.rows) d l → Put d l (line_feed ∷ []) e m → Put a 0 (marked_line name (Wide n h)) e m
+  pub wide-put : (n : Measures) (h : ℕ) → Put a 0 name b j → Put b j wide_part c k → Put c k (triple n.width h n.rows) d l → Put d l (line_feed ∷ []) e m → Put a 0 (marked_line name (Ok (Wide n h))) e m
   unfolding marked_line
   wide-put n h p q r s = line-put name wide_part (triple n.width h n.rows) p q r s
 
-  pub broken-put : (o : Breach) → Put a 0 name b j → Put b j broken_part c k → Put c k (triple o.rule o.a o.b) d l → Put d l (line_feed ∷ []) e m → Put a 0 (marked_line name (Broken o)) e m
+  pub broken-put : (o : Breach) → Put a 0 name b j → Put b j broken_part c k → Put c k (triple o.rule o.a o.b) d l → Put d l (line_feed ∷ []) e m → Put a 0 (marked_line name (Ok (Broken o))) e m
   unfolding marked_line
   broken-put o p q r s = line-put name broken_part (triple o.rule o.a o.b) p q r s
 
@@ -54,8 +54,12 @@ unfolding unread_line
 twice_put name n x p q r = then (then p q) r
 
 -- by the variant that it is
-pub marked-is : {a b : List ℕ} {r : ℕ} (name : Bytes) (m n : Marked) → m ≡ n → Put a 0 (marked_line name n) b r → Put a 0 (marked_line name m) b r
-marked-is name m n e p = rw e p
+pub marked-is : {a b : List ℕ} {r : ℕ} (name : Bytes) (o : Result Marked Refusal) (m n : Marked) → o ≡ Ok m → m ≡ n → Put a 0 (marked_line name (Ok n)) b r → Put a 0 (marked_line name o) b r
+marked-is name o m n e f p = rw (e, f) p
+
+pub marked-refused : {a b : List ℕ} {r : ℕ} (name : Bytes) (o : Result Marked Refusal) (k : Refusal) → o ≡ Err k → Put a 0 (named_line name k.number k.cell) b r → Put a 0 (marked_line name o) b r
+unfolding marked_line
+marked-refused name o k e p = rw e p
 
 pub unread-is : {a b : List ℕ} {r : ℕ} (name : Bytes) (f g : Fault) → f ≡ g → Put a 0 (unread_line name g) b r → Put a 0 (unread_line name f) b r
 unread-is name f g e p = rw e p
@@ -78,7 +82,7 @@ module _ {a b : List ℕ} {r : ℕ} (name : Bytes) where
   long-put p = p
 
   module _ (o : Result Marked DrawError) where
-    pub mark-put : (m : Marked) → o ≡ Ok m → Put a 0 (marked_line name m) b r → Put a 0 (outcome_line name o) b r
+    pub mark-put : (m : Marked) → o ≡ Ok m → Put a 0 (marked_line name (Ok m)) b r → Put a 0 (outcome_line name o) b r
     unfolding outcome_line
     mark-put m e p = rw e p
 
@@ -86,7 +90,7 @@ module _ {a b : List ℕ} {r : ℕ} (name : Bytes) where
     unfolding outcome_line
     unread-put e f p q t = rw (p, q) t
 
-    pub refused-put : (e : DrawError) (k : Refusal) → o ≡ Err e → e ≡ Refused k → Put a 0 (named_line name k.number k.cell) b r → Put a 0 (outcome_line name o) b r
+    pub refused-put : (e : DrawError) (k : Refusal) → o ≡ Err e → e ≡ Refused k → Put a 0 (marked_line name (Err k)) b r → Put a 0 (outcome_line name o) b r
     unfolding outcome_line
     refused-put e k p q t = rw (p, q) t
 
