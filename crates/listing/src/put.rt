@@ -12,14 +12,15 @@ pub fn put_byte(b: u8, out: &mut [u8], at: usize) -> usize
     at + 1
 }
 
-// A text.
+// A text. Byte by byte: a copy of a slice would need C's memmove, which the library for C does without.
 pub fn put_text(text: &[u8], out: &mut [u8], at: usize) -> usize
     requires { at + length text.now ≤ length out.old }
     ensures { Put out.old at text.now out.new result }
 {
-    let end = at + text.len();
-    out[at..end].copy_from_slice(text);
-    end
+    for i in 0..text.len() {
+        out[at + i] = text[i];
+    }
+    at + text.len()
 }
 
 // A digit from 0 to 9.
