@@ -24,8 +24,8 @@ fn first_line(plan: PlanFile, sheet: Measures) -> Line
 }
 
 // The label of a cell: the part of the file that its record says.
-pub fn label_at(plan: PlanFile, file: &[u8], c: usize) -> &[u8]
-    requires { (c < plan.cells.columns.count) × Taken (reading plan) file.now }
+pub fn label_at<'a>(plan: &PlanFile, file: &'a [u8], c: usize) -> &'a [u8]
+    requires { (c < plan.now.cells.columns.count) × Taken (reading plan.now) file.now }
     ensures { result.now ≡ label_bytes file.now c }
 {
     let start = plan.cells.label_start[c] as usize;
@@ -34,9 +34,9 @@ pub fn label_at(plan: PlanFile, file: &[u8], c: usize) -> &[u8]
 }
 
 // The line of a cell of a plan whose sheet stands in the positions.
-fn line_at(plan: PlanFile, file: &[u8], positions: &[i32], c: usize) -> Line
-    requires { (c < plan.cells.columns.count) × Taken (reading plan) file.now × Placed (reading plan) positions.now }
-    ensures { (result ≡ line_of (cell_of (reading plan) file.now c)) × (result.length ≤ cell_size) }
+fn line_at(plan: &PlanFile, file: &[u8], positions: &[i32], c: usize) -> Line
+    requires { (c < plan.now.cells.columns.count) × Taken (reading plan.now) file.now × Placed (reading plan.now) positions.now }
+    ensures { (result ≡ line_of (cell_of (reading plan.now) file.now c)) × (result.length ≤ cell_size) }
 {
     let x = positions[2 * c];
     let y = positions[2 * c + 1];
@@ -46,9 +46,9 @@ fn line_at(plan: PlanFile, file: &[u8], positions: &[i32], c: usize) -> Line
 }
 
 // The lines of the cells.
-fn put_cells(plan: PlanFile, file: &[u8], positions: &[i32], out: &mut [u8], at: usize) -> usize
-    requires { Taken (reading plan) file.now × Placed (reading plan) positions.now × (at + cell_size * plan.cells.columns.count ≤ length out.old) }
-    ensures { Put out.old at (cells_text (reading plan) file.now plan.cells.columns.count) out.new result × (result ≤ at + cell_size * plan.cells.columns.count) }
+fn put_cells(plan: &PlanFile, file: &[u8], positions: &[i32], out: &mut [u8], at: usize) -> usize
+    requires { Taken (reading plan.now) file.now × Placed (reading plan.now) positions.now × (at + cell_size * plan.now.cells.columns.count ≤ length out.old) }
+    ensures { Put out.old at (cells_text (reading plan.now) file.now plan.now.cells.columns.count) out.new result × (result ≤ at + cell_size * plan.now.cells.columns.count) }
 {
     let mut next = at;
     for c in 0..plan.cells.columns.count {
@@ -70,7 +70,7 @@ fn write_sheet(plan: PlanFile, file: &[u8], out: &mut [u8]) -> usize
     let drawn = layout::draw_over_zeros(columns, allowance, &mut scratch, &mut positions);
     let first = first_line(plan, drawn);
     let next = put_line(first, out, 0);
-    put_cells(plan, file, &positions, out, next)
+    put_cells(&plan, file, &positions, out, next)
 }
 
 // The listing of a plan file, or the line of the refusal, into an output that is long enough: its length.

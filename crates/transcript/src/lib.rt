@@ -21,16 +21,16 @@ use printing::label_at;
 pub const TRANSCRIPT_SIZE: usize = 213120;
 
 // The line of a recorded step.
-fn line_at(plan: PlanFile, file: &[u8], c: usize) -> Line
-    requires { (c < plan.cells.columns.count) × Taken (reading plan) file.now }
+fn line_at(plan: &PlanFile, file: &[u8], c: usize) -> Line
+    requires { (c < plan.now.cells.columns.count) × Taken (reading plan.now) file.now }
     ensures { (result ≡ line_of (step_line c (label_bytes file.now c))) × (result.length ≤ 52) }
 {
     step_line(c as u32, label_at(plan, file, c))
 }
 
 // The lines of the first n numbers of the list.
-fn put_steps(plan: PlanFile, file: &[u8], list: &[u16], n: usize, out: &mut [u8]) -> usize
-    requires { Taken (reading plan) file.now × Recorded (reading plan) n list.now × (transcript_size ≤ length out.old) }
+fn put_steps(plan: &PlanFile, file: &[u8], list: &[u16], n: usize, out: &mut [u8]) -> usize
+    requires { Taken (reading plan.now) file.now × Recorded (reading plan.now) n list.now × (transcript_size ≤ length out.old) }
     ensures { Put out.old 0 (steps_text file.now (take n list.now)) out.new result × (result ≤ 52 * n) }
 {
     let mut next: usize = 0;
@@ -43,7 +43,7 @@ fn put_steps(plan: PlanFile, file: &[u8], list: &[u16], n: usize, out: &mut [u8]
 
 // The same, and the last line.
 fn put_drill(
-    plan: PlanFile,
+    plan: &PlanFile,
     file: &[u8],
     list: &[u16],
     word: &[u8],
@@ -51,7 +51,7 @@ fn put_drill(
     n: usize,
     out: &mut [u8],
 ) -> usize
-    requires { Taken (reading plan) file.now × Recorded (reading plan) n list.now × (transcript_size ≤ length out.old) × (length word.now ≤ most_label) × (used ≤ most_answers) }
+    requires { Taken (reading plan.now) file.now × Recorded (reading plan.now) n list.now × (transcript_size ≤ length out.old) × (length word.now ≤ most_label) × (used ≤ most_answers) }
     ensures { Put out.old 0 (steps_text file.now (take n list.now) ++ end_line word.now used n) out.new result × (result ≤ transcript_size) }
 {
     let next = put_steps(plan, file, list, n, out);
@@ -61,13 +61,13 @@ fn put_drill(
 
 // The lines of an answer, with the recorded steps in the list.
 fn tell(
-    plan: PlanFile,
+    plan: &PlanFile,
     file: &[u8],
     list: &[u16],
     answer: Result<Drilled, Refusal>,
     out: &mut [u8],
 ) -> usize
-    requires { Taken (reading plan) file.now × Tellable (reading plan) list.now answer × (transcript_size ≤ length out.old) }
+    requires { Taken (reading plan.now) file.now × Tellable (reading plan.now) list.now answer × (transcript_size ≤ length out.old) }
     ensures { Put out.old 0 (told_lines file.now (take (records_in answer) list.now) answer) out.new result × (result ≤ transcript_size) }
 {
     match answer {
@@ -95,7 +95,7 @@ fn write_drill(plan: PlanFile, file: &[u8], answers: &[u8], out: &mut [u8]) -> u
 {
     let mut list = [0u16; MOST_STEPS];
     let answer = following::drill(&plan.cells.columns, answers, &mut list);
-    tell(plan, file, &list, answer, out)
+    tell(&plan, file, &list, answer, out)
 }
 
 // The transcript of a plan file and answer bytes into an output that is long enough: its length.
