@@ -20,11 +20,15 @@ const ROWS: usize = 256;
 
 // ---- The guard.
 
-// Whether every number is a low one.
+// Whether every number is a low one: the greatest is, which is sought with no test at each, so that several are looked at together.
 fn all_low(xs: &[u32]) -> bool
     ensures { IsTrue result ↔ EachIndex xs.now (λ k. slice_index xs.now k ≤ farthest) }
 {
-    xs.iter().all(|x| *x <= FARTHEST)
+    let mut greatest: u32 = 0;
+    for i in 0..xs.len() {
+        greatest = greatest.max(xs[i]);
+    }
+    greatest <= FARTHEST
 }
 
 // The cell's own joined rows and marks, as to its number of rows and its middle; the box of depth d begins at row y.

@@ -1,7 +1,7 @@
 -- The guard gives all that the walk's functions ask, on any content of the scratches; and it holds wherever the walk is. Assumes nothing.
-use Rattle.std.specs.Prelude.{◌≡◌, refl, ◌≢◌, List, Bool, true, false, ℕ, zero, suc, ◌+◌, ◌-◌, ◌*◌, ◌≤◌, ◌<◌, ◌↔◌, T, leb, length, set, take, drop, slice_index, EachIndex, IsTrue}
-use Rattle.std.proofs.Common.{◌∙◌, ap, sym, subst, arith, leb-true, leb-false, length-set, drop-set-lt}
-use Rattle.std.proofs.Math.Decide.{dec_lt}
+use Rattle.std.specs.Prelude.{◌≡◌, refl, ◌≢◌, List, Bool, true, false, ℕ, zero, suc, ◌+◌, ◌-◌, ◌*◌, ◌≤◌, ◌<◌, ◌↔◌, max, T, leb, length, get_or, set, take, drop, slice_index, EachIndex, IsTrue}
+use Rattle.std.proofs.Common.{◌∙◌, ap, sym, subst, arith, le-leb, leb-true, leb-false, length-set, drop-set-lt}
+use Rattle.std.proofs.Math.Decide.{ℕ_discrete, dec_lt}
 use Rattle.plan.specs.Limits.{scratch_size, second_size, last_row, farthest}
 use Rattle.rows.specs.Rows.{row_size, Low, box_to, max_to}
 use Rattle.rows.proofs.Laws.Rows.{box_to-length}
@@ -23,6 +23,26 @@ tells_no n = record { yes = λ e. absurd (bool_apart (sym e)); no = λ e. n }
 
 pub tells_le : {P : Type 0} (a b : ℕ) → (a ≤ b → P) → (P → a ≤ b) → Tells (leb a b) P
 tells_le a b f g = record { yes = λ e. f (leb-true a b e); no = λ e p. omega (arith, leb-false a b e, g p) }
+
+-- ---- the greatest of the first i numbers
+pub record Upto (xs : List ℕ) (g i : ℕ) : Type 0 where
+  pub most : (j : ℕ) → j < i → get_or xs j 0 ≤ g
+  pub least : (b : ℕ) → ((j : ℕ) → get_or xs j 0 ≤ b) → g ≤ b
+
+pub upto-none : (xs : List ℕ) → Upto xs 0 0
+upto-none xs = record { most = λ j l. absurd (omega arith); least = λ b h. omega arith }
+
+pub upto-more : (xs : List ℕ) (g i h : ℕ) → Upto xs g i → h ≡ max g (get_or xs i 0) → Upto xs h (i + 1)
+upto-more xs g i h u e = record {
+  most = λ j l. elim (ℕ_discrete j i) [ yes q ↦ rw q (omega arith) | no ne ↦ omega (arith, u.most j (omega arith)) ];
+  least = λ b k. omega (arith, u.least b k, k i);
+}
+
+pub upto_low : (xs : List ℕ) (g : ℕ) → Upto xs g (length xs) → IsTrue (leb g farthest) ↔ EachIndex xs (λ k. slice_index xs k ≤ farthest)
+upto_low xs g u = (
+  (λ e i q. omega (arith, u.most i q, leb-true g farthest e)),
+  (λ h. le-leb g farthest (u.least farthest (λ j. elim (dec_lt j (length xs)) [ yes q ↦ h j q | no ge ↦ rw (get_past xs j (omega arith)) (omega arith) ]))),
+)
 
 pub tells_low : {P : Type 0} (xs : List ℕ) {r : Bool} → (IsTrue r ↔ EachIndex xs (λ k. slice_index xs k ≤ farthest)) → (Low xs → P) → (P → Low xs) → Tells r P
 tells_low xs h f g = record {
