@@ -47,7 +47,9 @@ fn put_cells(t: &Lettered, letters: &[u8], out: &mut [u8], begin: usize) -> usiz
         let cell = record_at(t, c);
         let seen = &levels[..c];
         let level = level_under(seen, usize::from(cell.parent));
-        at = put_cell(seen, level, cell, letters, out, at);
+        let start = usize::from(cell.label_start);
+        let text = &letters[start..start + usize::from(cell.label_length)];
+        at = put_cell(seen, level, cell, text, out, at);
         levels[c] = level as u8;
     }
     at

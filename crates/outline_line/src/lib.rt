@@ -2,8 +2,8 @@
 #![tactic(auto)]
 
 ghost use Rattle.std.specs.Prelude.{◌≡◌, ◌++◌, ◌∷◌, [], ◌+◌, ◌≤◌, length};
-ghost use Rattle.content.specs.Content.{«item_of»};
 ghost use Rattle.plan.specs.Limits.{most_label};
+ghost use Rattle.plan.specs.Records.{bare};
 ghost use Rattle.listing.specs.Put.{Put};
 ghost use Rattle.listing.specs.Printed.{line_feed};
 ghost use Rattle.outline_spec.specs.Outline.{nearest, level_under, border, unless, indent, field, label, word, cell_line};
@@ -107,22 +107,20 @@ pub fn natural(kind: u8, size: usize) -> usize
     }
 }
 
-// The line of a cell whose level this is, after the cells whose levels were seen.
+// The line of a cell whose level and label these are, after the cells whose levels were seen. The record's own label is not looked at.
 pub fn put_cell(
     seen: &[u8],
     level: usize,
     cell: Record,
-    letters: &[u8],
+    text: &[u8],
     out: &mut [u8],
     at: usize,
 ) -> usize
-    requires { Room seen.now level cell (length letters.now) (length out.old) at }
-    ensures { Put out.old at (cell_line seen.now (item_of letters.now cell) ++ (line_feed ∷ [])) out.new result }
+    requires { Room seen.now level cell.parent (length text.now) (length out.old) at }
+    ensures { Put out.old at (cell_line seen.now (record { cell = bare cell; text = text.now }) ++ (line_feed ∷ [])) out.new result }
 {
     let blank = put_indent(level, out, at);
     let named = put_word(cell.kind, out, blank);
-    let start = usize::from(cell.label_start);
-    let text = &letters[start..start + usize::from(cell.label_length)];
     let usual = natural(cell.kind, text.len()) as u64;
     let a = put_field(b" width ", usual, u64::from(cell.width), out, named);
     let b = put_field(b" depth ", 1, u64::from(cell.depth), out, a);

@@ -4,9 +4,10 @@
 // No contract can say what the system finds or does in a file system: tests/mend.sh tries that, with links, devices, folders, modes and kills. What is said outright is the new file's name.
 #![tactic(auto)]
 
-ghost use Rattle.std.specs.Prelude.{◌+◌, ◌≤◌, length};
+ghost use Rattle.std.specs.Prelude.{◌≡◌, ◌+◌, ◌≤◌, length};
 ghost use Rattle.listing.specs.Put.{Put};
 ghost use Rattle.saving.specs.Names.{suffix_size, unfinished};
+ghost use Rattle.saving.specs.declared.SaveError.TheVariants.{Failed};
 
 use decimals::{put_decimal, put_text};
 use places::{PATH_MAX, Place};
@@ -29,12 +30,16 @@ pub enum SaveError {
 }
 
 impl From<io::Error> for SaveError {
+    ghost from_gives = { λ _ e. e ≡ Failed };
+
     fn from(_e: io::Error) -> SaveError {
         SaveError::Failed
     }
 }
 
 impl From<Utf8Error> for SaveError {
+    ghost from_gives = { λ _ e. e ≡ Failed };
+
     fn from(_e: Utf8Error) -> SaveError {
         SaveError::Failed
     }

@@ -1,6 +1,6 @@
 -- The loop over the cells: what it has written and which levels it has noted after c of them. Assumes nothing.
-use Rattle.std.specs.Prelude.{◌≡◌, refl, List, [], ◌∷◌, ◌++◌, ℕ, zero, suc, ◌+◌, ◌*◌, ◌≤◌, ◌<◌, length, take, set, replicate}
-use Rattle.std.proofs.Common.{◌∙◌, append_assoc, arith, add-one, length-append, length-set, take-suc-set}
+use Rattle.std.specs.Prelude.{◌≡◌, refl, List, [], ◌∷◌, ◌++◌, ℕ, zero, suc, ◌+◌, ◌-◌, ◌*◌, ◌≤◌, ◌<◌, length, take, drop, set, replicate}
+use Rattle.std.proofs.Common.{◌∙◌, append_assoc, arith, add-one, length-append, length-drop, length-set, length-take-le, take-suc-set}
 use Rattle.std.proofs.lemmas.List.{length-replicate}
 use Rattle.plan.specs.Limits.{most_cells}
 use Rattle.listing.specs.Printed.{decimal, line_feed}
@@ -8,13 +8,18 @@ use Rattle.listing.specs.Put.{Put}
 use Rattle.listing.proofs.Laws.Put.{then, put-none}
 use Rattle.plan.specs.Records.{bare}
 use Rattle.plan.specs.declared.Record.{Record}
-use Rattle.content.specs.Content.{Item, item_of}
+use Rattle.content.specs.Content.{Item, item_of, text_of}
 use Rattle.outline_spec.specs.Outline.{allowance_word, level_under, cell_line, first_line}
 use Rattle.outline_line.specs.Steps.{Room}
 use Rattle.outline_line.proofs.Laws.Written.{put-length}
 use Rattle.records.specs.Apart.{row_at}
 use Rattle.plan.specs.declared.Lettered.{Lettered}
 use Rattle.outline.specs.Steps.{item_at, levels_of, lines_of, Ready}
+
+-- a label, as a slice
+pub text-is : (letters : List ℕ) (r : Record) (start size : ℕ) → start ≡ r.label_start → size ≡ r.label_length → take (start + size - start) (drop start letters) ≡ text_of letters r
+unfolding text_of
+text-is letters r start size e f = let q : start + size - start ≡ size = omega arith in rw (q, f, e) refl
 
 pub record Wrote (e : ℕ → Item) (before after : List ℕ) (begin at : ℕ) (levels : List ℕ) (c : ℕ) : Type 0 where
   pub long : length levels ≡ most_cells
@@ -56,26 +61,38 @@ module _ (t : Lettered) (letters : List ℕ) (r : Ready t letters) where
     lines_end : at ≤ begin + 256 * c
     lines_end = omega (arith, w.text.place, lines_short c (omega arith))
 
+    text_size : length (text_of letters (row_at t c)) ≡ (row_at t c).label_length
+    unfolding text_of
+    text_size =
+        let k : (row_at t c).label_length ≤ length (drop (row_at t c).label_start letters) = rw (length-drop (row_at t c).label_start letters) (omega (arith, r.within c h)) in
+        length-take-le (row_at t c).label_length (drop (row_at t c).label_start letters) k
+
+    wrote_low : (level : ℕ) → level ≡ level_under (take c levels) (row_at t c).parent → level ≤ 127
+    wrote_low level q = let u : level ≡ level_under (levels_of e c) (row_at t c).parent = q ∙ rw w.seen refl in omega (arith, u, r.low c h)
+
     -- the next cell has room
-    pub wrote_room : (level : ℕ) → begin + 66048 ≤ length a → level ≡ level_under (take c levels) (row_at t c).parent → Room (take c levels) level (row_at t c) (length letters) (length b) at
+    pub wrote_room : (level : ℕ) → begin + 66048 ≤ length a → level ≡ level_under (take c levels) (row_at t c).parent → Room (take c levels) level (row_at t c).parent (length (text_of letters (row_at t c))) (length b) at
     wrote_room level k q =
-        let u : level ≡ level_under (levels_of e c) (row_at t c).parent = q ∙ rw w.seen refl in
         record {
           level_is = q;
-          low = omega (arith, u, r.low c h);
-          short = r.short c h;
-          within = r.within c h;
+          low = wrote_low level q;
+          short = rw text_size (r.short c h);
           room = omega (arith, lines_end, put-length w.text, r.few);
         }
 
     -- the next cell, as the code has it: its record, its parent and the level
     module _ (cell : Record) (level parent : ℕ) (x : cell ≡ row_at t c) (y : parent ≡ cell.parent) (q : level ≡ level_under (take c levels) parent) where
-      pub room-next : begin + 66048 ≤ length a → Room (take c levels) level cell (length letters) (length b) at
-      room-next k = rw x (wrote_room level k (q ∙ rw (y, x) refl))
+      pub low-next : level ≤ 127
+      low-next = wrote_low level (q ∙ rw (y, x) refl)
 
-      pub wrote_next : {d : List ℕ} {next : ℕ} → Put b at (cell_line (take c levels) (item_of letters cell) ++ (line_feed ∷ [])) d next → Wrote e a d begin next (set levels c level) (c + 1)
-      unfolding item_of bare
-      wrote_next p = wrote_more level w (omega (arith, r.few)) (q ∙ rw (y, x) refl) (rw x at p)
+      -- its label lies in the letters
+      module _ (start size : ℕ) (u : start ≡ cell.label_start) (v : size ≡ cell.label_length) where
+        pub room-next : begin + 66048 ≤ length a → Room (take c levels) level cell.parent (length (take (start + size - start) (drop start letters))) (length b) at
+        room-next k = rw (text-is letters cell start size u v, x) (wrote_room level k (q ∙ rw (y, x) refl))
+
+        pub wrote_next : {d : List ℕ} {next : ℕ} → Put b at (cell_line (take c levels) (record { cell = bare cell; text = take (start + size - start) (drop start letters) }) ++ (line_feed ∷ [])) d next → Wrote e a d begin next (set levels c level) (c + 1)
+        unfolding item_of bare
+        wrote_next p = wrote_more level w (omega (arith, r.few)) (q ∙ rw (y, x) refl) (rw (text-is letters cell start size u v, x) at p)
 
 -- ---- the first line
 pub first-put : {a b c d : List ℕ} {i j k : ℕ} (al : ℕ) → Put a 0 allowance_word b i → Put b i (decimal al) c j → Put c j (line_feed ∷ []) d k → Put a 0 (first_line al ++ (line_feed ∷ [])) d k

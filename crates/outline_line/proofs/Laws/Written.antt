@@ -1,5 +1,5 @@
 -- The parts as the code writes them. Assumes nothing.
-use Rattle.std.specs.Prelude.{◌≡◌, refl, List, [], ◌∷◌, ◌++◌, cond, ℕ, zero, suc, ◌+◌, ◌-◌, ◌*◌, ◌≤◌, ◌<◌, ltb, length, get_or, take, drop}
+use Rattle.std.specs.Prelude.{◌≡◌, refl, List, [], ◌∷◌, ◌++◌, cond, ℕ, zero, suc, ◌+◌, ◌*◌, ◌≤◌, ◌<◌, ltb, length, get_or, drop}
 use Rattle.std.proofs.Common.{ap, ◌∙◌, append_assoc, arith, add-one, drop_of_length-le, drop-cons, eq-eqb, ne_eqb, lt-ltb, le-ltb}
 use Rattle.std.proofs.Math.Seq.{length-sets}
 use Rattle.plan.specs.Limits.{no_parent}
@@ -9,7 +9,6 @@ use Rattle.std.specs.Prelude.{Option}
 use Rattle.std.specs.Prelude.{Some, None}
 use Rattle.plan.specs.Records.{bare}
 use Rattle.plan.specs.declared.Record.{Record}
-use Rattle.content.specs.Content.{item_of, text_of}
 use Rattle.listing.specs.Printed.{Bytes, decimal}
 use Rattle.listing.specs.Put.{Put}
 use Rattle.listing.proofs.Laws.Put.{then, put-none}
@@ -138,16 +137,12 @@ unfolding word
 word_5 k e = rw e refl
 
 -- ---- a line, part after part
-pub text-is : (letters : List ℕ) (r : Record) (start size : ℕ) → start ≡ r.label_start → size ≡ r.label_length → take (start + size - start) (drop start letters) ≡ text_of letters r
-unfolding text_of
-text-is letters r start size e f = let q : start + size - start ≡ size = omega arith in rw (q, f, e) refl
-
-pub line-put : (seen letters : List ℕ) (l usual above : ℕ) (r : Record) (t : Bytes) {o₀ o₁ o₂ o₃ o₄ o₅ o₆ o₇ o₈ : List ℕ} {a₀ a₁ a₂ a₃ a₄ a₅ a₆ a₇ a₈ : ℕ}
-    → t ≡ text_of letters r → l ≡ level_under seen r.parent → usual ≡ length t + border r.kind → above ≡ nearest l seen
+pub line-put : (seen : List ℕ) (l usual above : ℕ) (r : Record) (t : Bytes) {o₀ o₁ o₂ o₃ o₄ o₅ o₆ o₇ o₈ : List ℕ} {a₀ a₁ a₂ a₃ a₄ a₅ a₆ a₇ a₈ : ℕ}
+    → l ≡ level_under seen r.parent → usual ≡ length t + border r.kind → above ≡ nearest l seen
     → Put o₀ a₀ (indent l) o₁ a₁ → Put o₁ a₁ (word r.kind) o₂ a₂ → Put o₂ a₂ (field width_word (unless usual r.width)) o₃ a₃ → Put o₃ a₃ (field depth_word (unless 1 r.depth)) o₄ a₄
     → Put o₄ a₄ (field rank_word (unless 0 r.rank)) o₅ a₅ → Put o₅ a₅ (field under_word (unless above r.parent)) o₆ a₆ → Put o₆ a₆ (label t) o₇ a₇ → Put o₇ a₇ (10 ∷ []) o₈ a₈
-    → Put o₀ a₀ (cell_line seen (item_of letters r) ++ (10 ∷ [])) o₈ a₈
-unfolding cell_line fields natural item_of bare
-line-put seen letters l usual above r t x e u n p₁ p₂ p₃ p₄ p₅ p₆ p₇ p₈ =
-    rw (← x, ← e, ← u, ← n)
+    → Put o₀ a₀ (cell_line seen (record { cell = bare r; text = t }) ++ (10 ∷ [])) o₈ a₈
+unfolding cell_line fields natural bare
+line-put seen l usual above r t e u n p₁ p₂ p₃ p₄ p₅ p₆ p₇ p₈ =
+    rw (← e, ← u, ← n)
     (simp append_assoc (then p₁ (then p₂ (then p₃ (then p₄ (then p₅ (then p₆ (then p₇ p₈))))))))

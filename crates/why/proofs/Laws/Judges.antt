@@ -104,14 +104,14 @@ module _ (t : Columns) (al : ℕ) (ps : List ℤ) {v : Verdict} (l : Ok v ≡ ch
       (f.fit, subst (λ (n : ℕ). Near ps n) (length-is t) f.near, f.small, (keeps (table_of t) al ps _ k).s1)
 
   pub kept_judged : {m : Measures} → v ≡ Kept m → (c : Option Chain) → Explained (table_of t) al (placed ps) c → Judges (table_of t) al ps (Ok (judged.Kept m c))
-  kept_judged {m} e c x = record { checks = ap Ok (sym e) ∙ l; kept = λ n d z. subst (λ (o : Option Chain). Explained (table_of t) al (placed ps) o) (same z) x }
+  kept_judged {m} e c x = record { checks = ap Ok (sym e) ∙ l; kept = λ n d z. subst (λ (o : Option Chain). Explained (table_of t) al (placed ps) o) (same z) x; other = λ n. absurd (n m refl) }
     where
       same : {n : Measures} {d : Option Chain} → ◌≡◌ {A = Result Judged Refusal} (Ok (judged.Kept m c)) (Ok (judged.Kept n d)) → c ≡ d
       same z = cc
 
   pub broken_judged : {b : Breach} → v ≡ Broken b → Judges (table_of t) al ps (Ok (judged.Broken b))
-  broken_judged e = record { checks = ap Ok (sym e) ∙ l; kept = λ m c z. cc }
+  broken_judged e = record { checks = ap Ok (sym e) ∙ l; kept = λ m c z. cc; other = λ n. refl }
 
 pub refused_judged : (t : Table) (al : ℕ) (ps : List ℤ) (y : Result Judged Refusal) {r : Refusal} → Err r ≡ checked_of t ps al → IsErrAnd y (λ d. d ≡ r) → Judges t al ps y
 refused_judged t al ps (Ok v) l p = absurd p
-refused_judged t al ps (Err d) l p = record { checks = ap Err p ∙ l; kept = λ m c z. cc }
+refused_judged t al ps (Err d) l p = record { checks = ap Err p ∙ l; kept = λ m c z. cc; other = λ n. refl }
