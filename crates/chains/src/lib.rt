@@ -1,29 +1,43 @@
-// The lines that the program turns prints.
+// The lines that the program turns prints. Each part of a line is tried, whatever became of the parts before it; the first error is told.
 #![tactic(auto)]
 
 use plan::Refusal;
 use std::io;
-use walk::Turned;
+use walk::{Chain, Turned};
+
+// The open cells.
+fn print_chain(out: &impl Print, chain: &Chain) -> io::Result<()> {
+    let mut told = Ok(());
+    for cell in chain.cells.iter().take(chain.count) {
+        told = told.and(print!(out; " {cell}"));
+    }
+    told
+}
 
 // The child that is opened next, if there is one.
 fn print_next(out: &impl Print, next: usize) -> io::Result<()> {
     if next == 0 {
         return Ok(());
     }
-    print!(out; ", next {next}")
+    let named = print!(out; ", next");
+    let numbered = print!(out; " {next}");
+    named.and(numbered)
 }
 
 // The line before a turn: the open cells, and the child that is opened next.
 pub fn print_turn(out: &impl Print, at: &Turned) -> io::Result<()> {
-    print!(out; "open")?;
-    for cell in at.open_cells.cells.iter().take(at.open_cells.count) {
-        print!(out; " {cell}")?;
-    }
-    print_next(out, at.next)?;
-    println!(out; "")
+    let named = print!(out; "open");
+    let told = print_chain(out, &at.open_cells);
+    let then = print_next(out, at.next);
+    let ended = println!(out; "");
+    named.and(told).and(then).and(ended)
 }
 
 // The line of a refusal.
 pub fn refuse(out: &impl Print, refusal: Refusal) -> io::Result<()> {
-    println!(out; "refused {} {}", refusal.number, refusal.cell)
+    let named = print!(out; "refused");
+    let numbered = print!(out; " {}", refusal.number);
+    let placed = print!(out; " {}", refusal.cell);
+    let ended = println!(out; "");
+    named.and(numbered).and(placed).and(ended)
 }
