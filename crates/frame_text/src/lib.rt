@@ -102,6 +102,6 @@ pub fn write_frame(file: &[u8], squares: u32, out: &mut [u8]) -> usize
 {
     match planfile::read(file, MOST_CELLS) {
         Ok(plan) => write_answer(plan.cells.columns, squares, out),
-        Err(refusal) => put_refusal(refusal, out),
+        Err(unread) => put_refusal(unread, out),
     }
 }

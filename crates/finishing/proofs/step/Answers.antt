@@ -10,6 +10,8 @@ pub returns-in_err-step_refusal : goal.returns-in_err-step_refusal
 returns-in_err-step_refusal c =
     step-refused (table_of c.args.t.now) c.args.allowance c.args.scratch.now c.args.second.now c.args.positions.now _ _ c.in_err-step_refusal.ensures c.from_residual.ensures.1
 
+-- a step that no question refuses: the first numbers of each scratch,
+-- which has at least as many as the questions asked for
 pub slice_bounds-advance-end : goal.slice_bounds-advance-end
 slice_bounds-advance-end c = (step-asks (table_of c.args.t.now) c.args.allowance c.args.scratch.now c.args.second.now c.args.positions.now (passes _ _ c.in_ok-step_refusal.ensures)).1
 
@@ -27,5 +29,7 @@ advance-told-requires c =
     let (fit, long, second, room) = step-asks (table_of c.args.t.now) c.args.allowance c.args.scratch.now c.args.second.now c.args.positions.now (passes _ _ c.in_ok-step_refusal.ensures) in
     (record { fit = fit; scratch = length-take-le scratch_size c.args.scratch.now long; marks = length-take-le second_size c.args.second.now second }, room)
 
+-- what `advance` says of the first numbers, said of all that was lent:
+-- the numbers behind them are as they were
 pub returns : goal.returns
 returns c = step-taken (table_of c.args.t.now) c.args.allowance c.args.scratch.now c.args.second.now c.args.positions.now (passes _ _ c.in_ok-step_refusal.ensures) c.advance-told.ensures
