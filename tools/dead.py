@@ -18,7 +18,7 @@ KEEP = {'separation-least', 'appointed-half', 'appointed_choice', 'appointed-wit
         'child-before', 'child_tie', 'children-level', 'children-only', 'limits', 'no_nan', 'edges', 'left-least', 'left-reached', 'rows', 'unfinished_spelled', 'modes_told'}
 # laws that stood at the last landing in the older Rattle, and that today's proofs find alone: a statement stays
 STAYED = {'start_entering', 'wrote_one', 'no_name', 'a_name', 'told_short', 'one_more', 'less_none', 'clipped-fits', 'filled-length', 'sheet-narrow', 'laid_narrow',
-          'none-refused', 'number-length', 'nine', 'put_one', 'put-start', 'put-more', 'put_all', 'put-done', 'most_fault', 'number-back', 'loop_stops', 'loop_goes_on', 'loop_ends',
+          'none-refused', 'number-length', 'nine', 'put_one', 'put-part', 'put-done', 'most_fault', 'number-back', 'loop_stops', 'loop_goes_on', 'loop_ends',
           'loop_starts', 'part-refused', 'painted_long'}
 
 

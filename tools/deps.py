@@ -24,19 +24,19 @@ def text_of(path):
 
 def named(crate, crates):
     """The crates that the files of this one name."""
-    found = set()
+    found, of_std = set(), set()
     for path in [p for d in ('src', 'specs', 'proofs') for p in glob.glob(os.path.join(ROOT, 'crates', crate, d, '**', '*'), recursive=True)]:
         if path.endswith(('.rt', '.antt')):
             text = text_of(path)
             found |= set(re.findall(r'Rattle\.([a-z_0-9]+)\.', text))
             if path.endswith('.rt'):
-                of_std = {m for group in re.findall(r'use std::(?:\{([^}]*)\}|([a-z_]+))', text) for part in group for m in re.findall(r'[a-z_]+', part)}
+                of_std |= {m for group in re.findall(r'use std::(?:\{([^}]*)\}|([a-z_]+))', text) for part in group for m in re.findall(r'[a-z_]+', part)}
                 found |= set(re.findall(r'(?<![\w:])([a-z_0-9]+)::', text)) - of_std
     # what a must-fail edit puts in has to be in scope too
     for path in glob.glob(os.path.join(ROOT, 'crates', crate, 'must-fail', '*.edit')):
         for line in open(path, encoding='utf-8'):
             if line.startswith('new:'):
-                found |= set(re.findall(r'(?<![\w:])([a-z_0-9]+)::', line))
+                found |= set(re.findall(r'(?<![\w:])([a-z_0-9]+)::', line)) - of_std
     return found & (crates | set(KIT)) - {crate}
 
 
