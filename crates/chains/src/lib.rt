@@ -5,11 +5,17 @@ use plan::Refusal;
 use std::io;
 use walk::{Chain, Turned};
 
+// A blank and a number. A debugger can stop here at a given cell (docs/WALK.md).
+fn number(out: &impl Print, n: usize) -> io::Result<()> {
+    out.write_all(b" ")?;
+    out.print(n)
+}
+
 // The open cells.
 fn print_chain(out: &impl Print, chain: &Chain) -> io::Result<()> {
     let mut told = Ok(());
     for cell in chain.cells.iter().take(chain.count) {
-        told = told.and(print!(out; " {cell}"));
+        told = told.and(number(out, usize::from(*cell)));
     }
     told
 }
@@ -20,7 +26,7 @@ fn print_next(out: &impl Print, next: usize) -> io::Result<()> {
         return Ok(());
     }
     let named = print!(out; ", next");
-    let numbered = print!(out; " {next}");
+    let numbered = number(out, next);
     named.and(numbered)
 }
 
@@ -36,8 +42,8 @@ pub fn print_turn(out: &impl Print, at: &Turned) -> io::Result<()> {
 // The line of a refusal.
 pub fn refuse(out: &impl Print, refusal: Refusal) -> io::Result<()> {
     let named = print!(out; "refused");
-    let numbered = print!(out; " {}", refusal.number);
-    let placed = print!(out; " {}", refusal.cell);
+    let numbered = number(out, usize::from(refusal.number));
+    let placed = number(out, usize::from(refusal.cell));
     let ended = println!(out; "");
     named.and(numbered).and(placed).and(ended)
 }

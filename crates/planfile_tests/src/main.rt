@@ -19,19 +19,31 @@ fn field(head: &[u8; 6], i: usize) -> usize
     number(head[i], head[i + 1])
 }
 
+// A number, and the byte after it.
+fn print(rt: &impl Print, n: u64, after: u8) -> io::Result<()> {
+    rt.print(n)?;
+    rt.write_all(&[after])
+}
+
+// A word, the number and the cell of a refusal, and the byte after them.
+fn print_refusal(rt: &impl Print, word: &[u8], number: u8, cell: u16, after: u8) -> io::Result<()> {
+    rt.write_all(word)?;
+    print(rt, u64::from(number), b' ')?;
+    print(rt, u64::from(cell), after)
+}
+
 // The numbers of a cell, parent, kind, rank, W, D, its label's length and start, and the label itself.
 fn print_record(rt: &impl Print, plan: &PlanFile, file: &[u8], c: usize) -> io::Result<()>
     requires { c < 256 }
 {
     let t = &plan.cells.columns;
-    print!(rt;
-        "{} {} {} {} {} ",
-        t.parent[c], t.kind[c], t.rank[c], t.width[c], t.depth[c]
-    )?;
-    print!(rt;
-        "{} {} ",
-        plan.cells.label_length[c], plan.cells.label_start[c]
-    )?;
+    print(rt, u64::from(t.parent[c]), b' ')?;
+    print(rt, u64::from(t.kind[c]), b' ')?;
+    print(rt, u64::from(t.rank[c]), b' ')?;
+    print(rt, u64::from(t.width[c]), b' ')?;
+    print(rt, u64::from(t.depth[c]), b' ')?;
+    print(rt, u64::from(plan.cells.label_length[c]), b' ')?;
+    print(rt, u64::from(plan.cells.label_start[c]), b' ')?;
     rt.write_all(planfile::label(file, c))?;
     rt.write_all(b"\n")
 }
@@ -39,7 +51,9 @@ fn print_record(rt: &impl Print, plan: &PlanFile, file: &[u8], c: usize) -> io::
 // The first four records and the one after the last, which is blank.
 fn print_plan(rt: &impl Print, plan: &PlanFile, file: &[u8]) -> io::Result<()> {
     let n = plan.cells.columns.count;
-    println!(rt; "plan {} {}", n, plan.allowance)?;
+    rt.write_all(b"plan ")?;
+    print(rt, n as u64, b' ')?;
+    print(rt, u64::from(plan.allowance), b'\n')?;
     for c in 0..4 {
         if c <= n {
             print_record(rt, plan, file, c)?;
@@ -51,15 +65,15 @@ fn print_plan(rt: &impl Print, plan: &PlanFile, file: &[u8]) -> io::Result<()> {
 fn print_reading(rt: &impl Print, file: &[u8], room: usize) -> io::Result<()> {
     match planfile::read(file, room) {
         Ok(plan) => print_plan(rt, &plan, file),
-        Err(refusal) => println!(rt; "refused {} {}", refusal.number, refusal.cell),
+        Err(refusal) => print_refusal(rt, b"refused ", refusal.number, refusal.cell, b'\n'),
     }
 }
 
 // The refusal's number and cell, 0 and 0 where there is none, and the label.
 fn print_label(rt: &impl Print, file: &[u8], cell: usize) -> io::Result<()> {
     match planfile::label_refusal(file, cell) {
-        Ok(()) => print!(rt; "label 0 0 ")?,
-        Err(refusal) => print!(rt; "label {} {} ", refusal.number, refusal.cell)?,
+        Ok(()) => print_refusal(rt, b"label ", 0, 0, b' ')?,
+        Err(refusal) => print_refusal(rt, b"label ", refusal.number, refusal.cell, b' ')?,
     }
     rt.write_all(planfile::label(file, cell))?;
     rt.write_all(b"\n")

@@ -88,12 +88,14 @@ fn permit<F: OpenFile>(file: &F, mode: Option<u32>) -> io::Result<()> {
 }
 
 // The bytes into an open file, which is closed. It has its permissions before the bytes, so that nobody reads them who may not, and again after them, since writing may take some away.
+// Each step is tried, whatever became of those before it; the first error is told.
 fn fill<F: Write + OpenFile + Drop>(file: F, mode: Option<u32>, bytes: &[u8]) -> io::Result<()> {
     let mut file = file;
-    permit(&file, mode)?;
-    file.write_all(bytes)?;
-    permit(&file, mode)?;
-    file.sync_all()
+    let shut = permit(&file, mode);
+    let whole = file.write_all(bytes);
+    let open = permit(&file, mode);
+    let kept = file.sync_all();
+    shut.and(whole).and(open).and(kept)
 }
 
 // The bytes into the new file, which then takes the name.
